@@ -1,0 +1,4 @@
+pub mod Families
+pub mod Laws
+pub mod Tables
+pub mod Traces

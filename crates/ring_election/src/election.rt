@@ -1,0 +1,71 @@
+ghost use Rattle.std.specs.Prelude.{◌≡◌, IfOk, OnErr, OnOk};
+
+use crate::sends::Sends;
+use ring_id::{NoMemory, NodeId, Side};
+use std::alloc::Global;
+
+/// An algorithm that elects a leader on a ring of nodes (Lynch, Distributed Algorithms, 3 and 15.1).
+///
+/// The calls are its table: the first state and sends, the state and sends after one receipt, and
+/// what a state has decided. None of them sees the ring. The ghost members say what the table is,
+/// which message may be the k-th of a link, who wins a ring, and how many messages an election may
+/// take; the laws tie them together. Equal algorithms, and equal messages, are identical.
+pub trait RingElection: Copy + Eq {
+    ghost use Rattle.std.specs.Prelude.{ℕ, Bool, List, true};
+    ghost use Rattle.ring_id.specs.declared.side.Side.{Side};
+    ghost use Rattle.ring_election.specs.Tables.{Table};
+    ghost use Rattle.ring_election.specs.Laws.{Lawful};
+
+    /// What nodes send one another.
+    type Msg: Copy + Eq;
+
+    /// What a node remembers.
+    type State: Drop;
+
+    ghost is_two_way: { Self → Bool };
+
+    ghost is_greatest: { Self → Bool };
+
+    ghost table: { Self → Table Self.State Self.Msg };
+
+    ghost fits: { Self → List ℕ → ℕ → Side → ℕ → Self.Msg → Type 0 };
+
+    ghost winner: { Self → List ℕ → ℕ };
+
+    ghost bound: { Self → ℕ → ℕ };
+
+    /// Whether it sends to the left.
+    fn two_way(&self) -> bool
+        ensures { result ≡ is_two_way self.now };
+
+    /// Whether it promises to elect the greatest identity.
+    fn greatest(&self) -> bool
+        ensures { result ≡ is_greatest self.now };
+
+    /// The first state of the node with this identity, and its first sends. Takes no memory.
+    fn start(&self, alloc: Global, me: NodeId) -> (Self::State, Sends<Self::Msg>)
+        ensures state { result.0 ≡ (table self.now).first me }
+        ensures sends { result.1 ≡ (table self.now).first_sends me };
+
+    /// One receipt from that side: the new state and what is sent in answer. Refused for want of
+    /// memory alone; the state is then unchanged.
+    fn receive(
+        &self,
+        state: &mut Self::State,
+        from: Side,
+        message: Self::Msg,
+    ) -> Result<Sends<Self::Msg>, NoMemory>
+        ensures state { OnOk result (state.new ≡ (table self.now).next state.old from message) }
+        ensures sends { IfOk result (λ s. s ≡ (table self.now).next_sends state.old from message) }
+        ensures err { OnErr result (state.new ≡ state.old) };
+
+    /// The identity that this node has decided on by itself, or none.
+    fn decision(&self, state: &Self::State) -> Option<NodeId>
+        ensures { result ≡ (table self.now).decided state.now };
+
+    ghost lawful: { (a : Self) → Lawful (is_two_way a) (is_greatest a) (table a) (fits a) (winner a) };
+
+    ghost equal_same: { (a b : Self) → Self.eq a b ≡ true → a ≡ b };
+
+    ghost equal_messages: { (a b : Self.Msg) → Self.Msg.eq a b ≡ true → a ≡ b };
+}

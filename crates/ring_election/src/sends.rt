@@ -1,0 +1,8 @@
+/// What a node sends in one step: at most one message to each side.
+#[derive(Clone, Copy, Debug, PartialEq, Eq)]
+pub struct Sends<M> {
+    /// To the left neighbour.
+    pub left: Option<M>,
+    /// To the right neighbour.
+    pub right: Option<M>,
+}

@@ -1,0 +1,5 @@
+pub mod GroupName
+pub mod Identity
+pub mod Refusals
+pub mod Sides
+pub mod Term

@@ -1,0 +1,23 @@
+ghost use Rattle.std.specs.Prelude.{◌≡◌};
+ghost use Rattle.ring_id.specs.Sides.{other};
+
+/// One of the two neighbours of a node on its ring. Right of a member is the one that joined next.
+#[derive(Clone, Copy, Debug, PartialEq, Eq, PartialOrd, Ord, Hash)]
+pub enum Side {
+    /// Towards the member that joined before.
+    Left,
+    /// Towards the member that joined next.
+    Right,
+}
+
+impl Side {
+    /// The other side: what is sent to one side arrives from the other.
+    pub fn other(self) -> Side
+        ensures { result ≡ other self }
+    {
+        match self {
+            Side::Left => Side::Right,
+            Side::Right => Side::Left,
+        }
+    }
+}

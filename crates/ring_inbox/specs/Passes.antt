@@ -1,0 +1,42 @@
+-- What each call answers, and what it leaves of its pass.
+use Rattle.std.specs.Prelude.{◌≡◌, ℕ, List, [], ◌∷◌, ◌++◌}
+use Rattle.ring_inbox.specs.declared.passes.Put.{Put}
+use Rattle.ring_inbox.specs.declared.passes.Put.TheVariants as put
+use Rattle.ring_inbox.specs.declared.passes.Take.{Take}
+use Rattle.ring_inbox.specs.declared.passes.Take.TheVariants as take
+use Rattle.ring_inbox.specs.declared.passes.TryTake.{TryTake}
+use Rattle.ring_inbox.specs.declared.passes.TryTake.TheVariants as try_take
+use Rattle.ring_inbox.specs.Inbox.{StoredOnce, WasFull, TakenOnce, WasEmpty}
+use Rattle.ring_inbox.specs.Values.{SenderLog, ReceiverLog}
+
+module _ {T : Type 0} where
+  -- a stored item joins at the end of the pass's list; one that was not stored is given back, and nothing changes
+  abbrev pub AfterPut : SenderLog T → T → Put T → SenderLog T → Type 0
+  AfterPut old item put.Stored new = new ≡ record old { stored = old.stored ++ item ∷ [] }
+  AfterPut old item (put.Full back) new = (back ≡ item) × (new ≡ old)
+  AfterPut old item (put.Gone back) new = (back ≡ item) × (new ≡ old)
+
+  -- the moment of the whole inbox by which a put answers: of Gone nothing is known
+  abbrev pub PutMoment : SenderLog T → T → Put T → Type 0
+  PutMoment old item put.Stored = StoredOnce old.capacity old.number old.stored item
+  PutMoment old item (put.Full _) = WasFull old.capacity old.number old.stored
+  PutMoment old item (put.Gone _) = Unit {0}
+
+  -- a taken item joins the pass's list with its sender's number; else nothing changes
+  abbrev pub AfterTake : ReceiverLog T → Take T → ReceiverLog T → Type 0
+  AfterTake old (take.Taken sender item) new = new ≡ record old { taken = old.taken ++ (sender, item) ∷ [] }
+  AfterTake old take.Closed new = new ≡ old
+
+  -- the moment of the whole inbox by which a take answers: Closed comes only where the inbox was empty at one
+  abbrev pub TakeMoment : ReceiverLog T → Take T → Type 0
+  TakeMoment old (take.Taken sender item) = TakenOnce old.capacity old.senders old.taken sender item
+  TakeMoment old take.Closed = WasEmpty old.capacity old.taken
+
+  -- the same for a take that does not wait
+  abbrev pub AfterTryTake : ReceiverLog T → TryTake T → ReceiverLog T → Type 0
+  AfterTryTake old (try_take.Taken sender item) new = new ≡ record old { taken = old.taken ++ (sender, item) ∷ [] }
+  AfterTryTake old try_take.Empty new = new ≡ old
+
+  abbrev pub TryTakeMoment : ReceiverLog T → TryTake T → Type 0
+  TryTakeMoment old (try_take.Taken sender item) = TakenOnce old.capacity old.senders old.taken sender item
+  TryTakeMoment old try_take.Empty = WasEmpty old.capacity old.taken
