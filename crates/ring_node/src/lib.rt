@@ -1,13 +1,16 @@
-// A library with one function.
+//! One node of a term: what it received, what it sent, and whether it knows the leader.
+//!
+//! A node runs its algorithm on the ring of a charter. Whatever it receives goes into its journal;
+//! what it has sent to each side follows from the journal alone: the algorithm's messages, and after
+//! those of the first receipt by which it knows the leader, the announcement to the right. An
+//! envelope's message fits its link at its index, and an announcement and a report name the winner
+//! of the ring: these are facts of their types, whichever thread made them.
 #![tactic(auto)]
 
-ghost use Rattle.std.specs.Prelude.{◌≡◌};
-ghost use Rattle.ring_node.specs.Echo.{echo_of};
+mod charter;
+mod packet;
+mod report;
 
-// The `ensures` clause is the contract: what `echo` returns is `echo_of` of its argument, a definition
-// in `specs/Echo.antt`, which a caller's clause can cite too.
-pub fn echo(x: usize) -> usize
-    ensures { result ≡ echo_of x }
-{
-    x
-}
+pub use charter::Charter;
+pub use packet::Packet;
+pub use report::Report;

@@ -1,0 +1,80 @@
+ghost use Rattle.std.specs.Prelude.{◌≡◌, ◌↔◌, IsTrue, IfOk};
+
+use ring_election::RingElection;
+use ring_id::{GroupName, NoMemory, TermNo};
+use ring_roster::Roster;
+use std::alloc::Global;
+use std::sync::Arc;
+
+/// What a term is about: its group, its number, the algorithm that decides it, and its ring.
+///
+/// All nodes, envelopes and reports of a term share its charter.
+#[derive(Debug, Drop)]
+pub struct Charter<E> {
+    group: GroupName,
+    term: TermNo,
+    algorithm: E,
+    roster: Roster,
+}
+
+impl<E: RingElection> Charter<E> {
+    /// The charter of this term, ready to be shared. Refused for want of memory alone.
+    pub fn new(
+        alloc: Global,
+        group: GroupName,
+        term: TermNo,
+        algorithm: E,
+        roster: Roster,
+    ) -> Result<Arc<Charter<E>>, NoMemory>
+        ensures { IfOk result (λ c. c.value ≡ record { group = group; term = term; algorithm = algorithm; roster = roster }) }
+    {
+        let charter = Charter {
+            group,
+            term,
+            algorithm,
+            roster,
+        };
+        let Ok(shared) = Arc::new(alloc, charter) else {
+            return Err(NoMemory);
+        };
+        Ok(shared)
+    }
+
+    /// The group of this term. Takes no memory, like the other readers.
+    pub fn group(&self) -> GroupName
+        ensures { result ≡ self.now.group }
+    {
+        self.group
+    }
+
+    /// The number of this term.
+    pub fn term(&self) -> TermNo
+        ensures { result ≡ self.now.term }
+    {
+        self.term
+    }
+
+    /// The algorithm that decides this term.
+    pub fn algorithm(&self) -> E
+        ensures { result ≡ self.now.algorithm }
+    {
+        self.algorithm
+    }
+
+    /// The ring of this term.
+    pub fn roster(&self) -> &Roster
+        ensures { result.now ≡ self.now.roster }
+    {
+        &self.roster
+    }
+
+    /// Whether two charters are of one group, term, algorithm and ring. Takes no memory.
+    pub fn same(&self, other: &Charter<E>) -> bool
+        ensures { IsTrue result ↔ (self.now ≡ other.now) }
+    {
+        self.group == other.group
+            && self.term == other.term
+            && self.algorithm == other.algorithm
+            && self.roster.same(&other.roster)
+    }
+}

@@ -1,0 +1,66 @@
+ghost use Rattle.std.specs.Prelude.{◌≡◌};
+ghost use Rattle.ring_node.specs.Reports.{IsTruthful};
+
+use crate::charter::Charter;
+use ring_election::RingElection;
+use ring_id::NodeId;
+use std::marker::Model;
+use std::sync::Arc;
+
+/// The news that a member knows the leader of its term.
+///
+/// Its type keeps that the member is in the ring of the charter, and that the leader is the winner
+/// of that ring.
+#[derive(Drop)]
+pub struct Report<E: RingElection> {
+    charter: Arc<Charter<E>>,
+    member: NodeId,
+    leader: NodeId,
+}
+
+impl<E: RingElection> Model for Report<E> {
+    ghost use Rattle.ring_node.specs.Reports.{IsTruthful, Told};
+
+    ghost Value = { Told E };
+
+    ghost view = { λ a. record { charter = a.charter.value; member = a.member; leader = a.leader } };
+
+    ghost invariant = { λ a. IsTruthful (E.winner a.charter.value.algorithm) a.charter.value.roster a.member a.leader };
+}
+
+impl<E: RingElection> Report<E> {
+    /// The report that this member of the charter's ring knows this leader, its winner.
+    pub(crate) fn new(charter: Arc<Charter<E>>, member: NodeId, leader: NodeId) -> Report<E>
+        requires { IsTruthful (E.winner charter.value.algorithm) charter.value.roster member leader }
+        ensures { result ≡ record { charter = charter.value; member = member; leader = leader } }
+    {
+        Report {
+            charter,
+            member,
+            leader,
+        }
+    }
+
+    /// The charter of the term. Takes no memory, like the other readers.
+    pub fn charter(&self) -> &Arc<Charter<E>>
+        ensures { result.now.value ≡ self.now.charter }
+    {
+        &self.charter
+    }
+
+    /// The member that knows the leader.
+    pub fn member(&self) -> NodeId
+        ensures value { result ≡ self.now.member }
+        ensures truthful { IsTruthful (E.winner self.now.charter.algorithm) self.now.charter.roster self.now.member self.now.leader }
+    {
+        self.member
+    }
+
+    /// The leader.
+    pub fn leader(&self) -> NodeId
+        ensures value { result ≡ self.now.leader }
+        ensures truthful { IsTruthful (E.winner self.now.charter.algorithm) self.now.charter.roster self.now.member self.now.leader }
+    {
+        self.leader
+    }
+}
