@@ -8,9 +8,17 @@
 #![tactic(auto)]
 
 mod charter;
+mod envelope;
+mod fault;
+mod node;
 mod packet;
+mod port;
 mod report;
+mod step;
 
 pub use charter::Charter;
+pub use envelope::Envelope;
+pub use fault::TakeFault;
+pub use node::Node;
 pub use packet::Packet;
 pub use report::Report;

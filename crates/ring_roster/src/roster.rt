@@ -64,7 +64,8 @@ impl Roster {
 
     /// The identity at this position; none past the last.
     pub fn at(&self, position: usize) -> Option<NodeId>
-        ensures { result ≡ slice_get self.now position }
+        ensures value { result ≡ slice_get self.now position }
+        ensures ring { IsRing self.now }
     {
         self.members.get(position).copied()
     }

@@ -1,0 +1,106 @@
+-- Nodes: what a node stands for, and what a call of `take` may answer.
+use Rattle.std.specs.Prelude.{◌≡◌, ◌<◌, ℕ, List, [], ◌∷◌, ◌++◌, length, take, Option, option_map, Result, Ok, Err, slice_get, slice_index}
+use Rattle.ring_id.specs.declared.side.Side.{Side}
+use Rattle.ring_id.specs.Sides.{other}
+use Rattle.ring_roster.specs.Ring.{neighbour}
+use Rattle.ring_election.specs.Tables.{Table}
+use Rattle.ring_election.specs.Traces.{taken_from}
+use Rattle.ring_node.specs.declared.charter.Charter.{Charter}
+use Rattle.ring_node.specs.declared.packet.Packet.{Packet}
+use Rattle.ring_node.specs.declared.packet.Packet.TheVariants.{Algo, Leader}
+use Rattle.ring_node.specs.declared.fault.TakeFault.{TakeFault}
+use Rattle.ring_node.specs.declared.fault.TakeFault.TheVariants.{Stranger, Repeat, Gap, NoMemory}
+use Rattle.ring_node.specs.Envelopes.{Sent, index_after}
+use Rattle.ring_node.specs.Journals.{algo_count, known_after, leader_count, news, packets_after}
+use Rattle.ring_node.specs.Reports.{Told}
+
+-- a node of a term: its position on the charter's ring, and all that it received, in order
+pub record Seated (E M : Type 0) : Type 0 where
+  pub charter : Charter E
+  pub position : ℕ
+  pub journal : List (Side × Packet M)
+
+-- its identity
+abbrev pub member_of : {E M : Type 0} → Seated E M → ℕ
+member_of node = slice_index node.charter.roster node.position
+
+-- the same node after one more receipt
+abbrev pub receiving : {E M : Type 0} → Seated E M → Side → Packet M → Seated E M
+receiving node side packet = record node { journal = node.journal ++ (side, packet) ∷ [] }
+
+-- what it has taken from a side
+abbrev pub taken_of : {E M : Type 0} → Seated E M → Side → List (Packet M)
+taken_of node side = taken_from side node.journal
+
+-- the index at which it takes the next such packet from a side
+abbrev pub next_index : {E M : Type 0} → Seated E M → Side → Packet M → ℕ
+next_index node side packet = index_after (taken_of node side) packet
+
+module _ {E S M : Type 0} (t : E → Table S M) where
+  -- the leader that it knows
+  abbrev pub known_of : Seated E M → Option ℕ
+  known_of node = known_after (t node.charter.algorithm) (member_of node) node.journal
+
+  -- all that it has sent to a side
+  abbrev pub sent_of : Seated E M → Side → List (Packet M)
+  sent_of node side = packets_after (t node.charter.algorithm) (member_of node) side node.journal
+
+  -- the leader that it knows after a step and did not know before
+  abbrev pub news_of : Seated E M → Seated E M → Option ℕ
+  news_of old new = news (known_of old) (known_of new)
+
+  -- what it tells of that step: there exactly where the step is the first by which it knows
+  abbrev pub told_of : Seated E M → Seated E M → Option (Told E)
+  told_of old new = option_map (λ v. record { charter = old.charter; member = member_of old; leader = v }) (news_of old new)
+
+  -- the envelope of the packet at that place of what it sent to a side
+  abbrev pub envelope_of : Seated E M → Side → ℕ → Option (Sent E M)
+  envelope_of node side place =
+      option_map (λ packet. record { charter = node.charter; from = node.position; side = side; index = index_after (take place (sent_of node side)) packet; packet = packet })
+      (slice_get (sent_of node side) place)
+
+-- the envelope is of this node's term, and its link leads to this node
+pub record IsForNode {E M : Type 0} (node : Seated E M) (envelope : Sent E M) : Type 0 where
+  pub charter : envelope.charter ≡ node.charter
+  pub link : neighbour (length envelope.charter.roster) envelope.from envelope.side ≡ node.position
+
+-- whether a packet with that index was taken before, among those taken from its link
+abbrev pub IsRepeated : {M : Type 0} → List (Packet M) → ℕ → Packet M → Type 0
+IsRepeated taken index (Algo m) = index < algo_count taken
+IsRepeated taken index (Leader v) = 0 < leader_count taken
+
+-- whether packets before it have not been taken yet; an announcement never leaves a gap
+abbrev pub IsEarly : {M : Type 0} → List (Packet M) → ℕ → Packet M → Type 0
+IsEarly taken index (Algo m) = algo_count taken < index
+IsEarly taken index (Leader v) = ⊥
+
+-- whether it is the next of its sort
+abbrev pub IsNext : {M : Type 0} → List (Packet M) → ℕ → Packet M → Type 0
+IsNext taken index (Algo m) = index ≡ algo_count taken
+IsNext taken index (Leader v) = leader_count taken ≡ 0
+
+-- why a node doesn't take an envelope: each fault exactly where none before it holds
+abbrev pub IsFault : {E M : Type 0} → Seated E M → Sent E M → TakeFault → Type 0
+IsFault node envelope Stranger = IsForNode node envelope → ⊥
+IsFault node envelope Repeat = IsForNode node envelope × IsRepeated (taken_of node (other envelope.side)) envelope.index envelope.packet
+IsFault node envelope Gap = IsForNode node envelope × IsEarly (taken_of node (other envelope.side)) envelope.index envelope.packet
+IsFault node envelope NoMemory = IsForNode node envelope × IsNext (taken_of node (other envelope.side)) envelope.index envelope.packet
+
+-- The node takes an envelope: it is for this node and the next of its sort, the journal gains it, and
+-- the report is there exactly where this is the first receipt by which the node knows the leader.
+pub record HasTaken {E S M : Type 0} (t : E → Table S M) (old : Seated E M) (envelope : Sent E M) (report : Option (Told E)) (new : Seated E M) : Type 0 where
+  pub here : IsForNode old envelope
+  pub next : IsNext (taken_of old (other envelope.side)) envelope.index envelope.packet
+  pub journal : new ≡ receiving old (other envelope.side) envelope.packet
+  pub report_is : report ≡ told_of t old new
+
+-- A fault gives the envelope back and leaves the node unchanged.
+pub record HasReturned {E M : Type 0} (old : Seated E M) (envelope : Sent E M) (fault : TakeFault) (back : Sent E M) (new : Seated E M) : Type 0 where
+  pub why : IsFault old envelope fault
+  pub back_is : back ≡ envelope
+  pub unchanged : new ≡ old
+
+-- what `take` answers, and the node after it
+abbrev pub Takes : {E S M : Type 0} → (E → Table S M) → Seated E M → Sent E M → Result (Option (Told E)) (TakeFault × Sent E M) → Seated E M → Type 0
+Takes t old envelope (Ok report) new = HasTaken t old envelope report new
+Takes t old envelope (Err fault) new = HasReturned old envelope fault.0 fault.1 new

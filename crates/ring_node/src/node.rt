@@ -1,0 +1,256 @@
+ghost use Rattle.std.specs.Prelude.{◌≡◌, ◌+◌, ◌^◌, ◌<◌, [], IfOk, IfSome, MatchOption, OnErr, OnOk, length, slice_get, take};
+ghost use Rattle.ring_id.specs.Sides.{other};
+ghost use Rattle.ring_roster.specs.Ring.{neighbour};
+ghost use Rattle.ring_node.specs.Envelopes.{AllSendable, IsProper, IsSendable, index_after};
+ghost use Rattle.ring_election.specs.Traces.{taken_from};
+ghost use Rattle.ring_node.specs.Journals.{algo_count};
+ghost use Rattle.ring_node.specs.Nodes.{IsFault, IsForNode, IsNext, Takes, envelope_of, known_of, member_of, news_of, next_index, receiving, sent_of, taken_of};
+ghost use Rattle.ring_node.specs.Reports.{IsTruthful};
+
+use crate::charter::Charter;
+use crate::envelope::Envelope;
+use crate::fault::TakeFault;
+use crate::packet::Packet;
+use crate::port::Port;
+use crate::report::Report;
+use crate::step::{count, learn, run};
+use ring_election::RingElection;
+use ring_id::{NoMemory, NodeId, Side};
+use std::alloc::Global;
+use std::marker::Model;
+use std::sync::Arc;
+
+/// One node of a term: its state, the journal of all that it received, and all that it has sent.
+///
+/// Contracts see a node as its charter, its position and its journal, from which the rest follows.
+#[derive(Drop)]
+pub struct Node<E: RingElection> {
+    charter: Arc<Charter<E>>,
+    position: usize,
+    me: NodeId,
+    state: E::State,
+    journal: Vec<(Side, Packet<E::Msg>)>,
+    left: Port<E::Msg>,
+    right: Port<E::Msg>,
+    known: Option<NodeId>,
+}
+
+impl<E: RingElection> Model for Node<E> {
+    ghost use Rattle.ring_node.specs.Nodes.{Seated};
+    ghost use Rattle.ring_node.specs.Kept.{IsSeated};
+
+    ghost Value = { Seated E E.Msg };
+
+    ghost view = { λ a. record { charter = a.charter.value; position = a.position; journal = a.journal.items } };
+
+    ghost invariant = { λ a. IsSeated (E.table a.charter.value.algorithm) (E.fits a.charter.value.algorithm) (E.winner a.charter.value.algorithm) a.charter.value.roster a.position a.me a.state a.journal.items a.left a.right a.known };
+}
+
+impl<E: RingElection> Node<E> {
+    ghost use Rattle.ring_node.specs.Kept.{IsPort};
+
+    /// The node at this position of the charter's ring, which has started and received nothing.
+    /// Refused for want of memory alone.
+    pub fn seat(
+        alloc: Global,
+        charter: Arc<Charter<E>>,
+        position: usize,
+    ) -> Result<Node<E>, NoMemory>
+        requires { position < length charter.value.roster }
+        ensures { IfOk result (λ node. node ≡ record { charter = charter.value; position = position; journal = [] }) }
+    {
+        let me = charter.roster().at(position).unwrap();
+        let (state, sends) = charter.algorithm().start(alloc, me);
+        let left = Port::opened(alloc, sends.left)?;
+        let right = Port::opened(alloc, sends.right)?;
+        Ok(Node {
+            charter,
+            position,
+            me,
+            state,
+            journal: Vec::new(alloc),
+            left,
+            right,
+            known: None,
+        })
+    }
+
+    /// The charter of the term. Takes no memory, like the other readers.
+    pub fn charter(&self) -> &Arc<Charter<E>>
+        ensures { result.now.value ≡ self.now.charter }
+    {
+        &self.charter
+    }
+
+    /// The position on the charter's ring.
+    pub fn position(&self) -> usize
+        ensures value { result ≡ self.now.position }
+        ensures inside { result < length self.now.charter.roster }
+    {
+        self.position
+    }
+
+    /// How many packets it has sent to a side.
+    pub fn sent(&self, side: Side) -> usize
+        ensures { result ≡ length (sent_of E.table self.now side) }
+    {
+        self.port(side).sent.len()
+    }
+
+    /// How many packets it has taken from a side.
+    pub fn taken(&self, side: Side) -> usize
+        ensures { result ≡ length (taken_of self.now side) }
+    {
+        let port = self.port(side);
+        port.algos + port.leaders
+    }
+
+    /// The leader, if this node knows it: it has decided, or the announcement has reached it.
+    pub fn known(&self) -> Option<NodeId>
+        ensures value { result ≡ known_of E.table self.now }
+        ensures wins { IfSome result (λ v. v ≡ E.winner self.now.charter.algorithm self.now.charter.roster) }
+    {
+        self.known
+    }
+
+    /// The packet that it sent to a side at this place, from 0 on; none past the last.
+    pub fn packet(&self, side: Side, place: usize) -> Option<Packet<E::Msg>>
+        ensures value { result ≡ slice_get (sent_of E.table self.now side) place }
+        ensures sendable { IfSome result (λ packet. IsSendable (E.fits self.now.charter.algorithm) (E.winner self.now.charter.algorithm) self.now.charter.roster self.now.position side (index_after (take place (sent_of E.table self.now side)) packet) packet) }
+    {
+        self.port(side).nth(place)
+    }
+
+    /// The packet that it took from a side at this place, from 0 on; none past the last.
+    pub fn receipt(&self, side: Side, place: usize) -> Option<Packet<E::Msg>>
+        ensures { result ≡ slice_get (taken_of self.now side) place }
+    {
+        nth_from(&self.journal, side, place)
+    }
+
+    /// The envelope of the packet that it sent to a side at this place; none past the last. `copy` is
+    /// an owner of this node's charter, since making one can be refused.
+    pub fn envelope(&self, copy: Arc<Charter<E>>, side: Side, place: usize) -> Option<Envelope<E>>
+        requires { copy.value ≡ self.now.charter }
+        ensures { result ≡ envelope_of E.table self.now side place }
+    {
+        let packet = self.packet(side, place)?;
+        let index = match packet {
+            Packet::Algo(_) => count_algos(&self.port(side).sent[..place]),
+            Packet::Leader(_) => 0,
+        };
+        Some(Envelope::new(copy, self.position, side, index, packet))
+    }
+
+    /// Takes an envelope. The answer is this node's report, which is there exactly where this receipt
+    /// is the first by which the node knows the leader. Faults, the first that holds: `Stranger`,
+    /// `Repeat`, `Gap`, `NoMemory`; a fault gives the envelope back and leaves the node unchanged.
+    pub fn take(
+        &mut self,
+        envelope: Envelope<E>,
+    ) -> Result<Option<Report<E>>, (TakeFault, Envelope<E>)>
+        ensures { Takes E.table self.old envelope result self.new }
+    {
+        if let Some(fault) = self.fault_of(&envelope) {
+            return Err((fault, envelope));
+        }
+        let from = envelope.side().other();
+        match self.accept(from, envelope.packet()) {
+            Ok(None) => Ok(None),
+            Ok(Some(leader)) => Ok(Some(Report::new(envelope.into_charter(), self.me, leader))),
+            Err(NoMemory) => Err((TakeFault::NoMemory, envelope)),
+        }
+    }
+
+    /// Takes the packet that comes next from a side: the leader, exactly where this receipt is the
+    /// first by which the node knows it. Refused for want of memory alone; the node is then unchanged.
+    pub fn accept(&mut self, from: Side, packet: Packet<E::Msg>) -> Result<Option<NodeId>, NoMemory>
+        requires { IsProper (E.fits self.old.charter.algorithm) (E.winner self.old.charter.algorithm) self.old.charter.roster (neighbour (length self.old.charter.roster) self.old.position from) (other from) (next_index self.old from packet) packet }
+        ensures journal { OnOk result (self.new ≡ receiving self.old from packet) }
+        ensures news { IfOk result (λ leader. leader ≡ news_of E.table self.old self.new) }
+        ensures truthful { IfOk result (λ leader. IfSome leader (IsTruthful (E.winner self.old.charter.algorithm) self.old.charter.roster (member_of self.old))) }
+        ensures err { OnErr result (self.new ≡ self.old) }
+    {
+        self.left.make_room()?;
+        self.right.make_room()?;
+        if self.journal.reserve(1).is_err() {
+            return Err(NoMemory);
+        }
+        let algorithm = self.charter.algorithm();
+        let brought = run(
+            algorithm,
+            &mut self.state,
+            from,
+            packet,
+            &mut self.left,
+            &mut self.right,
+        )?;
+        let news = learn(&mut self.known, brought);
+        self.right.announce(&news);
+        count(from, packet, &mut self.left, &mut self.right);
+        self.journal.push_reserved((from, packet));
+        Ok(news)
+    }
+
+    /// Why this envelope can't be taken, but for memory; none where it can.
+    fn fault_of(&self, envelope: &Envelope<E>) -> Option<TakeFault>
+        ensures { MatchOption result (IsForNode self.now envelope.now × IsNext (taken_of self.now (other envelope.now.side)) envelope.now.index envelope.now.packet) (IsFault self.now envelope.now) }
+    {
+        let packet = envelope.packet();
+        let index = envelope.index();
+        let ring = envelope.charter().roster();
+        if ring.neighbour(envelope.from(), envelope.side()) != self.position
+            || !self.charter.same(envelope.charter())
+        {
+            return Some(TakeFault::Stranger);
+        }
+        let port = self.port(envelope.side().other());
+        match packet {
+            Packet::Algo(_) if index < port.algos => Some(TakeFault::Repeat),
+            Packet::Algo(_) if index > port.algos => Some(TakeFault::Gap),
+            Packet::Leader(_) if port.leaders > 0 => Some(TakeFault::Repeat),
+            _ => None,
+        }
+    }
+
+    fn port(&self, side: Side) -> &Port<E::Msg>
+        ensures port { IsPort (sent_of E.table self.now side) (taken_of self.now side) result.now }
+        ensures few { result.now.algos + result.now.leaders < 2 ^ 63 }
+        ensures sendable { AllSendable (E.fits self.now.charter.algorithm) (E.winner self.now.charter.algorithm) self.now.charter.roster self.now.position side (sent_of E.table self.now side) }
+    {
+        match side {
+            Side::Left => &self.left,
+            Side::Right => &self.right,
+        }
+    }
+}
+
+/// The packet at this place of those that came from a side; none past the last.
+fn nth_from<M: Copy>(journal: &[(Side, Packet<M>)], side: Side, place: usize) -> Option<Packet<M>>
+    ensures { result ≡ slice_get (taken_from side journal.now) place }
+{
+    let mut before = place;
+    for receipt in journal {
+        if receipt.0 == side {
+            if before == 0 {
+                return Some(receipt.1);
+            }
+            before -= 1;
+        }
+    }
+    None
+}
+
+/// How many of these packets are messages of the algorithm.
+fn count_algos<M: Copy>(packets: &[Packet<M>]) -> usize
+    ensures { result ≡ algo_count packets.now }
+{
+    let mut count = 0;
+    for packet in packets {
+        match packet {
+            Packet::Algo(_) => count += 1,
+            Packet::Leader(_) => {}
+        }
+    }
+    count
+}

@@ -1,0 +1,96 @@
+ghost use Rattle.std.specs.Prelude.{◌≡◌, ◌+◌, ◌^◌, ◌<◌, ◌≤◌, ◌++◌, ◌∷◌, [], slice_get, vec_capacity, vec_len, IfOk, OnOk};
+ghost use Rattle.ring_election.specs.Traces.{taken_from};
+ghost use Rattle.ring_node.specs.Journals.{algo_count, leader_count};
+ghost use Rattle.ring_node.specs.Ports.{all_algos, all_leaders};
+
+use crate::packet::Packet;
+use ring_id::{NoMemory, NodeId};
+use std::alloc::Global;
+
+/// One side of a node: what it sent there, and how many packets of each sort it took from there.
+#[derive(Drop)]
+pub struct Port<M> {
+    pub sent: Vec<Packet<M>>,
+    pub algos: usize,
+    pub leaders: usize,
+}
+
+impl<M: Copy> Port<M> {
+    /// A side at which this was sent and nothing was taken.
+    pub fn opened(alloc: Global, first: Option<M>) -> Result<Port<M>, NoMemory>
+        ensures sent { IfOk result (λ port. port.sent.items ≡ all_algos first) }
+        ensures algos { IfOk result (λ port. port.algos ≡ 0) }
+        ensures leaders { IfOk result (λ port. port.leaders ≡ 0) }
+    {
+        let Ok(sent) = Vec::with_capacity(alloc, 1) else {
+            return Err(NoMemory);
+        };
+        let mut port = Port {
+            sent,
+            algos: 0,
+            leaders: 0,
+        };
+        port.post(first);
+        Ok(port)
+    }
+
+    /// Finds room for a message and an announcement. What was sent and taken stays in any case.
+    pub fn make_room(&mut self) -> Result<(), NoMemory>
+        ensures sent { self.new.sent.items ≡ self.old.sent.items }
+        ensures algos { self.new.algos ≡ self.old.algos }
+        ensures leaders { self.new.leaders ≡ self.old.leaders }
+        ensures room { OnOk result (vec_len self.new.sent + 2 ≤ vec_capacity self.new.sent) }
+    {
+        if self.sent.reserve(2).is_err() {
+            return Err(NoMemory);
+        }
+        Ok(())
+    }
+
+    /// Sends a message of the algorithm, if there is one.
+    pub fn post(&mut self, message: Option<M>)
+        requires { vec_len self.old.sent + 1 ≤ vec_capacity self.old.sent }
+        ensures sent { self.new.sent.items ≡ self.old.sent.items ++ all_algos message }
+        ensures algos { self.new.algos ≡ self.old.algos }
+        ensures leaders { self.new.leaders ≡ self.old.leaders }
+        ensures len { vec_len self.new.sent ≤ vec_len self.old.sent + 1 }
+        ensures capacity { vec_capacity self.new.sent ≡ vec_capacity self.old.sent }
+    {
+        if let Some(message) = message {
+            self.sent.push_reserved(Packet::Algo(message));
+        }
+    }
+
+    /// Announces the leader, if there is one to announce.
+    pub fn announce(&mut self, leader: &Option<NodeId>)
+        requires { vec_len self.old.sent + 1 ≤ vec_capacity self.old.sent }
+        ensures sent { self.new.sent.items ≡ self.old.sent.items ++ all_leaders leader.now }
+        ensures algos { self.new.algos ≡ self.old.algos }
+        ensures leaders { self.new.leaders ≡ self.old.leaders }
+    {
+        if let Some(leader) = leader {
+            self.sent.push_reserved(Packet::Leader(*leader));
+        }
+    }
+
+    /// The packet that was sent here at this place; none past the last.
+    pub fn nth(&self, place: usize) -> Option<Packet<M>>
+        ensures { result ≡ slice_get self.now.sent.items place }
+    {
+        self.sent.get(place).copied()
+    }
+
+    /// Counts a packet that was taken here.
+    pub fn count(&mut self, packet: Packet<M>)
+        requires algos { self.old.algos + 1 < 2 ^ 64 }
+        requires leaders { self.old.leaders + 1 < 2 ^ 64 }
+        ensures sent { self.new.sent.items ≡ self.old.sent.items }
+        ensures algos { self.new.algos ≡ self.old.algos + algo_count (packet ∷ []) }
+        ensures leaders { self.new.leaders ≡ self.old.leaders + leader_count (packet ∷ []) }
+    {
+        match packet {
+            Packet::Algo(_) => self.algos += 1,
+            Packet::Leader(_) => self.leaders += 1,
+        }
+    }
+}
