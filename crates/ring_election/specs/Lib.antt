@@ -1,3 +1,4 @@
+pub mod Agreement
 pub mod Families
 pub mod Laws
 pub mod Tables

@@ -7,8 +7,10 @@
 //! alone: no schedule, no time and no queue is in them.
 #![tactic(auto)]
 
+mod agreement;
 mod election;
 mod sends;
 
+pub use agreement::one_winner;
 pub use election::RingElection;
 pub use sends::Sends;

@@ -1,0 +1,47 @@
+-- The algorithm of Chang and Roberts, as a table, and which messages fit its links (Lynch,
+-- Distributed Algorithms, 3.3 and 15.1.1: the LCR algorithm, AsynchLCR).
+use Rattle.std.specs.Prelude.{◌≡◌, ◌*◌, ◌==◌, ℕ, cond, nat_lt, List, [], ◌∷◌, Some, None, slice_get}
+use Rattle.ring_id.specs.declared.side.Side.{Side}
+use Rattle.ring_id.specs.declared.side.Side.TheVariants.{Left, Right}
+use Rattle.ring_roster.specs.Ring.{leftward}
+use Rattle.ring_election.specs.declared.sends.Sends.{Sends}
+use Rattle.ring_election.specs.Tables.{Table, nothing, rightward}
+use Rattle.ring_chang.specs.declared.chang.ChangState.{ChangState}
+
+-- a node that starts knows itself and has decided nothing
+abbrev pub chang_first : ℕ → ChangState
+chang_first me = record { me = me; decided = None }
+
+-- it decides on itself where its own identity comes back
+abbrev pub chang_next : ChangState → Side → ℕ → ChangState
+chang_next s Left v = cond (v == s.me) (record s { decided = Some s.me }) s
+chang_next s Right v = s
+
+-- it passes on what is greater than itself
+abbrev pub chang_sends : ChangState → Side → ℕ → Sends ℕ
+chang_sends s Left v = cond (nat_lt s.me v) (rightward v) (nothing ℕ)
+chang_sends s Right v = nothing ℕ
+
+-- the table: a node starts with sending itself, and nothing goes to the left
+abbrev pub chang_table : Table ChangState ℕ
+chang_table = record { first = chang_first; first_sends = λ me. rightward me; next = chang_next; next_sends = chang_sends; decided = λ s. s.decided }
+
+-- of identities read in this order, those that are greater than m and than all read before them
+abbrev pub records_above : ℕ → List ℕ → List ℕ
+records_above m [] = []
+records_above m (x ∷ xs) = cond (nat_lt m x) (x ∷ records_above x xs) (records_above m xs)
+
+-- of identities read in this order, those that are greater than all read before them
+abbrev pub records : List ℕ → List ℕ
+records [] = []
+records (x ∷ xs) = x ∷ records_above x xs
+
+-- The k-th message on the right link of position i is the k-th record of the identities read from
+-- there to the left, all round. Nothing fits on a left link.
+abbrev pub chang_fits : List ℕ → ℕ → Side → ℕ → ℕ → Type 0
+chang_fits ring i Left k m = ⊥
+chang_fits ring i Right k m = slice_get (records (leftward ring i)) k ≡ Some m
+
+-- an election on a ring of n takes at most this many messages (3.3, communication complexity)
+abbrev pub chang_bound : ℕ → ℕ
+chang_bound n = n * n

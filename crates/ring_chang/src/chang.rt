@@ -1,0 +1,197 @@
+ghost use Rattle.std.specs.Prelude.{◌≡◌, IfOk, IsOk, OnErr, OnOk, false, true};
+ghost use Rattle.ring_chang.specs.Chang.{chang_first, chang_next, chang_sends};
+ghost use Rattle.ring_election.specs.Tables.{rightward};
+
+use ring_election::{RingElection, Sends};
+use ring_id::{NoMemory, NodeId, Side};
+use std::alloc::Global;
+
+/// The algorithm of Chang and Roberts, which elects the greatest identity (Lynch, Distributed
+/// Algorithms, 3.3 and 15.1.1: AsynchLCR).
+///
+/// A message is an identity. A node sends its own to the right, passes greater ones on, and decides
+/// on itself where its own comes back.
+#[derive(Clone, Copy, Debug, PartialEq, Eq)]
+pub struct Chang;
+
+/// What a node of this algorithm remembers.
+#[derive(Debug, Drop)]
+pub struct ChangState {
+    me: NodeId,
+    decided: Option<NodeId>,
+}
+
+impl RingElection for Chang {
+    ghost use Rattle.std.specs.Prelude.{true, false};
+    ghost use Rattle.std.proofs.Common.{rules};
+    ghost use Rattle.ring_roster.specs.Ring.{greatest_of};
+    ghost use Rattle.ring_chang.specs.Chang.{chang_bound, chang_fits, chang_table};
+    ghost use Rattle.ring_chang.specs.Lawful.{chang_lawful};
+
+    type Msg = NodeId;
+
+    type State = ChangState;
+
+    ghost is_two_way = { λ _. false };
+
+    ghost is_greatest = { λ _. true };
+
+    ghost table = { λ _. chang_table };
+
+    ghost fits = { λ _. chang_fits };
+
+    ghost winner = { λ _. greatest_of };
+
+    ghost bound = { λ _. chang_bound };
+
+    /// Never: messages go to the right alone.
+    fn two_way(&self) -> bool
+        ensures { result ≡ false }
+    {
+        false
+    }
+
+    /// Always: the winner is the greatest identity.
+    fn greatest(&self) -> bool
+        ensures { result ≡ true }
+    {
+        true
+    }
+
+    /// A node that has decided nothing; it sends its own identity to the right. Takes no memory.
+    fn start(&self, _: Global, me: NodeId) -> (ChangState, Sends<NodeId>)
+        ensures state { result.0 ≡ chang_first me }
+        ensures sends { result.1 ≡ rightward me }
+    {
+        let state = ChangState { me, decided: None };
+        let sends = Sends {
+            left: None,
+            right: Some(me),
+        };
+        (state, sends)
+    }
+
+    /// A greater identity from the left is passed on; the node's own decides. Takes no memory.
+    fn receive(
+        &self,
+        state: &mut ChangState,
+        from: Side,
+        message: NodeId,
+    ) -> Result<Sends<NodeId>, NoMemory>
+        ensures free { IsOk result }
+        ensures state { OnOk result (state.new ≡ chang_next state.old from message) }
+        ensures sends { IfOk result (λ s. s ≡ chang_sends state.old from message) }
+        ensures err { OnErr result (state.new ≡ state.old) }
+    {
+        let mut sends = Sends {
+            left: None,
+            right: None,
+        };
+        if from == Side::Left {
+            if message > state.me {
+                sends.right = Some(message);
+            } else if message == state.me {
+                state.decided = Some(state.me);
+            }
+        }
+        Ok(sends)
+    }
+
+    /// The node itself where its own identity came back from the left, or none.
+    fn decision(&self, state: &ChangState) -> Option<NodeId>
+        ensures { result ≡ state.now.decided }
+    {
+        state.decided
+    }
+
+    ghost lawful = { λ _. chang_lawful };
+
+    ghost equal_same = { λ a b h. Prim.search rules };
+
+    ghost equal_messages = { λ a b h. Prim.search rules };
+}
+
+#[cfg(test)]
+mod tests {
+    use super::*;
+    use ring_election::one_winner;
+    use std::collections::VecDeque;
+    use std::test::Fail;
+
+    /// A node of a ring, with what it has sent to the right and nobody has taken.
+    #[derive(Drop)]
+    struct Member {
+        me: NodeId,
+        state: ChangState,
+        link: VecDeque<NodeId>,
+    }
+
+    /// The members of a ring after they have started.
+    fn started(alloc: Global, numbers: &[u32]) -> Result<Vec<Member>, Fail> {
+        let mut ring = Vec::new(alloc);
+        for number in numbers {
+            let me = NodeId::new(*number).ok_or("no identity is 0")?;
+            let (state, sends) = Chang.start(alloc, me);
+            let mut link = VecDeque::new(alloc);
+            link.push_back(sends.right.ok_or("nothing was sent")?)?;
+            ring.push(Member { me, state, link })?;
+        }
+        Ok(ring)
+    }
+
+    /// Takes one message from the left at this position; whether there was one.
+    fn takes(ring: &mut [Member], position: usize) -> Result<bool, Fail> {
+        let left = position
+            .checked_sub(1)
+            .unwrap_or(ring.len().saturating_sub(1));
+        let Some(message) = ring
+            .get_mut(left)
+            .and_then(|sender| sender.link.pop_front())
+        else {
+            return Ok(false);
+        };
+        let member = ring.get_mut(position).ok_or("no such position")?;
+        let sends = Chang.receive(&mut member.state, Side::Left, message)?;
+        if let Some(passed) = sends.right {
+            member.link.push_back(passed)?;
+        }
+        Ok(true)
+    }
+
+    /// Takes messages, each at the first position that has one, until none is left: how many.
+    fn settled(ring: &mut [Member]) -> Result<u32, Fail> {
+        for taken in 0..100 {
+            let mut idle = true;
+            for position in 0..ring.len() {
+                if takes(ring, position)? {
+                    idle = false;
+                    break;
+                }
+            }
+            if idle {
+                return Ok(taken);
+            }
+        }
+        Err("more than 100 messages".into())
+    }
+
+    #[test]
+    fn the_greatest_alone_decides(rt: HostRuntime) -> Result<(), Fail> {
+        one_winner::<Chang>();
+        let rings: [(&[u32], u32, u32); 4] = [
+            (&[3, 1, 2], 5, 3),
+            (&[3, 2, 1], 6, 3),
+            (&[1, 2], 3, 2),
+            (&[7], 1, 7),
+        ];
+        for (numbers, messages, leader) in rings {
+            let mut ring = started(rt.alloc(), numbers)?;
+            assert_eq!(rt; settled(&mut ring)?, messages);
+            for member in &ring {
+                let decided = Some(member.me).filter(|me| me.get() == leader);
+                assert_eq!(rt; Chang.decision(&member.state), decided);
+            }
+        }
+        Ok(())
+    }
+}
