@@ -2,9 +2,9 @@
 use Rattle.std.specs.Prelude.{◌≡◌, ◌==◌, ℕ, ◌<◌, ◌≤◌, if◌then◌else◌, List, [], ◌∷◌, ◌++◌, length}
 
 -- the items of one sender among numbered items, in order
-abbrev pub of : {T : Type 0} → ℕ → List (ℕ × T) → List T
-of sender [] = []
-of sender (m ∷ ms) = (if m.0 == sender then m.1 ∷ of sender ms else of sender ms)
+abbrev pub items_of : {T : Type 0} → ℕ → List (ℕ × T) → List T
+items_of sender [] = []
+items_of sender (m ∷ ms) = (if m.0 == sender then m.1 ∷ items_of sender ms else items_of sender ms)
 
 -- one moment: what the queue holds, oldest first, what each sender has stored, and what the receiver has taken
 pub record Moment (T : Type 0) : Type 0 where
@@ -15,7 +15,7 @@ pub record Moment (T : Type 0) : Type 0 where
 module _ {T : Type 0} where
   -- what a sender stored is what was taken of it, followed by what the queue holds of it; and the queue is within the capacity
   pub record IsLegal (capacity : ℕ) (now : Moment T) : Type 0 where
-    pub in_order : (sender : ℕ) → now.stored sender ≡ of sender now.taken ++ of sender now.queue
+    pub in_order : (sender : ℕ) → now.stored sender ≡ items_of sender now.taken ++ items_of sender now.queue
     pub within : length now.queue ≤ capacity
 
   -- the lists of all senders, where one of them stored one item more

@@ -1,2 +1,4 @@
 pub mod Inbox
 pub mod Rule
+pub mod Values
+pub mod Passes

@@ -1,5 +1,5 @@
 -- What each call answers, and what it leaves of its pass.
-use Rattle.std.specs.Prelude.{◌≡◌, ℕ, List, [], ◌∷◌, ◌++◌}
+use Rattle.std.specs.Prelude.{◌≡◌, [], ◌∷◌, ◌++◌}
 use Rattle.ring_inbox.specs.declared.passes.Put.{Put}
 use Rattle.ring_inbox.specs.declared.passes.Put.TheVariants as put
 use Rattle.ring_inbox.specs.declared.passes.Take.{Take}
@@ -18,8 +18,8 @@ module _ {T : Type 0} where
 
   -- the moment of the whole inbox by which a put answers: of Gone nothing is known
   abbrev pub PutMoment : SenderLog T → T → Put T → Type 0
-  PutMoment old item put.Stored = StoredOnce old.capacity old.number old.stored item
-  PutMoment old item (put.Full _) = WasFull old.capacity old.number old.stored
+  PutMoment old item put.Stored = StoredOnce old.inbox.capacity old.number old.stored item
+  PutMoment old item (put.Full _) = WasFull old.inbox.capacity old.number old.stored
   PutMoment old item (put.Gone _) = Unit {0}
 
   -- a taken item joins the pass's list with its sender's number; else nothing changes
@@ -29,14 +29,15 @@ module _ {T : Type 0} where
 
   -- the moment of the whole inbox by which a take answers: Closed comes only where the inbox was empty at one
   abbrev pub TakeMoment : ReceiverLog T → Take T → Type 0
-  TakeMoment old (take.Taken sender item) = TakenOnce old.capacity old.senders old.taken sender item
-  TakeMoment old take.Closed = WasEmpty old.capacity old.taken
+  TakeMoment old (take.Taken sender item) = TakenOnce old.inbox.capacity old.senders old.taken sender item
+  TakeMoment old take.Closed = WasEmpty old.inbox.capacity old.taken
 
-  -- the same for a take that does not wait
+  -- the same of a take that does not wait
   abbrev pub AfterTryTake : ReceiverLog T → TryTake T → ReceiverLog T → Type 0
   AfterTryTake old (try_take.Taken sender item) new = new ≡ record old { taken = old.taken ++ (sender, item) ∷ [] }
   AfterTryTake old try_take.Empty new = new ≡ old
 
+  -- the moment by which it answers: Empty comes only where the inbox was empty at one
   abbrev pub TryTakeMoment : ReceiverLog T → TryTake T → Type 0
-  TryTakeMoment old (try_take.Taken sender item) = TakenOnce old.capacity old.senders old.taken sender item
-  TryTakeMoment old try_take.Empty = WasEmpty old.capacity old.taken
+  TryTakeMoment old (try_take.Taken sender item) = TakenOnce old.inbox.capacity old.senders old.taken sender item
+  TryTakeMoment old try_take.Empty = WasEmpty old.inbox.capacity old.taken

@@ -4,7 +4,7 @@ use mathlib.Core.Option.{some}
 use lib.ListN.{get_elem?}
 use mathlib.Core.List.{IsPrefix}
 use Rattle.ring_inbox.specs.declared.rule.Known.{Known}
-use Rattle.ring_inbox.specs.Inbox.{of, Moment, IsLegal, StoredOnce, TakenOnce}
+use Rattle.ring_inbox.specs.Inbox.{items_of, Moment, IsLegal, StoredOnce, TakenOnce}
 
 -- what the inbox's parts are, beside its queue: `seat` is the pass of each sender, `reader` the pass of the receiver, and `made` counts the senders
 pub record Ledger (T : Type 0) : Type 0 where
@@ -71,13 +71,13 @@ module _ {T : Type 0} where
     pub taken : v.gets ≡ true → moment.taken ≡ v.taken
 
   -- what a send tells its pass
-  abbrev pub Stored : Known T → ℕ × T → Known T → Type 0
-  Stored v m w = (w ≡ sender v.capacity v.number (v.stored ++ m.1 ∷ [])) × StoredOnce v.capacity v.number v.stored m.1
+  abbrev pub IsStored : Known T → ℕ × T → Known T → Type 0
+  IsStored v m w = (w ≡ sender v.capacity v.number (v.stored ++ m.1 ∷ [])) × StoredOnce v.capacity v.number v.stored m.1
 
   -- what a receive tells its pass
-  abbrev pub Taken : Known T → ℕ × T → Known T → Type 0
-  Taken v m w = (w ≡ receiver v.capacity v.made (v.taken ++ m ∷ [])) × TakenOnce v.capacity v.made v.taken m.0 m.1
+  abbrev pub IsTaken : Known T → ℕ × T → Known T → Type 0
+  IsTaken v m w = (w ≡ receiver v.capacity v.made (v.taken ++ m ∷ [])) × TakenOnce v.capacity v.made v.taken m.0 m.1
 
   -- what was taken of the sender is a prefix of what it stored
   abbrev pub IsPrefixTaken : Known T → Type 0
-  IsPrefixTaken v = IsPrefix (of v.number v.taken) v.stored
+  IsPrefixTaken v = IsPrefix (items_of v.number v.taken) v.stored

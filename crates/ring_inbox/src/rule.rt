@@ -91,9 +91,9 @@ impl<T> Split<Known<T>> for Meets {
 pub struct Stores;
 
 impl<T> Outcome<(usize, T), Known<T>> for Stores {
-    ghost use Rattle.ring_inbox.specs.Rule.{Stored};
+    ghost use Rattle.ring_inbox.specs.Rule.{IsStored};
 
-    ghost then = { Stored };
+    ghost then = { IsStored };
 }
 
 impl<T> Lesson<(usize, T), Known<T>> for Stores {
@@ -106,9 +106,9 @@ impl<T> Lesson<(usize, T), Known<T>> for Stores {
 pub struct Takes;
 
 impl<T> Outcome<(usize, T), Known<T>> for Takes {
-    ghost use Rattle.ring_inbox.specs.Rule.{Taken};
+    ghost use Rattle.ring_inbox.specs.Rule.{IsTaken};
 
-    ghost then = { Taken };
+    ghost then = { IsTaken };
 }
 
 impl<T> Lesson<(usize, T), Known<T>> for Takes {

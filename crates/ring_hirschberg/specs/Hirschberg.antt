@@ -1,0 +1,117 @@
+-- The Hirschberg-Sinclair algorithm without rounds (Lynch, Distributed Algorithms, 3.4): its table,
+-- the messages that may be on a link, its winner and the bound on its work.
+use Rattle.std.specs.Prelude.{◌≡◌, ◌+◌, ◌-◌, ◌*◌, ◌^◌, ◌<◌, ◌≤◌, ◌==◌, ℕ, zero, suc, cond, min, nat_lt, List, length, Some, None, slice_get, Option}
+use Rattle.ring_id.specs.declared.side.Side.{Side}
+use Rattle.ring_id.specs.declared.side.Side.TheVariants.{Left, Right}
+use Rattle.ring_id.specs.Sides.{other}
+use Rattle.ring_roster.specs.Ring.{neighbour}
+use Rattle.ring_election.specs.declared.sends.Sends.{Sends}
+use Rattle.ring_election.specs.Tables.{Table, nothing}
+use Rattle.ring_hirschberg.specs.declared.hirschberg.HirschbergMsg.{HirschbergMsg}
+use Rattle.ring_hirschberg.specs.declared.hirschberg.HirschbergMsg.TheVariants.{Out, Back}
+use Rattle.ring_hirschberg.specs.declared.hirschberg.HirschbergState.{HirschbergState}
+
+-- one message, to that side
+abbrev pub one_to : Side → HirschbergMsg → Sends HirschbergMsg
+one_to Left m = record { left = Some m; right = None }
+one_to Right m = record { left = None; right = Some m }
+
+-- the same message to both sides
+abbrev pub to_both : HirschbergMsg → Sends HirschbergMsg
+to_both m = record { left = Some m; right = Some m }
+
+-- the phase of a node: how often both of its tokens came home
+abbrev pub phase : HirschbergState → ℕ
+phase s = min s.left s.right
+
+-- a count of tokens come home, with one more; it stays at 16
+abbrev pub risen : ℕ → ℕ
+risen count = cond (nat_lt count 16) (count + 1) count
+
+-- one more own token came home from that side
+abbrev pub counted : HirschbergState → Side → HirschbergState
+counted s Left = record s { left = risen s.left }
+counted s Right = record s { right = risen s.right }
+
+-- a node that starts is in phase 0
+abbrev pub hirschberg_first : ℕ → HirschbergState
+hirschberg_first me = record { me = me; left = 0; right = 0; decided = None }
+
+-- it sends its token one hop to both sides
+abbrev pub hirschberg_first_sends : ℕ → Sends HirschbergMsg
+hirschberg_first_sends me = to_both (Out me 1)
+
+-- The state after a receipt: a node decides on itself where its own token reaches it on the way
+-- out, and counts its own tokens that come home; nothing else changes it.
+abbrev pub hirschberg_next : HirschbergState → Side → HirschbergMsg → HirschbergState
+hirschberg_next s side (Out v hops) = cond (v == s.me) (record s { decided = Some s.me }) s
+hirschberg_next s side (Back v) = cond (v == s.me) (counted s side) s
+
+-- What becomes of a greater token that came from that side with this many hops left: it goes on
+-- with one hop less, it is turned at its last hop, and with no hop left it is dropped.
+abbrev pub passed : Side → ℕ → ℕ → Sends HirschbergMsg
+passed side v hops =
+    cond (nat_lt 1 hops) (one_to (other side) (Out v (hops - 1)))
+    (cond (hops == 1) (one_to side (Back v)) (nothing HirschbergMsg))
+
+-- a node that comes to phase l sends its token 2 ^ l hops to both sides
+abbrev pub new_token : HirschbergState → HirschbergState → Sends HirschbergMsg
+new_token old new = cond (nat_lt (phase old) (phase new)) (to_both (Out old.me (2 ^ phase new))) (nothing HirschbergMsg)
+
+-- What is sent because of a receipt: a token on its way out is passed by smaller nodes and dropped
+-- by greater ones, a token on its way home is passed by all nodes but its own.
+abbrev pub hirschberg_sends : HirschbergState → Side → HirschbergMsg → Sends HirschbergMsg
+hirschberg_sends s side (Out v hops) =
+    cond (v == s.me) (nothing HirschbergMsg) (cond (nat_lt s.me v) (passed side v hops) (nothing HirschbergMsg))
+hirschberg_sends s side (Back v) =
+    cond (v == s.me) (new_token s (counted s side)) (one_to (other side) (Back v))
+
+-- what a state has decided
+abbrev pub hirschberg_decided : HirschbergState → Option ℕ
+hirschberg_decided s = s.decided
+
+-- the table of the algorithm
+abbrev pub hirschberg_table : Table HirschbergState HirschbergMsg
+hirschberg_table = record {
+  first = hirschberg_first;
+  first_sends = hirschberg_first_sends;
+  next = hirschberg_next;
+  next_sends = hirschberg_sends;
+  decided = hirschberg_decided;
+}
+
+-- v stands at a position from which one walks to that side as far as i over smaller identities
+-- alone: at i itself, or v reaches the position before i on that walk and i is smaller
+pub data Reaches (ring : List ℕ) (side : Side) (v : ℕ) : ℕ → Type 0 where
+  own : {i : ℕ} → slice_get ring i ≡ Some v → Reaches ring side v i
+  over : {i x : ℕ} → Reaches ring side v (neighbour (length ring) i (other side)) → slice_get ring i ≡ Some x → x < v → Reaches ring side v i
+
+-- v is a member
+abbrev pub IsMember : List ℕ → ℕ → Type 0
+IsMember ring v = (p : ℕ) × (slice_get ring p ≡ Some v)
+
+-- which message may be on the link from position i to that side
+abbrev pub allows : List ℕ → ℕ → Side → HirschbergMsg → Type 0
+allows ring i side (Out v hops) = (1 ≤ hops) × Reaches ring side v i
+allows ring i side (Back v) = IsMember ring v
+
+-- which message fits as the k-th of the link: which one it is doesn't matter
+abbrev pub hirschberg_fits : List ℕ → ℕ → Side → ℕ → HirschbergMsg → Type 0
+hirschberg_fits ring i side k m = allows ring i side m
+
+-- an exponent, raised by one where its power of two is below n
+abbrev pub raised : ℕ → ℕ → ℕ
+raised n e = cond (nat_lt (2 ^ e) n) (e + 1) e
+
+-- the least exponent up to k whose power of two is not below n, or k
+abbrev pub least_power : ℕ → ℕ → ℕ
+least_power n zero = 0
+least_power n (suc k) = raised n (least_power n k)
+
+-- the logarithm of n to the base 2, rounded up
+abbrev pub ceil_log2 : ℕ → ℕ
+ceil_log2 n = least_power n n
+
+-- the greatest number of messages that an election on a ring of n takes
+abbrev pub hirschberg_bound : ℕ → ℕ
+hirschberg_bound n = 4 * (n * n) * (1 + ceil_log2 n)

@@ -1,0 +1,4 @@
+mod Views
+mod Steps
+mod Moves
+mod Values

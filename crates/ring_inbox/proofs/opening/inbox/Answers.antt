@@ -1,0 +1,31 @@
+use Rattle.std.proofs.Common.{◌≡◌, ◌+◌, [], refl, ap, sym, ◌∙◌}
+use Rattle.crossbeam_channel.specs.Claims.{view}
+use Rattle.crossbeam_channel.specs.Ends.{sends_on, ruled_capacity}
+use Rattle.ring_inbox.specs.Rule.{receiver}
+use Rattle.ring_inbox.specs.Values.{name_of}
+use Rattle.ring_inbox.proofs.Moves.{begins, makes_as}
+use Rattle.ring_inbox.proofs.Values.{name_of-same_channel, fresh_senders_more}
+use Rattle.ring_inbox.proofs.opening.inbox.Goals as goal
+
+pub bounded_with-requires-clause-rule : goal.bounded_with-requires-clause-rule
+bounded_with-requires-clause-rule g c = begins
+
+pub another-requires-clause-rule : goal.another-requires-clause-rule
+another-requires-clause-rule g c = makes_as _ _ _ _ _ c.loop-number.invariant.1
+
+pub loop-number-preserved : goal.loop-number-preserved
+loop-number-preserved g c =
+    let was = c.loop-number.invariant in
+    let at = c.another.ensures.channel in
+    let before = c.loop-number.pass in
+    let now = c.another.new.pass in
+    let new = c.another.result in
+    let capacity = ruled_capacity (sends_on c.in_ok-to.to) in
+    let room = ruled_capacity (sends_on c.in_ok-try_clone.field-0) in
+    let name : name_of capacity before ≡ name_of capacity now = name_of-same_channel capacity capacity before now refl (was.0.0 ∙ sym at.0.0) (was.0.1 ∙ sym at.0.1) in
+    let new_name : name_of room new ≡ name_of capacity now = name_of-same_channel room capacity new now (ap (λ r. ruled_capacity r) c.in_ok-try_clone.ensures) (at.2.0 ∙ sym at.0.0) (at.2.1 ∙ sym at.0.1) in
+    let stored : (view new).stored ≡ [] = ap (λ v. v.stored) c.another.ensures.rule.1 in (
+      at.0,
+      c.another.ensures.rule.0 ∙ ap (λ v. receiver v.capacity (v.made + 1) v.taken) was.1,
+      c.in_ok-push.ensures.items ∙ fresh_senders_more _ _ _ _ _ was.2 name (λ i. record { inbox = new_name i; number = c.loop-number.number; stored = stored i }),
+    )
