@@ -1,0 +1,7 @@
+pub mod Bounded
+pub mod Deciding
+pub mod Lawful
+pub mod LeLann
+pub mod Others
+pub mod Taken
+pub mod Traces

@@ -1,1 +1,12 @@
+//! The election of LeLann: every identity goes all round the ring, and every node elects the
+//! greatest by itself.
+//!
+//! What a node sends and decides is exactly the table in the specifications, for every message
+//! from either side. Every message fits its place on its link, whatever a node decides is the
+//! greatest identity of its ring, a ring in which every message was taken is decided, and a ring
+//! of n takes at most n * n messages. No call but `receive` takes memory.
 #![tactic(auto)]
+
+mod lelann;
+
+pub use lelann::{LeLann, LeLannState};

@@ -1,13 +1,18 @@
-// A library with one function.
+//! The book of groups and terms: which groups there are, who their members are, and who leads each
+//! term.
+//!
+//! Contracts see a book as the election object: groups in order of creation, each with its
+//! algorithm, its members and its terms. A term freezes the member list as its ring; joins and leaves
+//! change the next term alone. A term's leader is the winner of its ring, is named once and stays, and
+//! a member is told the leader only after a report said that it knows. A refusal changes nothing.
 #![tactic(auto)]
 
-ghost use Rattle.std.specs.Prelude.{◌≡◌};
-ghost use Rattle.ring_terms.specs.Echo.{echo_of};
+mod book;
+mod group;
+mod lists;
+mod standing;
+mod term;
 
-// The `ensures` clause is the contract: what `echo` returns is `echo_of` of its argument, a definition
-// in `specs/Echo.antt`, which a caller's clause can cite too.
-pub fn echo(x: usize) -> usize
-    ensures { result ≡ echo_of x }
-{
-    x
-}
+pub use book::Book;
+pub use lists::{GroupList, MemberList, TermList};
+pub use standing::{Noting, Standing};

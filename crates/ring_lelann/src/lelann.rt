@@ -1,0 +1,250 @@
+ghost use Rattle.std.specs.Prelude.{◌≡◌, ◌∷◌, IfOk, IsOk, OnErr, OnOk, false, true};
+ghost use Rattle.ring_election.specs.Tables.{rightward};
+ghost use Rattle.ring_id.specs.declared.side.Side.TheVariants as side;
+ghost use Rattle.ring_roster.specs.Ring.{greatest_of};
+
+use ring_election::{RingElection, Sends};
+use ring_id::{NoMemory, NodeId, Side};
+use std::alloc::Global;
+use std::marker::Model;
+
+/// The algorithm of LeLann, in which every node elects the greatest identity by itself (LeLann,
+/// Distributed systems: towards a formal approach, IFIP 1977; the ring is that of Lynch,
+/// Distributed Algorithms, 3.1).
+///
+/// A message is an identity. A node sends its own to the right and passes all others on; where its
+/// own comes back it has seen every member, and decides.
+#[derive(Clone, Copy, Debug, PartialEq, Eq)]
+pub struct LeLann;
+
+/// What a node of this algorithm remembers.
+///
+/// Contracts see it as one record: the node's identity, those that it has seen, and its decision.
+#[derive(Debug, Drop)]
+pub struct LeLannState {
+    me: NodeId,
+    seen: Vec<NodeId>,
+    decided: Option<NodeId>,
+}
+
+impl Model for LeLannState {
+    ghost use Rattle.ring_lelann.specs.LeLann.{Knowledge};
+
+    ghost Value = { Knowledge };
+
+    ghost view = { λ a. record { me = a.me; seen = a.seen.items; decided = a.decided } };
+}
+
+impl LeLannState {
+    /// The identities of others that came from the left, in the order of their receipt. Takes no
+    /// memory.
+    pub fn seen(&self) -> &[NodeId]
+        ensures { result.now ≡ self.now.seen }
+    {
+        &self.seen
+    }
+}
+
+impl RingElection for LeLann {
+    ghost use Rattle.std.specs.Prelude.{true, false};
+    ghost use Rattle.std.proofs.Common.{rules};
+    ghost use Rattle.ring_lelann.specs.Lawful.{lelann_lawful};
+    ghost use Rattle.ring_lelann.specs.LeLann.{lelann_bound, lelann_first, lelann_fits, lelann_next, lelann_sends, lelann_table};
+
+    type Msg = NodeId;
+
+    type State = LeLannState;
+
+    ghost is_two_way = { λ _. false };
+
+    ghost is_greatest = { λ _. true };
+
+    ghost table = { λ _. lelann_table };
+
+    ghost fits = { λ _. lelann_fits };
+
+    ghost winner = { λ _. greatest_of };
+
+    ghost bound = { λ _. lelann_bound };
+
+    /// Never: messages go to the right alone.
+    fn two_way(&self) -> bool
+        ensures { result ≡ false }
+    {
+        false
+    }
+
+    /// Always: the winner is the greatest identity.
+    fn greatest(&self) -> bool
+        ensures { result ≡ true }
+    {
+        true
+    }
+
+    /// A node that has seen and decided nothing; it sends its own identity to the right. Takes no
+    /// memory.
+    fn start(&self, alloc: Global, me: NodeId) -> (LeLannState, Sends<NodeId>)
+        ensures state { result.0 ≡ lelann_first me }
+        ensures sends { result.1 ≡ rightward me }
+    {
+        let state = LeLannState {
+            me,
+            seen: Vec::new(alloc),
+            decided: None,
+        };
+        let sends = Sends {
+            left: None,
+            right: Some(me),
+        };
+        (state, sends)
+    }
+
+    /// From the left, another's identity is seen and passed on, and the node's own decides the
+    /// greatest of all that it knows, unless it has decided before. From the right nothing happens.
+    ///
+    /// Refused for want of memory only where the list of seen identities has to grow. It grows
+    /// before anything else changes, so a refusal leaves the state as it was.
+    fn receive(
+        &self,
+        state: &mut LeLannState,
+        from: Side,
+        message: NodeId,
+    ) -> Result<Sends<NodeId>, NoMemory>
+        ensures free_at_home { message ≡ state.old.me → IsOk result }
+        ensures free_from_right { from ≡ side.Right → IsOk result }
+        ensures state { OnOk result (state.new ≡ lelann_next state.old from message) }
+        ensures sends { IfOk result (λ s. s ≡ lelann_sends state.old from message) }
+        ensures err { OnErr result (state.new ≡ state.old) }
+    {
+        let mut sends = Sends {
+            left: None,
+            right: None,
+        };
+        if from == Side::Left {
+            if message != state.me {
+                state.seen.push(message).map_err(|_| NoMemory)?;
+                sends.right = Some(message);
+            } else if state.decided.is_none() {
+                state.decided = Some(greatest(state.me, &state.seen));
+            }
+        }
+        Ok(sends)
+    }
+
+    /// The greatest identity that was known when the node's own first came back from the left, or
+    /// none.
+    fn decision(&self, state: &LeLannState) -> Option<NodeId>
+        ensures { result ≡ state.now.decided }
+    {
+        state.decided
+    }
+
+    ghost lawful = { λ _. lelann_lawful };
+
+    ghost equal_same = { λ a b h. Prim.search rules };
+
+    ghost equal_messages = { λ a b h. Prim.search rules };
+}
+
+/// The greatest of these identities.
+fn greatest(me: NodeId, seen: &[NodeId]) -> NodeId
+    ensures { result ≡ greatest_of (me ∷ seen.now) }
+{
+    let mut greatest = me;
+    for node in seen {
+        greatest = greatest.max(*node);
+    }
+    greatest
+}
+
+#[cfg(test)]
+mod tests {
+    use super::*;
+    use std::collections::VecDeque;
+    use std::test::Fail;
+
+    /// A member of a ring, and what is on its link to the right.
+    #[derive(Drop)]
+    struct Member {
+        state: LeLannState,
+        link: VecDeque<NodeId>,
+    }
+
+    /// The members of a ring after they have started.
+    fn started(alloc: Global, numbers: &[u32]) -> Result<Vec<Member>, Fail> {
+        let mut ring = Vec::new(alloc);
+        for number in numbers {
+            let me = NodeId::new(*number).ok_or("no identity is 0")?;
+            let (state, sends) = LeLann.start(alloc, me);
+            let mut link = VecDeque::new(alloc);
+            link.push_back(sends.right.ok_or("nothing was sent")?)?;
+            ring.push(Member { state, link })?;
+        }
+        Ok(ring)
+    }
+
+    /// Takes one message from the left at this position; whether there was one.
+    fn takes(ring: &mut [Member], position: usize) -> Result<bool, Fail> {
+        let left = position
+            .checked_sub(1)
+            .unwrap_or(ring.len().saturating_sub(1));
+        let Some(message) = ring
+            .get_mut(left)
+            .and_then(|sender| sender.link.pop_front())
+        else {
+            return Ok(false);
+        };
+        let member = ring.get_mut(position).ok_or("no such position")?;
+        let sends = LeLann.receive(&mut member.state, Side::Left, message)?;
+        if let Some(passed) = sends.right {
+            member.link.push_back(passed)?;
+        }
+        Ok(true)
+    }
+
+    /// Takes messages, each at the first position that has one, until none is left: how many.
+    fn settled(ring: &mut [Member]) -> Result<u32, Fail> {
+        for taken in 0..100 {
+            let mut idle = true;
+            for position in 0..ring.len() {
+                if takes(ring, position)? {
+                    idle = false;
+                    break;
+                }
+            }
+            if idle {
+                return Ok(taken);
+            }
+        }
+        Err("more than 100 messages".into())
+    }
+
+    #[test]
+    fn elects_the_greatest_with_n_times_n_messages(rt: HostRuntime) -> Result<(), Fail> {
+        for (numbers, messages, leader) in [([3, 1, 2].as_slice(), 9, 3), ([7].as_slice(), 1, 7)] {
+            let mut ring = started(rt.alloc(), numbers)?;
+            assert_eq!(rt; settled(&mut ring)?, messages);
+            for member in &ring {
+                assert_eq!(rt; LeLann.decision(&member.state), NodeId::new(leader));
+            }
+        }
+        Ok(())
+    }
+
+    #[test]
+    fn shows_what_it_has_seen(rt: HostRuntime) -> Result<(), Fail> {
+        let [me, second, third] = [3, 2, 1].map(NodeId::new);
+        let me = me.ok_or("no identity is 0")?;
+        let second = second.ok_or("no identity is 0")?;
+        let third = third.ok_or("no identity is 0")?;
+        let (mut state, _) = LeLann.start(rt.alloc(), me);
+        for (from, node) in [(Side::Left, second), (Side::Right, me), (Side::Left, third)] {
+            LeLann.receive(&mut state, from, node)?;
+            assert_eq!(rt; LeLann.decision(&state), None);
+        }
+        LeLann.receive(&mut state, Side::Left, me)?;
+        assert_eq!(rt; state.seen(), [second, third].as_slice());
+        assert_eq!(rt; LeLann.decision(&state), Some(me));
+        Ok(())
+    }
+}

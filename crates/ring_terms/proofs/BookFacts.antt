@@ -1,0 +1,161 @@
+-- What a book shows of a group that was looked up, and what it keeps after a write or an insert.
+use Rattle.std.proofs.Common.{◌≡◌, ◌<◌, ◌≤◌, ℕ, Bool, true, false, List, [], ◌∷◌, ◌++◌, length, Option, None, Some, refl, sym, ◌∙◌, ap, subst, arith, inl, inr}
+use Rattle.std.specs.Prelude.{Result, Ok, Err, is_some, nat_le, position, slice_get}
+use Rattle.std.specs.Map.{keys_of, lookup, set_value}
+use Rattle.std.specs.List.{IsDistinct}
+use Rattle.std.specs.Option.{option_map}
+use Rattle.std.specs.Str.{bytes_eq}
+use Rattle.std.proofs.lemmas.Cmp.{nat_list_eq_equiv}
+use Rattle.std.proofs.lemmas.Bool.Decides.{nat_tests}
+use Rattle.std.proofs.lemmas.List.{length-map, length_push, map-append}
+use Rattle.std.proofs.lemmas.Map.Steps.{set_value_same}
+use Rattle.std.proofs.lemmas.Option.{none-some, slice_get-map}
+use Rattle.std.proofs.lemmas.Slice.Eq.{bytes_eq-Decides}
+use Rattle.ring_id.specs.declared.refusal.Refusal.{Refusal}
+use Rattle.ring_id.specs.declared.refusal.Refusal.TheVariants as refused
+use Rattle.ring_id.specs.Refusals.{IsRefusal}
+use Rattle.ring_node.specs.declared.charter.Charter.{Charter}
+use Rattle.ring_node.specs.Reports.{Told}
+use Rattle.ring_terms.specs.declared.group.Group.{Group}
+use Rattle.ring_terms.specs.declared.standing.Noting.{Noting}
+use Rattle.ring_terms.specs.declared.standing.Noting.TheVariants.{Noted, Known, Stale}
+use Rattle.ring_terms.specs.Books.{group_view, object_view, term_view, IsBook, IsGroupOf}
+use Rattle.ring_terms.specs.Charters.{running_in}
+use Rattle.ring_terms.specs.Commands.{create_refusal, in_group, Answers, Shows}
+use Rattle.ring_terms.specs.Kept.{IsGroupKept, IsKept, IsTermKept}
+use Rattle.ring_terms.specs.Notes.{NotesGroup, NotesOf}
+use Rattle.ring_terms.specs.Object.{GroupView, InGroup, Object, OfGroup, find, names, with_group}
+use Rattle.ring_terms.proofs.Entries.{is_some-map, keys-map, lookup-map, lookup-push, option_map-some, position-apart, set_value-map, slice_get-seen}
+
+-- a group that was looked up is found in what the book shows
+pub found_in : {E : Type 0} (entries : List (List ℕ × Group E)) (object : Object E) → object_view entries ≡ object → (name : List ℕ) (g : Group E) →
+    Some g ≡ lookup (bytes_eq name) entries → find name object ≡ Some (group_view g)
+found_in {E} entries object is name g at =
+    subst (λ (o : Object E). find name o ≡ Some (group_view g)) is (lookup-map (bytes_eq name) (group_view {E = E}) entries ∙ ap (option_map (group_view {E = E})) (sym at))
+
+-- and one that was looked for in vain is not
+pub missing_in : {E : Type 0} (entries : List (List ℕ × Group E)) (object : Object E) → object_view entries ≡ object → (name : List ℕ) →
+    None ≡ lookup (bytes_eq name) entries → find name object ≡ None
+missing_in {E} entries object is name at =
+    subst (λ (o : Object E). find name o ≡ None) is (lookup-map (bytes_eq name) (group_view {E = E}) entries ∙ ap (option_map (group_view {E = E})) (sym at))
+
+-- where no group has this name, that is the first refusal
+pub no_group : {E : Type 0} (object : Object E) (name : List ℕ) (first : GroupView E → Option Refusal) (grows : Bool) → find name object ≡ None → IsRefusal (in_group name first object) grows refused.NoGroup
+no_group object name first grows missing = rw missing refl
+
+-- the names that a book shows are the keys of its entries
+pub names_in : {E : Type 0} (entries : List (List ℕ × Group E)) (object : Object E) → object_view entries ≡ object → names object ≡ keys_of entries
+names_in {E} entries object is = ap names (sym is) ∙ keys-map (group_view {E = E}) entries
+
+-- what a group shows is what the book shows of the group of that name
+pub group_shows : {E A : Type 0} (object : Object E) (name : List ℕ) (group : GroupView E) → find name object ≡ Some group →
+    (first : GroupView E → Option Refusal) (grows : Bool) (answer : Result A Refusal) (Says : A → GroupView E → Type 0) →
+    Shows (first group) grows answer (λ a. Says a group) → Shows (in_group name first object) grows answer (λ a. OfGroup name (Says a) object)
+group_shows object name group found first grows (Ok a) Says shows =
+    (rw found shows.0, record { group = group; found = found; says = shows.1 })
+group_shows object name group found first grows (Err refusal) Says shows = rw found shows
+
+module _ {E : Type 0} (entries : List (List ℕ × Group E)) (object : Object E) (is : object_view entries ≡ object) (name : List ℕ) (g h : Group E)
+    (at : Some g ≡ lookup (bytes_eq name) entries) (after : List (List ℕ × Group E)) (written : after ≡ set_value (bytes_eq name) entries h) where
+  found : find name object ≡ Some (group_view g)
+  found = found_in entries object is name g at
+
+  -- a group that is written is written in what the book shows
+  shown_after : object_view after ≡ with_group name (group_view h) object
+  shown_after =
+      ap (object_view {E = E}) written ∙ sym (set_value-map (bytes_eq name) (group_view {E = E}) entries h) ∙ ap (with_group name (group_view h)) is
+
+  -- and changes nothing where it shows the same
+  same_after : group_view h ≡ group_view g → object_view after ≡ object
+  same_after same =
+      shown_after ∙ ap (λ v. with_group name v object) same ∙ set_value_same (bytes_eq name) object (group_view g) found
+
+  -- what a command does to a group is what it does to the object
+  pub group_answers : {A : Type 0} (first : GroupView E → Option Refusal) (grows : Bool) (answer : Result A Refusal) (Does : A → GroupView E → GroupView E → Type 0) →
+      Answers (first (group_view g)) grows (group_view g) answer (group_view h) (λ a. Does a (group_view g) (group_view h)) →
+      Answers (in_group name first object) grows object answer (object_view after) (λ a. InGroup name (Does a) object (object_view after))
+  group_answers first grows (Ok a) Does answers =
+      (rw found answers.0, record { before = group_view g; after = group_view h; found = found; does = answers.1; rest = shown_after })
+  group_answers first grows (Err refusal) Does answers = (same_after answers.0, rw found answers.1)
+
+  -- and so it is with a report
+  pub group_notes : (greatest : E → Bool) (report : Told E) (noting : Noting) → NotesGroup greatest name report (group_view g) noting (group_view h) → NotesOf greatest name report object noting (object_view after)
+  group_notes greatest report Noted n =
+      (rw found n.0, record { before = group_view g; after = group_view h; found = found; does = n.1; rest = shown_after })
+  group_notes greatest report Known n = (rw found n.0, same_after n.1, record { group = group_view g; found = found; says = n.2 })
+  group_notes greatest report Stale n = (λ running. n.0 (rw found at running), same_after n.1)
+
+-- where no group has this name, no charter is of a last term there
+pub nothing_runs : {E : Type 0} (name : List ℕ) (object : Object E) (charter : Charter E) → find name object ≡ None → running_in name object ≡ Some charter → ⊥
+nothing_runs name object charter missing running = none-some charter (sym (rw missing refl) ∙ running)
+
+-- two names that are equal as lists of bytes are one
+one_name : (name other : List ℕ) → bytes_eq name other ≡ true → name ≡ other
+one_name name other same = (bytes_eq-Decides name other).0 same
+
+module _ {E : Type 0} (winner : E → List ℕ → ℕ) (entries : List (List ℕ × Group E)) (kept : IsBook winner entries) (name : List ℕ) (h : Group E) (of : IsGroupOf winner name h) where
+  -- what a book keeps of its groups, after one was added
+  pub kept_after_push : length entries < 256 → IsBook winner (entries ++ (name, h) ∷ [])
+  kept_after_push room = record {
+    few = omega (arith, length_push entries (name, h));
+    each = λ other u is. elim (lookup-push (bytes_eq other) entries name h u is) [
+      | inl before ↦ kept.each other u before
+      | inr last ↦ subst (λ v. IsGroupOf winner other v) last.1 (subst (λ n. IsGroupOf winner n h) (sym (one_name other name last.0)) of)
+    ];
+  }
+
+-- create, where a group has this name
+pub create_exists : {E : Type 0} (name : List ℕ) (object : Object E) → is_some (find name object) ≡ true → IsRefusal (create_refusal name object) true refused.Exists
+create_exists name object there = rw there refl
+
+-- where as many groups stand as may
+pub create_full : {E : Type 0} (name : List ℕ) (object : Object E) → is_some (find name object) ≡ false → 256 ≤ length object → IsRefusal (create_refusal name object) true refused.GroupLimit
+create_full name object new full =
+    let limit : nat_le 256 (length object) ≡ true = grind (arith, nat_tests) in
+    rw (new, limit) refl
+
+-- and where nothing but memory refuses it
+pub create_free : {E : Type 0} (name : List ℕ) (object : Object E) → is_some (find name object) ≡ false → length object < 256 → create_refusal name object ≡ None
+create_free name object new room =
+    let limit : nat_le 256 (length object) ≡ false = grind (arith, nat_tests) in
+    rw (new, limit) refl
+
+-- whether a book's entries have a name is whether what it shows has it
+pub some_in : {E : Type 0} (entries : List (List ℕ × Group E)) (object : Object E) → object_view entries ≡ object → (name : List ℕ) → is_some (find name object) ≡ is_some (lookup (bytes_eq name) entries)
+some_in {E} entries object is name =
+    ap (λ (o : Object E). is_some (find name o)) (sym is) ∙ ap is_some (lookup-map (bytes_eq name) (group_view {E = E}) entries) ∙ is_some-map (group_view {E = E}) (lookup (bytes_eq name) entries)
+
+-- what a book shows has as many groups as it has entries
+pub length_in : {E : Type 0} (entries : List (List ℕ × Group E)) (object : Object E) → object_view entries ≡ object → length object ≡ length entries
+length_in {E} entries object is = ap length (sym is) ∙ length-map entries (λ (e : List ℕ × Group E). (e.0, group_view e.1))
+
+-- one more entry is seen as one more group
+pub shown_push : {E : Type 0} (entries : List (List ℕ × Group E)) (object : Object E) → object_view entries ≡ object → (name : List ℕ) (g : Group E) (group : GroupView E) → group_view g ≡ group →
+    object_view (entries ++ (name, g) ∷ []) ≡ object ++ (name, group) ∷ []
+shown_push {E} entries object is name g group shown =
+    map-append (λ (e : List ℕ × Group E). (e.0, group_view e.1)) entries ((name, g) ∷ []) ∙ (λ j. is j ++ (name, shown j) ∷ [])
+
+-- a group of a book keeps what groups keep
+group_kept : {E : Type 0} (winner : E → List ℕ → ℕ) (name : List ℕ) (g : Group E) → IsGroupOf winner name g → IsGroupKept winner (group_view g)
+group_kept {E} winner name g of = record {
+  few = of.few;
+  distinct = of.distinct;
+  short = omega (arith, length-map g.terms.items (term_view {E = E}), of.short);
+  each = λ n term at.
+      let t = option_map-some (term_view {E = E}) (slice_get g.terms.items n) term (sym (slice_get-map (term_view {E = E}) g.terms.items n) ∙ at) in
+      let is = of.each n t.0 t.1 in
+      subst (λ v. IsTermKept (winner g.algorithm) v) t.2 (subst (λ a. IsTermKept (winner a) (term_view t.0)) (ap (λ ch. ch.algorithm) is.chartered) is.kept);
+}
+
+-- and so what a book shows is as it should be
+pub object_kept : {E : Type 0} (winner : E → List ℕ → ℕ) (entries : List (List ℕ × Group E)) (object : Object E) → object_view entries ≡ object → IsBook winner entries → IsDistinct bytes_eq (keys_of entries) →
+    IsKept winner object
+object_kept {E} winner entries object is kept apart = record {
+  few = omega (arith, length_in entries object is, kept.few);
+  each = λ name group at.
+      let g = option_map-some (group_view {E = E}) (lookup (bytes_eq name) entries) group (sym (lookup-map (bytes_eq name) (group_view {E = E}) entries) ∙ subst (λ (o : Object E). find name o ≡ Some group) (sym is) at) in
+      subst (IsGroupKept winner) g.2 (group_kept winner name g.0 (kept.each name g.0 g.1));
+  apart = λ place name group at.
+      let key = slice_get-seen (group_view {E = E}) entries place name group (subst (λ (o : Object E). slice_get o place ≡ Some (name, group)) (sym is) at) in
+      ap (position (bytes_eq name)) (names_in entries object is) ∙ position-apart bytes_eq nat_list_eq_equiv (keys_of entries) place name apart key;
+}

@@ -1,0 +1,50 @@
+-- A report of a term's own charter: the member that it names becomes informed, and the leader is the
+-- winner of the ring.
+use Rattle.std.proofs.Common.{◌≡◌, ℕ, Bool, true, false, List, Option, None, Some, refl, sym, ◌∙◌, ap, subst, true≢false}
+use Rattle.std.specs.Prelude.{slice_get, IsSome}
+use Rattle.ring_id.specs.declared.side.Side.{Side}
+use Rattle.ring_roster.specs.Ring.{IsRing, position_of}
+use Rattle.ring_election.specs.Tables.{Table}
+use Rattle.ring_election.specs.Laws.{Lawful}
+use Rattle.ring_terms.specs.Object.{TermView}
+use Rattle.ring_terms.specs.Kept.{IsTermKept}
+use Rattle.ring_terms.specs.Moves.{IsNamed, InformsIn, LeadsAfter, inform}
+use Rattle.ring_terms.specs.Standings.{IsInformedIn}
+
+-- the winner of a ring may be named
+pub winner_named : {S M : Type 0} {two_way greatest : Bool} {t : Table S M} {fits : List ℕ → ℕ → Side → ℕ → M → Type 0} {winner : List ℕ → ℕ} → Lawful two_way greatest t fits winner → (ring : List ℕ) → IsRing ring → IsNamed greatest ring (winner ring)
+winner_named laws ring is_ring = record {
+  inside = laws.winner_is_member ring is_ring;
+  tops = λ promised i v there. laws.winner_is_greatest promised ring i v is_ring there;
+}
+
+-- where the leader that is there is the winner, the winner leads after
+leads_after : (greatest : Bool) (ring : List ℕ) (winner : ℕ) (was : Option ℕ) → ((leader : ℕ) → was ≡ Some leader → leader ≡ winner) → IsNamed greatest ring winner → LeadsAfter greatest ring was winner
+leads_after greatest ring winner None wins named = named
+leads_after greatest ring winner (Some leader) wins named = sym (wins leader refl)
+
+-- where there is a leader, and it can only be the winner, it is the winner
+leader_is : (winner : ℕ) (was : Option ℕ) → ((leader : ℕ) → was ≡ Some leader → leader ≡ winner) → IsSome was → was ≡ Some winner
+leader_is winner None wins there = absurd (true≢false (sym there))
+leader_is winner (Some leader) wins there = ap Some (wins leader refl)
+
+module _ (winner : List ℕ → ℕ) (term : TermView) (kept : IsTermKept winner term) (member leader position : ℕ)
+    (placed : position_of member term.ring ≡ Some position) (leads : leader ≡ winner term.ring) where
+  -- the member was informed already
+  pub known : slice_get term.informed position ≡ Some true → IsInformedIn member leader term
+  known informed = record {
+    position = position;
+    placed = placed;
+    informed = informed;
+    leads = leader_is (winner term.ring) term.leader kept.wins (kept.led position informed) ∙ ap Some (sym leads);
+  }
+
+  -- the member becomes informed
+  pub noted : (greatest : Bool) → IsNamed greatest term.ring (winner term.ring) → slice_get term.informed position ≡ Some false → InformsIn greatest member leader term (inform position leader term)
+  noted greatest named uninformed = record {
+    position = position;
+    placed = placed;
+    uninformed = uninformed;
+    leads = subst (λ v. LeadsAfter greatest term.ring term.leader v) (sym leads) (leads_after greatest term.ring (winner term.ring) term.leader kept.wins named);
+    changed = refl;
+  }

@@ -1,0 +1,6 @@
+mod BookFacts
+mod Entries
+mod GroupFacts
+mod Informing
+mod Members
+mod Places

@@ -1,0 +1,58 @@
+-- Members with different numbers, after one joined and after one left; and where a member stands.
+use Rattle.std.proofs.Common.{◌≡◌, ◌≤◌, ◌==◌, ℕ, suc, Bool, true, false, cond, ◌||◌, true≢false, List, [], ◌∷◌, ◌++◌, length, filter, get_or, None, Some, refl, arith}
+use Rattle.std.specs.Prelude.{slice_get}
+use Rattle.std.specs.List.{list_any, position_or_len}
+use Rattle.std.proofs.lemmas.Option.{get_or_from_slice_get, slice_get_within}
+use Rattle.std.proofs.lemmas.List.Sums.{fails_before_first}
+use Rattle.std.proofs.lemmas.Bool.Decides.{nat_tests}
+use Rattle.ring_roster.specs.Ring.{has_number, has_repeat, position_of}
+
+-- neither part holds of what does not hold
+or_false : (a b : Bool) → (a || b) ≡ false → (a ≡ false) × (b ≡ false)
+or_false false b h = (refl, h)
+or_false true b h = absurd (true≢false h)
+
+-- a number that nobody has is not had by a member of either end
+pub list_any-push : (node member : ℕ) (others : List ℕ) → list_any (has_number node) others ≡ false → node == member ≡ false → list_any (has_number node) (others ++ member ∷ []) ≡ false
+list_any-push node member [] h e = grind (arith, nat_tests)
+list_any-push node member (x ∷ xs) h e = let rest = list_any-push node member xs in grind (arith, nat_tests, rest)
+
+-- members that differ in their numbers still do when one with another number joins
+pub has_repeat-push : (members : List ℕ) (node : ℕ) → has_repeat members ≡ false → list_any (has_number node) members ≡ false → has_repeat (members ++ node ∷ []) ≡ false
+has_repeat-push [] node h e = refl
+has_repeat-push (x ∷ xs) node h e =
+    let rest = has_repeat-push xs node in
+    let front = list_any-push x node xs in
+    grind (arith, nat_tests, rest, front)
+
+-- a number that nobody has is had by none of some of them
+pub list_any-filter : (node : ℕ) (stays : ℕ → Bool) (members : List ℕ) → list_any (has_number node) members ≡ false → list_any (has_number node) (filter stays members) ≡ false
+list_any-filter node stays [] h = refl
+list_any-filter node stays (x ∷ xs) h =
+    let parts = or_false (has_number node x) (list_any (has_number node) xs) h in
+    let rest = list_any-filter node stays xs parts.1 in
+    elim (stays x) as (λ b. list_any (has_number node) (cond b (x ∷ filter stays xs) (filter stays xs)) ≡ false) [ true ↦ rw (parts.0, rest) refl | false ↦ rest ]
+
+-- members that differ in their numbers still do when some are out
+pub has_repeat-filter : (stays : ℕ → Bool) (members : List ℕ) → has_repeat members ≡ false → has_repeat (filter stays members) ≡ false
+has_repeat-filter stays [] h = refl
+has_repeat-filter stays (x ∷ xs) h =
+    let parts = or_false (list_any (has_number x) xs) (has_repeat xs) h in
+    let rest = has_repeat-filter stays xs parts.1 in
+    elim (stays x) as (λ b. has_repeat (cond b (x ∷ filter stays xs) (filter stays xs)) ≡ false) [ true ↦ rw (list_any-filter x stays xs parts.0, rest) refl | false ↦ rest ]
+
+-- and are no more
+pub length-filter-le : (stays : ℕ → Bool) (members : List ℕ) → length (filter stays members) ≤ length members
+length-filter-le stays [] = omega arith
+length-filter-le stays (x ∷ xs) =
+    let rest = length-filter-le stays xs in
+    elim (stays x) as (λ b. length (cond b (x ∷ filter stays xs) (filter stays xs)) ≤ suc (length xs)) [ true ↦ omega arith | false ↦ omega arith ]
+
+-- a member has a position
+pub position_of-member : (node : ℕ) (ring : List ℕ) (i : ℕ) → slice_get ring i ≡ Some node → position_of node ring ≡ None → ⊥
+position_of-member node ring i there none =
+    let within = slice_get_within ring i node there in
+    let here : get_or ring i node ≡ node = get_or_from_slice_get ring i node node there in
+    let past : length ring ≤ position_or_len (has_number node) ring = grind (arith, nat_tests) in
+    let fails : has_number node (get_or ring i node) ≡ false = fails_before_first (has_number node) ring i node (omega arith) in
+    grind (arith, nat_tests)

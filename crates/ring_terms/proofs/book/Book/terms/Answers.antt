@@ -1,0 +1,13 @@
+-- What the group that is found shows.
+use Rattle.std.proofs.Common.{◌≡◌}
+use Rattle.ring_terms.specs.Object.{leaders}
+use Rattle.ring_terms.proofs.BookFacts.{found_in, group_shows, missing_in, no_group}
+use Rattle.ring_terms.proofs.book.Book.terms.Goals as goal
+
+pub returns-in_default : goal.returns-in_default
+returns-in_default g c = no_group c.args.self.now c.args.group _ _ (missing_in c.self.inside.groups.entries c.args.self.now c.self.view_is c.args.group c.in_default.ensures.value)
+
+pub returns : goal.returns
+returns g c =
+    let found = found_in c.self.inside.groups.entries c.args.self.now c.self.view_is c.args.group c.in-Some.found.now c.in-Some.ensures.value in
+    group_shows c.args.self.now c.args.group _ found _ _ _ (λ a v. a ≡ leaders v) c.terms.ensures

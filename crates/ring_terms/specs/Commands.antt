@@ -1,0 +1,87 @@
+-- The commands of the election object: when each is refused, and what each does. A refusal changes
+-- nothing.
+use Rattle.std.specs.Prelude.{◌≡◌, ◌+◌, ◌==◌, ℕ, Bool, not, nat_le, List, [], ◌∷◌, ◌++◌, length, filter, Option, None, is_some, Result, Ok, Err}
+use Rattle.std.specs.List.{list_any}
+use Rattle.ring_id.specs.declared.refusal.Refusal.{Refusal}
+use Rattle.ring_id.specs.declared.refusal.Refusal.TheVariants as refused
+use Rattle.ring_id.specs.Refusals.{first_of, unless_some, IsRefusal}
+use Rattle.ring_roster.specs.Ring.{has_number, position_of}
+use Rattle.ring_node.specs.declared.charter.Charter.{Charter}
+use Rattle.ring_terms.specs.Object.{GroupView, Object, TermView, find, last_term, new_group, new_term}
+use Rattle.ring_terms.specs.Charters.{next_charter}
+
+-- What a call that may change something answers: where a refusal holds it is answered and nothing
+-- changes; else it is done.
+abbrev pub Answers : {A S : Type 0} → Option Refusal → Bool → S → Result A Refusal → S → (A → Type 0) → Type 0
+Answers first grows old (Ok a) new done = (first ≡ None) × done a
+Answers first grows old (Err refusal) new done = (new ≡ old) × IsRefusal first grows refusal
+
+-- what a call that changes nothing answers
+abbrev pub Shows : {A : Type 0} → Option Refusal → Bool → Result A Refusal → (A → Type 0) → Type 0
+Shows first grows (Ok a) shown = (first ≡ None) × shown a
+Shows first grows (Err refusal) shown = IsRefusal first grows refusal
+
+-- the refusals of a command on a group: no group has this name, then those that the group has
+abbrev pub in_group : {E : Type 0} → List ℕ → (GroupView E → Option Refusal) → Object E → Option Refusal
+in_group name first object = unless_some (find name object) refused.NoGroup first
+
+-- create: a group has this name; 256 groups stand
+abbrev pub create_refusal : {E : Type 0} → List ℕ → Object E → Option Refusal
+create_refusal name object =
+    first_of (is_some (find name object)) refused.Exists
+    (first_of (nat_le 256 (length object)) refused.GroupLimit None)
+
+-- join: its number is a member's; 256 members stand
+abbrev pub join_refusal : {E : Type 0} → ℕ → GroupView E → Option Refusal
+join_refusal node group =
+    first_of (list_any (has_number node) group.members) refused.Member
+    (first_of (nat_le 256 (length group.members)) refused.RingFull None)
+
+-- leave: its number is no member's
+abbrev pub leave_refusal : {E : Type 0} → ℕ → GroupView E → Option Refusal
+leave_refusal node group = first_of (not (list_any (has_number node) group.members)) refused.NotMember None
+
+-- start: no members; 1000 terms were started
+abbrev pub start_refusal : {E : Type 0} → GroupView E → Option Refusal
+start_refusal group =
+    first_of (length group.members == 0) refused.Empty
+    (first_of (nat_le 1000 (length group.terms)) refused.TermLimit None)
+
+-- its number is not in the ring of this term
+abbrev pub member_refusal : ℕ → TermView → Option Refusal
+member_refusal node term = unless_some (position_of node term.ring) refused.NotInTerm (λ _. None)
+
+-- who: no term was started; its number is not in the ring of the last one
+abbrev pub who_refusal : {E : Type 0} → ℕ → GroupView E → Option Refusal
+who_refusal node group = unless_some (last_term group) refused.NoTerm (member_refusal node)
+
+-- running: no term was started
+abbrev pub running_refusal : {E : Type 0} → GroupView E → Option Refusal
+running_refusal group = unless_some (last_term group) refused.NoTerm (λ _. None)
+
+-- a command on a group that nothing but the want of a group of this name refuses
+abbrev pub never_refused : {E : Type 0} → GroupView E → Option Refusal
+never_refused group = None
+
+-- create adds a group last, without members or terms
+abbrev pub Creates : {E : Type 0} → List ℕ → E → Object E → Object E → Type 0
+Creates name algorithm old new = new ≡ old ++ (name, new_group algorithm) ∷ []
+
+-- join adds a member last
+abbrev pub Joins : {E : Type 0} → ℕ → GroupView E → GroupView E → Type 0
+Joins node old new = new ≡ record old { members = old.members ++ node ∷ [] }
+
+-- leave takes the member with this number out, and keeps the order of the rest
+abbrev pub Leaves : {E : Type 0} → ℕ → GroupView E → GroupView E → Type 0
+Leaves node old new = new ≡ record old { members = filter (λ member. not (has_number node member)) old.members }
+
+-- start adds a term with the next number, whose ring is the member list, with no leader and nobody
+-- informed
+pub record Starts {E : Type 0} (number : ℕ) (old new : GroupView E) : Type 0 where
+  pub numbered : number ≡ length old.terms + 1
+  pub started : new ≡ record old { terms = old.terms ++ new_term old.members ∷ [] }
+
+-- start answers the charter of the term that it adds
+pub record StartsWith {E : Type 0} (name : List ℕ) (charter : Charter E) (old new : GroupView E) : Type 0 where
+  pub chartered : charter ≡ next_charter name old
+  pub starts : Starts charter.term old new

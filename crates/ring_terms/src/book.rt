@@ -1,0 +1,194 @@
+ghost use Rattle.std.specs.Prelude.{◌≡◌, [], length, None, Some, true, false};
+ghost use Rattle.ring_terms.specs.Object.{InGroup, OfGroup, leaders, names, place_of};
+ghost use Rattle.ring_terms.specs.Charters.{next_charter, running_charter};
+ghost use Rattle.ring_terms.specs.Commands.{create_refusal, in_group, join_refusal, leave_refusal, never_refused, running_refusal, start_refusal, who_refusal, Answers, Creates, Joins, Leaves, Shows, StartsWith};
+ghost use Rattle.ring_terms.specs.Kept.{IsKept};
+ghost use Rattle.ring_terms.specs.Notes.{Notes};
+ghost use Rattle.ring_terms.specs.Standings.{Tells};
+
+use crate::group::Group;
+use crate::lists::{GroupList, MemberList, TermList};
+use crate::standing::{Noting, Standing};
+use indexmap::IndexMap;
+use ring_election::RingElection;
+use ring_id::{GroupName, NodeId, Refusal};
+use ring_node::{Charter, Report};
+use std::alloc::Global;
+use std::marker::Model;
+use std::sync::Arc;
+
+/// The greatest number of groups of a book.
+const MOST_GROUPS: usize = 256;
+
+/// All groups and their terms. Contracts see a book as the election object.
+#[derive(Drop)]
+pub struct Book<E: RingElection> {
+    groups: IndexMap<GroupName, Group<E>>,
+}
+
+impl<E: RingElection> Model for Book<E> {
+    ghost use Rattle.ring_terms.specs.Object.{Object};
+
+    ghost Value = { Object E };
+
+    ghost use Rattle.ring_terms.specs.Books.{object_view, IsBook};
+
+    ghost view = { λ a. object_view a.groups.entries };
+
+    ghost invariant = { λ a. IsBook E.winner a.groups.entries };
+}
+
+impl<E: RingElection> Book<E> {
+    /// A book without groups. Takes no memory.
+    pub fn new(alloc: Global) -> Book<E>
+        ensures { result ≡ [] }
+    {
+        Book {
+            groups: IndexMap::new(alloc),
+        }
+    }
+
+    /// The number of groups, at most 256. Takes no memory.
+    pub fn len(&self) -> usize
+        ensures value { result ≡ length self.now }
+        ensures kept { IsKept E.winner self.now }
+    {
+        self.groups.len()
+    }
+
+    /// Adds a group last, without members or terms. Refused, the first that holds: `Exists` where a
+    /// group has this name, `GroupLimit` where 256 groups stand, `NoMemory`.
+    pub fn create(&mut self, alloc: Global, group: GroupName, algorithm: E) -> Result<(), Refusal>
+        ensures { Answers (create_refusal group self.old) true self.old result self.new (λ _. Creates group algorithm self.old self.new) }
+    {
+        if self.groups.contains_key(&group) {
+            return Err(Refusal::Exists);
+        }
+        if self.groups.len() >= MOST_GROUPS {
+            return Err(Refusal::GroupLimit);
+        }
+        let made = Group::new(alloc, group, algorithm);
+        let Ok(_) = self.groups.insert(group, made) else {
+            return Err(Refusal::NoMemory);
+        };
+        Ok(())
+    }
+
+    /// Adds a member last. Refused, the first that holds: `NoGroup`, `Member` where a member has this
+    /// identity's number, `RingFull` where 256 members stand, `NoMemory`.
+    pub fn join(&mut self, group: GroupName, node: NodeId) -> Result<(), Refusal>
+        ensures { Answers (in_group group (join_refusal node) self.old) true self.old result self.new (λ _. InGroup group (Joins node) self.old self.new) }
+    {
+        let Some(found) = self.groups.get_mut(&group) else {
+            return Err(Refusal::NoGroup);
+        };
+        found.join(node)
+    }
+
+    /// Takes the member with this identity's number out, and keeps the order of the rest. Takes no
+    /// memory. Refused, the first that holds: `NoGroup`, `NotMember` where no member has it.
+    pub fn leave(&mut self, group: GroupName, node: NodeId) -> Result<(), Refusal>
+        ensures { Answers (in_group group (leave_refusal node) self.old) false self.old result self.new (λ _. InGroup group (Leaves node) self.old self.new) }
+    {
+        let Some(found) = self.groups.get_mut(&group) else {
+            return Err(Refusal::NoGroup);
+        };
+        found.leave(node)
+    }
+
+    /// The charter that `start` would make now; nothing changes. Refused as `start` is.
+    pub fn plan(&self, alloc: Global, group: GroupName) -> Result<Arc<Charter<E>>, Refusal>
+        ensures { Shows (in_group group start_refusal self.now) true result (λ c. OfGroup group (λ g. c.value ≡ next_charter group g) self.now) }
+    {
+        let Some(found) = self.groups.get(&group) else {
+            return Err(Refusal::NoGroup);
+        };
+        found.plan(alloc)
+    }
+
+    /// Starts a term, whose ring is the member list in joining order, with no leader and nobody
+    /// informed, and gives its charter. Refused, the first that holds: `NoGroup`, `Empty` where there
+    /// are no members, `TermLimit` where 1000 terms were started, `NoMemory`.
+    pub fn start(&mut self, alloc: Global, group: GroupName) -> Result<Arc<Charter<E>>, Refusal>
+        ensures { Answers (in_group group start_refusal self.old) true self.old result self.new (λ c. InGroup group (StartsWith group c.value) self.old self.new) }
+    {
+        let Some(found) = self.groups.get_mut(&group) else {
+            return Err(Refusal::NoGroup);
+        };
+        found.start(alloc)
+    }
+
+    /// What the last term says to a member: its leader where that member is informed, else undecided.
+    /// Takes no memory. Refused, the first that holds: `NoGroup`, `NoTerm`, `NotInTerm` where no
+    /// member of the term's ring has this identity's number.
+    pub fn who(&self, group: GroupName, node: NodeId) -> Result<Standing, Refusal>
+        ensures { Shows (in_group group (who_refusal node) self.now) false result (λ s. OfGroup group (Tells node s) self.now) }
+    {
+        let Some(found) = self.groups.get(&group) else {
+            return Err(Refusal::NoGroup);
+        };
+        found.who(node)
+    }
+
+    /// The charter of the last term. Takes no memory. Refused, the first that holds: `NoGroup`,
+    /// `NoTerm`.
+    pub fn running(&self, group: GroupName) -> Result<&Arc<Charter<E>>, Refusal>
+        ensures { Shows (in_group group running_refusal self.now) false result (λ c. OfGroup group (λ g. running_charter group g ≡ Some c.now.value) self.now) }
+    {
+        let Some(found) = self.groups.get(&group) else {
+            return Err(Refusal::NoGroup);
+        };
+        found.running()
+    }
+
+    /// The members of a group in joining order. Refused, the first that holds: `NoGroup`, `NoMemory`.
+    pub fn members(&self, alloc: Global, group: GroupName) -> Result<MemberList, Refusal>
+        ensures { Shows (in_group group never_refused self.now) true result (λ list. OfGroup group (λ g. list ≡ g.members) self.now) }
+    {
+        let Some(found) = self.groups.get(&group) else {
+            return Err(Refusal::NoGroup);
+        };
+        found.members(alloc)
+    }
+
+    /// The leader of each term of a group, or none, in order. Refused, the first that holds:
+    /// `NoGroup`, `NoMemory`.
+    pub fn terms(&self, alloc: Global, group: GroupName) -> Result<TermList, Refusal>
+        ensures { Shows (in_group group never_refused self.now) true result (λ list. OfGroup group (λ g. list ≡ leaders g) self.now) }
+    {
+        let Some(found) = self.groups.get(&group) else {
+            return Err(Refusal::NoGroup);
+        };
+        found.terms(alloc)
+    }
+
+    /// The names of all groups in order of creation. Refused for want of memory alone.
+    pub fn groups(&self, alloc: Global) -> Result<GroupList, Refusal>
+        ensures { Shows None true result (λ list. list ≡ names self.now) }
+    {
+        let Ok(names) = self.groups.keys().copied().collect(alloc) else {
+            return Err(Refusal::NoMemory);
+        };
+        Ok(GroupList::new(names))
+    }
+
+    /// Where the group of this name stands in order of creation, from 0 on; none where no group has
+    /// this name. Takes no memory.
+    pub fn place(&self, group: GroupName) -> Option<usize>
+        ensures { result ≡ place_of group self.now }
+    {
+        self.groups.get_index_of(&group)
+    }
+
+    /// Files a report: the member is informed of the leader of the last term of its group. Takes no
+    /// memory. `Stale` exactly where the report's charter is not that of the last term of a group
+    /// here, else `Known` exactly where the member was informed already, else `Noted`.
+    pub fn note(&mut self, report: &Report<E>) -> Noting
+        ensures { Notes E.is_greatest report.now self.old result self.new }
+    {
+        let Some(found) = self.groups.get_mut(&report.charter().group()) else {
+            return Noting::Stale;
+        };
+        found.note(report)
+    }
+}

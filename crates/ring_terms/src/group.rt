@@ -1,0 +1,186 @@
+ghost use Rattle.std.specs.Prelude.{◌≡◌, ◌+◌, ◌<◌, ◌≤◌, Some, filter, length, map, not, true, false};
+ghost use Rattle.std.specs.List.{list_any};
+ghost use Rattle.ring_roster.specs.Ring.{has_number};
+ghost use Rattle.ring_terms.specs.Object.{new_group, leaders};
+ghost use Rattle.ring_terms.specs.Charters.{next_charter, running_charter};
+ghost use Rattle.ring_terms.specs.Commands.{join_refusal, leave_refusal, never_refused, running_refusal, start_refusal, who_refusal, Answers, Joins, Leaves, Shows, StartsWith};
+ghost use Rattle.ring_terms.specs.Notes.{NotesGroup};
+ghost use Rattle.ring_terms.specs.Standings.{Tells};
+
+use crate::lists::{MemberList, TermList};
+use crate::standing::{Noting, Standing};
+use crate::term::Term;
+use ring_election::RingElection;
+use ring_id::{GroupName, NodeId, Refusal, TermNo};
+use ring_node::{Charter, Report};
+use ring_roster::Roster;
+use std::alloc::Global;
+use std::sync::Arc;
+
+/// One group: its name, its algorithm, its members in joining order, and its terms in order.
+#[derive(Drop)]
+pub(crate) struct Group<E> {
+    name: GroupName,
+    algorithm: E,
+    members: Vec<NodeId>,
+    terms: Vec<Term<E>>,
+}
+
+impl<E: RingElection> Group<E> {
+    ghost use Rattle.ring_terms.specs.Books.{group_view, IsGroupOf};
+
+    /// A group without members or terms.
+    pub(crate) fn new(alloc: Global, name: GroupName, algorithm: E) -> Group<E>
+        ensures shown { group_view result ≡ new_group algorithm }
+        ensures kept { IsGroupOf E.winner name result }
+    {
+        Group {
+            name,
+            algorithm,
+            members: Vec::new(alloc),
+            terms: Vec::new(alloc),
+        }
+    }
+
+    /// Adds a member last.
+    pub(crate) fn join(&mut self, node: NodeId) -> Result<(), Refusal>
+        requires { IsGroupOf E.winner self.old.name self.old }
+        ensures answer { Answers (join_refusal node (group_view self.old)) true (group_view self.old) result (group_view self.new) (λ _. Joins node (group_view self.old) (group_view self.new)) }
+        ensures kept { IsGroupOf E.winner self.old.name self.new }
+    {
+        if self.has_member(node) {
+            return Err(Refusal::Member);
+        }
+        if self.members.len() >= Roster::MOST {
+            return Err(Refusal::RingFull);
+        }
+        let Ok(()) = self.members.push(node) else {
+            return Err(Refusal::NoMemory);
+        };
+        Ok(())
+    }
+
+    /// Whether a member has this identity's number.
+    fn has_member(&self, node: NodeId) -> bool
+        ensures { result ≡ list_any (has_number node) self.now.members.items }
+    {
+        self.members.iter().any(|member| member.get() == node.get())
+    }
+
+    /// Takes out the member with this identity's number, and keeps the order of the rest.
+    pub(crate) fn leave(&mut self, node: NodeId) -> Result<(), Refusal>
+        requires { IsGroupOf E.winner self.old.name self.old }
+        ensures answer { Answers (leave_refusal node (group_view self.old)) false (group_view self.old) result (group_view self.new) (λ _. Leaves node (group_view self.old) (group_view self.new)) }
+        ensures kept { IsGroupOf E.winner self.old.name self.new }
+    {
+        if !self.has_member(node) {
+            return Err(Refusal::NotMember);
+        }
+        take_out(&mut self.members, node);
+        Ok(())
+    }
+
+    /// The members.
+    pub(crate) fn members(&self, alloc: Global) -> Result<MemberList, Refusal>
+        ensures { Shows (never_refused (group_view self.now)) true result (λ list. list ≡ (group_view self.now).members) }
+    {
+        let Ok(members) = Vec::from_slice(alloc, &self.members) else {
+            return Err(Refusal::NoMemory);
+        };
+        Ok(MemberList::new(members))
+    }
+
+    /// The leader of each term.
+    pub(crate) fn terms(&self, alloc: Global) -> Result<TermList, Refusal>
+        ensures { Shows (never_refused (group_view self.now)) true result (λ list. list ≡ leaders (group_view self.now)) }
+    {
+        let Ok(leaders) = self.terms.iter().map(|term| term.leader()).collect(alloc) else {
+            return Err(Refusal::NoMemory);
+        };
+        Ok(TermList::new(leaders))
+    }
+
+    /// The charter of the term that would start now.
+    pub(crate) fn plan(&self, alloc: Global) -> Result<Arc<Charter<E>>, Refusal>
+        requires { IsGroupOf E.winner self.now.name self.now }
+        ensures { Shows (start_refusal (group_view self.now)) true result (λ c. c.value ≡ next_charter self.now.name (group_view self.now)) }
+    {
+        if self.members.is_empty() {
+            return Err(Refusal::Empty);
+        }
+        let Some(term) = TermNo::new((self.terms.len() + 1) as u16) else {
+            return Err(Refusal::TermLimit);
+        };
+        let roster = match Roster::from_members(alloc, &self.members) {
+            Ok(roster) => roster,
+            Err(refusal) => return Err(refusal),
+        };
+        let Ok(charter) = Charter::new(alloc, self.name, term, self.algorithm, roster) else {
+            return Err(Refusal::NoMemory);
+        };
+        Ok(charter)
+    }
+
+    /// Starts a term, whose ring is the member list.
+    pub(crate) fn start(&mut self, alloc: Global) -> Result<Arc<Charter<E>>, Refusal>
+        requires { IsGroupOf E.winner self.old.name self.old }
+        ensures answer { Answers (start_refusal (group_view self.old)) true (group_view self.old) result (group_view self.new) (λ c. StartsWith self.old.name c.value (group_view self.old) (group_view self.new)) }
+        ensures kept { IsGroupOf E.winner self.old.name self.new }
+    {
+        let charter = match self.plan(alloc) {
+            Ok(charter) => charter,
+            Err(refusal) => return Err(refusal),
+        };
+        let Ok(copy) = Arc::try_clone(&charter) else {
+            return Err(Refusal::NoMemory);
+        };
+        let Ok(term) = Term::begin(alloc, copy) else {
+            return Err(Refusal::NoMemory);
+        };
+        let Ok(()) = self.terms.push(term) else {
+            return Err(Refusal::NoMemory);
+        };
+        Ok(charter)
+    }
+
+    /// What the last term says to the member with this identity's number.
+    pub(crate) fn who(&self, node: NodeId) -> Result<Standing, Refusal>
+        requires { IsGroupOf E.winner self.now.name self.now }
+        ensures { Shows (who_refusal node (group_view self.now)) false result (λ s. Tells node s (group_view self.now)) }
+    {
+        let Some(term) = self.terms.last() else {
+            return Err(Refusal::NoTerm);
+        };
+        term.who(node)
+    }
+
+    /// The charter of the last term.
+    pub(crate) fn running(&self) -> Result<&Arc<Charter<E>>, Refusal>
+        requires { IsGroupOf E.winner self.now.name self.now }
+        ensures { Shows (running_refusal (group_view self.now)) false result (λ c. running_charter self.now.name (group_view self.now) ≡ Some c.now.value) }
+    {
+        let Some(term) = self.terms.last() else {
+            return Err(Refusal::NoTerm);
+        };
+        Ok(term.charter())
+    }
+
+    /// Takes note of a report.
+    pub(crate) fn note(&mut self, report: &Report<E>) -> Noting
+        requires { IsGroupOf E.winner self.old.name self.old }
+        ensures notes { NotesGroup E.is_greatest self.old.name report.now (group_view self.old) result (group_view self.new) }
+        ensures kept { IsGroupOf E.winner self.old.name self.new }
+    {
+        let Some(term) = self.terms.last_mut() else {
+            return Noting::Stale;
+        };
+        term.note(report)
+    }
+}
+
+/// Takes out the member with this identity's number.
+fn take_out(members: &mut Vec<NodeId>, node: NodeId)
+    ensures { members.new.items ≡ filter (λ member. not (has_number node member)) members.old.items }
+{
+    members.retain(|member| member.get() != node.get());
+}

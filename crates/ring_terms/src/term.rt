@@ -1,0 +1,88 @@
+ghost use Rattle.std.specs.Prelude.{◌≡◌, IfOk, false};
+ghost use Rattle.ring_terms.specs.Object.{new_term};
+ghost use Rattle.ring_terms.specs.Commands.{member_refusal, Shows};
+ghost use Rattle.ring_terms.specs.Standings.{TellsIn};
+
+use crate::standing::{Noting, Standing};
+use ring_election::RingElection;
+use ring_id::{NoMemory, NodeId, Refusal};
+use ring_node::{Charter, Report};
+use std::alloc::Global;
+use std::sync::Arc;
+
+/// One term of a group: its charter, its leader or none, and for each position of its ring whether
+/// that member is informed.
+#[derive(Drop)]
+pub(crate) struct Term<E> {
+    charter: Arc<Charter<E>>,
+    leader: Option<NodeId>,
+    informed: Vec<bool>,
+}
+
+impl<E: RingElection> Term<E> {
+    ghost use Rattle.ring_terms.specs.Books.{term_view, IsSound, NotesTerm};
+
+    /// The term of this charter with no leader and nobody informed.
+    pub(crate) fn begin(alloc: Global, charter: Arc<Charter<E>>) -> Result<Term<E>, NoMemory>
+        ensures charter { IfOk result (λ t. t.charter ≡ charter) }
+        ensures fresh { IfOk result (λ t. term_view t ≡ new_term charter.value.roster) }
+    {
+        let Ok(informed) = vec![in alloc; false; charter.roster().len()] else {
+            return Err(NoMemory);
+        };
+        Ok(Term {
+            charter,
+            leader: None,
+            informed,
+        })
+    }
+
+    /// The charter of this term.
+    pub(crate) fn charter(&self) -> &Arc<Charter<E>>
+        ensures { result.now ≡ self.now.charter }
+    {
+        &self.charter
+    }
+
+    /// The leader of this term, or none.
+    pub(crate) fn leader(&self) -> Option<NodeId>
+        ensures { result ≡ self.now.leader }
+    {
+        self.leader
+    }
+
+    /// What this term says to the member with this identity's number.
+    pub(crate) fn who(&self, node: NodeId) -> Result<Standing, Refusal>
+        requires { IsSound E.winner self.now }
+        ensures { Shows (member_refusal node (term_view self.now)) false result (λ s. TellsIn node self.now.charter.value.term s (term_view self.now)) }
+    {
+        let term = self.charter.term();
+        let Some(position) = self.charter.roster().position(node) else {
+            return Err(Refusal::NotInTerm);
+        };
+        match self.leader {
+            Some(leader) if self.informed[position] => Ok(Standing::Leader { term, leader }),
+            _ => Ok(Standing::Undecided(term)),
+        }
+    }
+
+    /// Takes note of a report.
+    pub(crate) fn note(&mut self, report: &Report<E>) -> Noting
+        requires { IsSound E.winner self.old }
+        ensures notes { NotesTerm E.is_greatest report.now self.old result self.new }
+        ensures kept { IsSound E.winner self.new }
+    {
+        if !self.charter.same(report.charter()) {
+            return Noting::Stale;
+        }
+        let Some(position) = self.charter.roster().position(report.member()) else {
+            return Noting::Stale;
+        };
+        if self.informed[position] {
+            return Noting::Known;
+        }
+        self.informed[position] = true;
+        self.leader = Some(report.leader());
+        Noting::Noted
+    }
+}
