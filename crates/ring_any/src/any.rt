@@ -82,6 +82,8 @@ impl Any {
 
 impl RingElection for Any {
     ghost use Rattle.std.proofs.Common.{rules};
+    ghost use Rattle.ring_any.specs.Bounded.{any_bounded};
+    ghost use Rattle.ring_any.specs.Deciding.{any_deciding};
     ghost use Rattle.ring_any.specs.Lawful.{any_lawful};
     ghost use Rattle.ring_any.specs.Any.{any_bound, any_fits, any_winner};
 
@@ -196,6 +198,10 @@ impl RingElection for Any {
     }
 
     ghost lawful = { any_lawful };
+
+    ghost deciding = { any_deciding };
+
+    ghost bounded = { any_bounded };
 
     ghost equal_same = { λ a b h. Prim.search rules };
 

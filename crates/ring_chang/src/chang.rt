@@ -26,6 +26,8 @@ impl RingElection for Chang {
     ghost use Rattle.std.proofs.Common.{rules};
     ghost use Rattle.ring_roster.specs.Ring.{greatest_of};
     ghost use Rattle.ring_chang.specs.Chang.{chang_bound, chang_fits, chang_table};
+    ghost use Rattle.ring_chang.specs.Bounded.{chang_bounded};
+    ghost use Rattle.ring_chang.specs.Deciding.{chang_deciding};
     ghost use Rattle.ring_chang.specs.Lawful.{chang_lawful};
 
     type Msg = NodeId;
@@ -105,6 +107,10 @@ impl RingElection for Chang {
     }
 
     ghost lawful = { λ _. chang_lawful };
+
+    ghost deciding = { λ _. chang_deciding };
+
+    ghost bounded = { λ _. chang_bounded };
 
     ghost equal_same = { λ a b h. Prim.search rules };
 

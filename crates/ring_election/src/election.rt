@@ -14,7 +14,7 @@ pub trait RingElection: Copy + Eq {
     ghost use Rattle.std.specs.Prelude.{ℕ, Bool, List, true};
     ghost use Rattle.ring_id.specs.declared.side.Side.{Side};
     ghost use Rattle.ring_election.specs.Tables.{Table};
-    ghost use Rattle.ring_election.specs.Laws.{Lawful};
+    ghost use Rattle.ring_election.specs.Laws.{Bounded, Deciding, Lawful};
 
     /// What nodes send one another.
     type Msg: Copy + Eq;
@@ -64,6 +64,10 @@ pub trait RingElection: Copy + Eq {
         ensures { result ≡ (table self.now).decided state.now };
 
     ghost lawful: { (a : Self) → Lawful (is_two_way a) (is_greatest a) (table a) (fits a) (winner a) };
+
+    ghost deciding: { (a : Self) → Deciding (table a) (fits a) };
+
+    ghost bounded: { (a : Self) → Bounded (table a) (fits a) (bound a) };
 
     ghost equal_same: { (a b : Self) → Self.eq a b ≡ true → a ≡ b };
 

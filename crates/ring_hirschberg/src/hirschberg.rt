@@ -74,6 +74,8 @@ impl RingElection for Hirschberg {
     ghost use Rattle.std.proofs.Common.{rules};
     ghost use Rattle.ring_roster.specs.Ring.{greatest_of};
     ghost use Rattle.ring_hirschberg.specs.Hirschberg.{hirschberg_bound, hirschberg_fits, hirschberg_table};
+    ghost use Rattle.ring_hirschberg.specs.Bounded.{hirschberg_bounded};
+    ghost use Rattle.ring_hirschberg.specs.Deciding.{hirschberg_deciding};
     ghost use Rattle.ring_hirschberg.specs.Lawful.{hirschberg_lawful};
 
     type Msg = HirschbergMsg;
@@ -163,6 +165,10 @@ impl RingElection for Hirschberg {
     }
 
     ghost lawful = { λ _. hirschberg_lawful };
+
+    ghost deciding = { λ _. hirschberg_deciding };
+
+    ghost bounded = { λ _. hirschberg_bounded };
 
     ghost equal_same = { λ a b h. Prim.search rules };
 

@@ -48,6 +48,8 @@ impl LeLannState {
 impl RingElection for LeLann {
     ghost use Rattle.std.specs.Prelude.{true, false};
     ghost use Rattle.std.proofs.Common.{rules};
+    ghost use Rattle.ring_lelann.specs.Bounded.{lelann_bounded};
+    ghost use Rattle.ring_lelann.specs.Deciding.{lelann_deciding};
     ghost use Rattle.ring_lelann.specs.Lawful.{lelann_lawful};
     ghost use Rattle.ring_lelann.specs.LeLann.{lelann_bound, lelann_first, lelann_fits, lelann_next, lelann_sends, lelann_table};
 
@@ -140,6 +142,10 @@ impl RingElection for LeLann {
     }
 
     ghost lawful = { λ _. lelann_lawful };
+
+    ghost deciding = { λ _. lelann_deciding };
+
+    ghost bounded = { λ _. lelann_bounded };
 
     ghost equal_same = { λ a b h. Prim.search rules };
 

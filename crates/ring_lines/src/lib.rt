@@ -1,13 +1,22 @@
-// A library with one function.
+//! Lines: what carries them in and out, and the reader that cuts them.
+//!
+//! An `Intake` hands out bytes and an `Outlet` takes them, one call at a time; contracts see each
+//! call with its answer, so they can speak of the bytes, of how many calls were made and of which
+//! one failed. A `LineReader` gives the lines of what it reads, in order: a text is cut after each
+//! LF, and a rest that is not empty is a line. It stops for good at the end of the input, at a
+//! failed read, and when the read calls that it was granted are used up.
 #![tactic(auto)]
 
-ghost use Rattle.std.specs.Prelude.{◌≡◌};
-ghost use Rattle.ring_lines.specs.Echo.{echo_of};
+mod answers;
+mod buffer;
+mod drip;
+mod ends;
+mod page;
+mod reader;
 
-// The `ensures` clause is the contract: what `echo` returns is `echo_of` of its argument, a definition
-// in `specs/Echo.antt`, which a caller's clause can cite too.
-pub fn echo(x: usize) -> usize
-    ensures { result ≡ echo_of x }
-{
-    x
-}
+pub use answers::{Line, LineFault, Next, Phase};
+pub use buffer::LineBuffer;
+pub use drip::{DripIn, DripOut};
+pub use ends::{FromRead, Intake, Outlet, ReadFault, ToWrite, WriteFailed, put};
+pub use page::Page;
+pub use reader::LineReader;

@@ -1,13 +1,13 @@
-// A library with one function.
+//! Groups over worlds: commands, deliveries and drains, one at a time, and their replies.
+//!
+//! For every lawful ring election and every list of events, the replies and the groups are a run of
+//! the election object: a term's leader is undecided until one delivery names one member of its frozen
+//! ring, and never changes.
 #![tactic(auto)]
 
-ghost use Rattle.std.specs.Prelude.{◌≡◌};
-ghost use Rattle.ring_mux.specs.Echo.{echo_of};
+mod event;
+mod reply;
 
-// The `ensures` clause is the contract: what `echo` returns is `echo_of` of its argument, a definition
-// in `specs/Echo.antt`, which a caller's clause can cite too.
-pub fn echo(x: usize) -> usize
-    ensures { result ≡ echo_of x }
-{
-    x
-}
+pub use event::Command;
+pub use event::Event;
+pub use reply::Reply;

@@ -1,8 +1,9 @@
 -- Nodes: what a node stands for, and what a call of `take` may answer.
-use Rattle.std.specs.Prelude.{◌≡◌, ◌<◌, ℕ, List, [], ◌∷◌, ◌++◌, length, take, Option, option_map, Result, Ok, Err, slice_get, slice_index}
+use Rattle.std.specs.Prelude.{◌≡◌, ◌<◌, ℕ, List, [], ◌∷◌, ◌++◌, length, take, Option, Some, option_map, Result, Ok, Err, slice_get, slice_index}
 use Rattle.ring_id.specs.declared.side.Side.{Side}
 use Rattle.ring_id.specs.Sides.{other}
-use Rattle.ring_roster.specs.Ring.{neighbour}
+use Rattle.ring_roster.specs.Ring.{IsRing, neighbour}
+use Rattle.ring_election.specs.Families.{AllFit}
 use Rattle.ring_election.specs.Tables.{Table}
 use Rattle.ring_election.specs.Traces.{taken_from}
 use Rattle.ring_node.specs.declared.charter.Charter.{Charter}
@@ -11,7 +12,7 @@ use Rattle.ring_node.specs.declared.packet.Packet.TheVariants.{Algo, Leader}
 use Rattle.ring_node.specs.declared.fault.TakeFault.{TakeFault}
 use Rattle.ring_node.specs.declared.fault.TakeFault.TheVariants.{Stranger, Repeat, Gap, NoMemory}
 use Rattle.ring_node.specs.Envelopes.{Sent, index_after}
-use Rattle.ring_node.specs.Journals.{algo_count, known_after, leader_count, news, packets_after}
+use Rattle.ring_node.specs.Journals.{algo_count, algo_part, known_after, leader_count, news, packets_after}
 use Rattle.ring_node.specs.Reports.{Told}
 
 -- a node of a term: its position on the charter's ring, and all that it received, in order
@@ -53,11 +54,22 @@ module _ {E S M : Type 0} (t : E → Table S M) where
   abbrev pub told_of : Seated E M → Seated E M → Option (Told E)
   told_of old new = option_map (λ v. record { charter = old.charter; member = member_of old; leader = v }) (news_of old new)
 
+  -- what it tells of itself: there exactly where it knows the leader
+  abbrev pub report_of : Seated E M → Option (Told E)
+  report_of node = option_map (λ v. record { charter = node.charter; member = member_of node; leader = v }) (known_of node)
+
   -- the envelope of the packet at that place of what it sent to a side
   abbrev pub envelope_of : Seated E M → Side → ℕ → Option (Sent E M)
   envelope_of node side place =
       option_map (λ packet. record { charter = node.charter; from = node.position; side = side; index = index_after (take place (sent_of node side)) packet; packet = packet })
       (slice_get (sent_of node side) place)
+
+-- all that a node took fits its ring, and the leader that it knows is the ring's winner
+pub record IsFaithful {E S M : Type 0} (t : E → Table S M) (fits : E → List ℕ → ℕ → Side → ℕ → M → Type 0) (winner : E → List ℕ → ℕ) (node : Seated E M) : Type 0 where
+  pub is_ring : IsRing node.charter.roster
+  pub inside : node.position < length node.charter.roster
+  pub fitting : AllFit (fits node.charter.algorithm) node.charter.roster node.position (algo_part node.journal)
+  pub knows : (v : ℕ) → known_of t node ≡ Some v → v ≡ winner node.charter.algorithm node.charter.roster
 
 -- the envelope is of this node's term, and its link leads to this node
 pub record IsForNode {E M : Type 0} (node : Seated E M) (envelope : Sent E M) : Type 0 where

@@ -4,7 +4,7 @@ ghost use Rattle.ring_roster.specs.Ring.{neighbour};
 ghost use Rattle.ring_node.specs.Envelopes.{AllSendable, IsProper, IsSendable, index_after};
 ghost use Rattle.ring_election.specs.Traces.{taken_from};
 ghost use Rattle.ring_node.specs.Journals.{algo_count};
-ghost use Rattle.ring_node.specs.Nodes.{IsFault, IsForNode, IsNext, Takes, envelope_of, known_of, member_of, news_of, next_index, receiving, sent_of, taken_of};
+ghost use Rattle.ring_node.specs.Nodes.{IsFaithful, IsFault, IsForNode, IsNext, Takes, envelope_of, known_of, member_of, news_of, next_index, receiving, report_of, sent_of, taken_of};
 ghost use Rattle.ring_node.specs.Reports.{IsTruthful};
 
 use crate::charter::Charter;
@@ -57,7 +57,8 @@ impl<E: RingElection> Node<E> {
         position: usize,
     ) -> Result<Node<E>, NoMemory>
         requires { position < length charter.value.roster }
-        ensures { IfOk result (λ node. node ≡ record { charter = charter.value; position = position; journal = [] }) }
+        ensures node { IfOk result (λ node. node ≡ record { charter = charter.value; position = position; journal = [] }) }
+        ensures faithful { IfOk result (IsFaithful E.table E.fits E.winner) }
     {
         let me = charter.roster().at(position).unwrap();
         let (state, sends) = charter.algorithm().start(alloc, me);
@@ -85,7 +86,7 @@ impl<E: RingElection> Node<E> {
     /// The position on the charter's ring.
     pub fn position(&self) -> usize
         ensures value { result ≡ self.now.position }
-        ensures inside { result < length self.now.charter.roster }
+        ensures faithful { IsFaithful E.table E.fits E.winner self.now }
     {
         self.position
     }
@@ -142,6 +143,16 @@ impl<E: RingElection> Node<E> {
         Some(Envelope::new(copy, self.position, side, index, packet))
     }
 
+    /// What this node tells of its term: there exactly where it knows the leader. `copy` is an owner of
+    /// this node's charter.
+    pub fn report(&self, copy: Arc<Charter<E>>) -> Option<Report<E>>
+        requires { copy.value ≡ self.now.charter }
+        ensures { result ≡ report_of E.table self.now }
+    {
+        let leader = self.known?;
+        Some(Report::new(copy, self.me, leader))
+    }
+
     /// Takes an envelope. The answer is this node's report, which is there exactly where this receipt
     /// is the first by which the node knows the leader. Faults, the first that holds: `Stranger`,
     /// `Repeat`, `Gap`, `NoMemory`; a fault gives the envelope back and leaves the node unchanged.
@@ -169,6 +180,7 @@ impl<E: RingElection> Node<E> {
         ensures journal { OnOk result (self.new ≡ receiving self.old from packet) }
         ensures news { IfOk result (λ leader. leader ≡ news_of E.table self.old self.new) }
         ensures truthful { IfOk result (λ leader. IfSome leader (IsTruthful (E.winner self.old.charter.algorithm) self.old.charter.roster (member_of self.old))) }
+        ensures faithful { OnOk result (IsFaithful E.table E.fits E.winner self.new) }
         ensures err { OnErr result (self.new ≡ self.old) }
     {
         self.left.make_room()?;

@@ -64,6 +64,8 @@ impl RingElection for Peterson {
     ghost use Rattle.std.proofs.Common.{rules};
     ghost use Rattle.std.specs.Prelude.{false};
     ghost use Rattle.ring_election.specs.Tables.{rightward};
+    ghost use Rattle.ring_peterson.specs.Bounded.{peterson_bounded};
+    ghost use Rattle.ring_peterson.specs.Deciding.{peterson_deciding};
     ghost use Rattle.ring_peterson.specs.Lawful.{peterson_lawful};
     ghost use Rattle.ring_peterson.specs.Peterson.{peterson_decided, peterson_first, peterson_next, peterson_sends, peterson_table};
     ghost use Rattle.ring_peterson.specs.Rounds.{peterson_bound, peterson_fits, peterson_winner};
@@ -145,6 +147,10 @@ impl RingElection for Peterson {
     }
 
     ghost lawful = { λ _. peterson_lawful };
+
+    ghost deciding = { λ _. peterson_deciding };
+
+    ghost bounded = { λ _. peterson_bounded };
 
     ghost equal_same = { λ a b h. Prim.search rules };
 

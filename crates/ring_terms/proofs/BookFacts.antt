@@ -19,11 +19,11 @@ use Rattle.ring_node.specs.Reports.{Told}
 use Rattle.ring_terms.specs.declared.group.Group.{Group}
 use Rattle.ring_terms.specs.declared.standing.Noting.{Noting}
 use Rattle.ring_terms.specs.declared.standing.Noting.TheVariants.{Noted, Known, Stale}
-use Rattle.ring_terms.specs.Books.{group_view, object_view, term_view, IsBook, IsGroupOf}
+use Rattle.ring_terms.specs.Books.{group_view, object_view, term_view, IsBook, IsGroupOf, NotesGroup}
 use Rattle.ring_terms.specs.Charters.{running_in}
 use Rattle.ring_terms.specs.Commands.{create_refusal, in_group, Answers, Shows}
 use Rattle.ring_terms.specs.Kept.{IsGroupKept, IsKept, IsTermKept}
-use Rattle.ring_terms.specs.Notes.{NotesGroup, NotesOf}
+use Rattle.ring_terms.specs.Notes.{NotesOf}
 use Rattle.ring_terms.specs.Object.{GroupView, InGroup, Object, OfGroup, find, names, with_group}
 use Rattle.ring_terms.proofs.Entries.{is_some-map, keys-map, lookup-map, lookup-push, option_map-some, position-apart, set_value-map, slice_get-seen}
 

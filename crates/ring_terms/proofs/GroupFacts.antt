@@ -13,11 +13,10 @@ use Rattle.ring_terms.specs.declared.standing.Noting.{Noting}
 use Rattle.ring_terms.specs.declared.standing.Noting.TheVariants.{Noted, Known, Stale}
 use Rattle.ring_terms.specs.declared.standing.Standing.{Standing}
 use Rattle.ring_terms.specs.declared.term.Term.{Term}
-use Rattle.ring_terms.specs.Books.{group_view, term_view, IsGroupOf, IsSound, IsTermOf, NotesTerm}
+use Rattle.ring_terms.specs.Books.{group_view, term_view, IsGroupOf, IsSound, IsTermOf, NotesGroup, NotesTerm}
 use Rattle.ring_terms.specs.Charters.{next_charter, running_charter}
 use Rattle.ring_terms.specs.Commands.{member_refusal, start_refusal, who_refusal, Shows}
 use Rattle.ring_terms.specs.Kept.{IsTermKept}
-use Rattle.ring_terms.specs.Notes.{NotesGroup}
 use Rattle.ring_terms.specs.Object.{GroupView, TermView, last_term, leaders, new_term, with_last}
 use Rattle.ring_terms.specs.Standings.{Tells, TellsIn}
 use Rattle.ring_terms.proofs.Places.{slice_get-push, slice_get-replicate, slice_get-set, slice_set-same}

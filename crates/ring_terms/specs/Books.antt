@@ -9,9 +9,10 @@ use Rattle.ring_terms.specs.declared.group.Group.{Group}
 use Rattle.ring_terms.specs.declared.standing.Noting.{Noting}
 use Rattle.ring_terms.specs.declared.standing.Noting.TheVariants.{Noted, Known, Stale}
 use Rattle.ring_terms.specs.Object.{GroupView, Object, TermView}
+use Rattle.ring_terms.specs.Charters.{running_charter}
 use Rattle.ring_terms.specs.Kept.{IsTermKept}
-use Rattle.ring_terms.specs.Moves.{InformsIn}
-use Rattle.ring_terms.specs.Standings.{IsInformedIn}
+use Rattle.ring_terms.specs.Moves.{Informs, InformsIn}
+use Rattle.ring_terms.specs.Standings.{IsInformed, IsInformedIn}
 
 -- what a term shows
 abbrev pub term_view : {E : Type 0} → Term E → TermView
@@ -38,6 +39,14 @@ NotesTerm greatest report old Noted new =
 NotesTerm greatest report old Known new =
     (old.charter.value ≡ report.charter) × (new ≡ old) × IsInformedIn report.member report.leader (term_view old)
 NotesTerm greatest report old Stale new = (old.charter.value ≡ report.charter → ⊥) × (new ≡ old)
+
+-- what filing a report does to a group of this name
+abbrev pub NotesGroup : {E : Type 0} → (E → Bool) → List ℕ → Told E → GroupView E → Noting → GroupView E → Type 0
+NotesGroup greatest name report old Noted new =
+    (running_charter name old ≡ Some report.charter) × Informs (greatest report.charter.algorithm) report.member report.leader old new
+NotesGroup greatest name report old Known new =
+    (running_charter name old ≡ Some report.charter) × (new ≡ old) × IsInformed report.member report.leader old
+NotesGroup greatest name report old Stale new = (running_charter name old ≡ Some report.charter → ⊥) × (new ≡ old)
 
 -- a term of this group: its charter has the group's name and algorithm and this number
 pub record IsTermOf {E : Type 0} (winner : E → List ℕ → ℕ) (name : List ℕ) (algorithm : E) (number : ℕ) (t : Term E) : Type 0 where

@@ -3,22 +3,14 @@ use Rattle.std.specs.Prelude.{◌≡◌, ℕ, Bool, List, Some}
 use Rattle.ring_node.specs.Reports.{Told}
 use Rattle.ring_terms.specs.declared.standing.Noting.{Noting}
 use Rattle.ring_terms.specs.declared.standing.Noting.TheVariants.{Noted, Known, Stale}
-use Rattle.ring_terms.specs.Object.{GroupView, InGroup, Object, OfGroup}
-use Rattle.ring_terms.specs.Charters.{running_charter, running_in}
+use Rattle.ring_terms.specs.Object.{InGroup, Object, OfGroup}
+use Rattle.ring_terms.specs.Charters.{running_in}
 use Rattle.ring_terms.specs.Moves.{Informs}
 use Rattle.ring_terms.specs.Standings.{IsInformed}
 
--- what filing a report does to a group of this name
-abbrev pub NotesGroup : {E : Type 0} → (E → Bool) → List ℕ → Told E → GroupView E → Noting → GroupView E → Type 0
-NotesGroup greatest name report old Noted new =
-    (running_charter name old ≡ Some report.charter) × Informs (greatest report.charter.algorithm) report.member report.leader old new
-NotesGroup greatest name report old Known new =
-    (running_charter name old ≡ Some report.charter) × (new ≡ old) × IsInformed report.member report.leader old
-NotesGroup greatest name report old Stale new = (running_charter name old ≡ Some report.charter → ⊥) × (new ≡ old)
-
--- what it does to the object: Noted, the charter being that of the last term of the group of this
--- name: the member becomes informed of the leader. Known, the charter being that: the member was
--- informed of it already. Stale: it is another charter.
+-- What filing a report does to the object. Noted, the charter being that of the last term of the
+-- group of this name: the member becomes informed of the leader. Known, the charter being that: the
+-- member was informed of it already. Stale: it is another charter.
 abbrev pub NotesOf : {E : Type 0} → (E → Bool) → List ℕ → Told E → Object E → Noting → Object E → Type 0
 NotesOf greatest name report old Noted new =
     (running_in name old ≡ Some report.charter) × InGroup name (Informs (greatest report.charter.algorithm) report.member report.leader) old new

@@ -64,7 +64,7 @@ impl<E: RingElection> Book<E> {
         if self.groups.contains_key(&group) {
             return Err(Refusal::Exists);
         }
-        if self.groups.len() >= MOST_GROUPS {
+        if self.len() >= MOST_GROUPS {
             return Err(Refusal::GroupLimit);
         }
         let made = Group::new(alloc, group, algorithm);

@@ -4,7 +4,6 @@ ghost use Rattle.ring_roster.specs.Ring.{has_number};
 ghost use Rattle.ring_terms.specs.Object.{new_group, leaders};
 ghost use Rattle.ring_terms.specs.Charters.{next_charter, running_charter};
 ghost use Rattle.ring_terms.specs.Commands.{join_refusal, leave_refusal, never_refused, running_refusal, start_refusal, who_refusal, Answers, Joins, Leaves, Shows, StartsWith};
-ghost use Rattle.ring_terms.specs.Notes.{NotesGroup};
 ghost use Rattle.ring_terms.specs.Standings.{Tells};
 
 use crate::lists::{MemberList, TermList};
@@ -27,7 +26,7 @@ pub(crate) struct Group<E> {
 }
 
 impl<E: RingElection> Group<E> {
-    ghost use Rattle.ring_terms.specs.Books.{group_view, IsGroupOf};
+    ghost use Rattle.ring_terms.specs.Books.{group_view, IsGroupOf, NotesGroup};
 
     /// A group without members or terms.
     pub(crate) fn new(alloc: Global, name: GroupName, algorithm: E) -> Group<E>
@@ -111,10 +110,7 @@ impl<E: RingElection> Group<E> {
         let Some(term) = TermNo::new((self.terms.len() + 1) as u16) else {
             return Err(Refusal::TermLimit);
         };
-        let roster = match Roster::from_members(alloc, &self.members) {
-            Ok(roster) => roster,
-            Err(refusal) => return Err(refusal),
-        };
+        let roster = Roster::from_members(alloc, &self.members)?;
         let Ok(charter) = Charter::new(alloc, self.name, term, self.algorithm, roster) else {
             return Err(Refusal::NoMemory);
         };
@@ -127,10 +123,7 @@ impl<E: RingElection> Group<E> {
         ensures answer { Answers (start_refusal (group_view self.old)) true (group_view self.old) result (group_view self.new) (λ c. StartsWith self.old.name c.value (group_view self.old) (group_view self.new)) }
         ensures kept { IsGroupOf E.winner self.old.name self.new }
     {
-        let charter = match self.plan(alloc) {
-            Ok(charter) => charter,
-            Err(refusal) => return Err(refusal),
-        };
+        let charter = self.plan(alloc)?;
         let Ok(copy) = Arc::try_clone(&charter) else {
             return Err(Refusal::NoMemory);
         };

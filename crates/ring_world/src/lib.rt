@@ -1,13 +1,13 @@
-// A library with one function.
+//! The world of one term: all its nodes, and what is in flight between them.
+//!
+//! A world is seen as its charter and the journals of its nodes, in the order of the ring. What is in
+//! flight on a link is what its sender sent there without what its receiver took; a delivery takes the
+//! front packet of one link. At every moment the journals are a sound family that fits, and whatever a
+//! node knows is the winner.
 #![tactic(auto)]
 
-ghost use Rattle.std.specs.Prelude.{◌≡◌};
-ghost use Rattle.ring_world.specs.Echo.{echo_of};
+mod delivery;
+mod world;
 
-// The `ensures` clause is the contract: what `echo` returns is `echo_of` of its argument, a definition
-// in `specs/Echo.antt`, which a caller's clause can cite too.
-pub fn echo(x: usize) -> usize
-    ensures { result ≡ echo_of x }
-{
-    x
-}
+pub use delivery::Delivery;
+pub use world::World;

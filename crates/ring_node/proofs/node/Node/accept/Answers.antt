@@ -1,7 +1,7 @@
 -- The fields after the step are what follows from the longer journal, and the old ones where it was refused.
 use Rattle.std.proofs.Common.{◌+◌, ◌<◌, ℕ, List, [], ◌∷◌, ◌++◌, Option, refl, sym, ap, ap₂, ◌∙◌, arith}
 use Rattle.std.proofs.lemmas.List.{append-nil}
-use Rattle.std.proofs.lemmas.Option.{get_or_from_slice_get}
+use Rattle.std.proofs.lemmas.Option.{get_or_from_slice_get, slice_get_within}
 use Rattle.ring_id.specs.declared.side.Side.TheVariants.{Left, Right}
 use Rattle.ring_election.specs.Traces.{taken_from}
 use Rattle.ring_node.specs.declared.packet.Packet.{Packet}
@@ -75,3 +75,13 @@ returns-clause-truthful g c =
     (truthful_news _ _ _ _ c.self.invariant.is_ring c.self.invariant.here _
     (λ v h. news_is_winner _ _ _ lawful _ _ _ _ _ _ _ _ c.self.invariant c.args.from c.args.packet proper v
     (sym (c.learn-news.ensures.news ∙ ap (news c.self.inside.known) brought_is) ∙ h)))
+
+pub returns-clause-faithful : goal.returns-clause-faithful
+returns-clause-faithful g c =
+    let new = invariant_of-self-2 g c in
+    record {
+      is_ring = new.is_ring;
+      inside = slice_get_within _ _ _ new.here;
+      fitting = new.fitting;
+      knows = λ v h. new.knows v (new.known_is ∙ rw (get_or_from_slice_get _ _ _ 0 new.here) at h)
+    }

@@ -29,7 +29,7 @@ pub invariant_of-self-2 : goal.invariant_of-self-2
 invariant_of-self-2 g c =
     let absent = none_there (lookup (bytes_eq c.args.group) c.self.inside.groups.entries) (sym c.contains_key.ensures ∙ c.if-contains_key.false) in
     let grown = c.in-Ok.ensures.entries ∙ insert_entry-new bytes_eq c.self.inside.groups c.args.group c.new-made.result absent in
-    rw grown (kept_after_push g.E.RingElection.winner c.self.inside.groups.entries c.self.invariant c.args.group c.new-made.result c.new-made.ensures.kept (omega arith))
+    rw grown (kept_after_push g.E.RingElection.winner c.self.inside.groups.entries c.self.invariant c.args.group c.new-made.result c.new-made.ensures.kept (omega (arith, c.len.ensures.value, length_in c.self.inside.groups.entries c.args.self.now c.self.view_is)))
 
 pub returns : goal.returns
 returns g c =

@@ -20,8 +20,8 @@ pub returns-clause-kept : goal.returns-clause-kept
 returns-clause-kept g c =
     let this = c.args.self.now in
     let term = c.in-Ok-begin.term in
-    let allowed = start_allowed (group_view this) c.in-Ok.ensures.0 in
-    let shared = ap (λ ch. ch.value) c.in-Ok-begin.ensures.charter ∙ c.in-Ok-try_clone.ensures ∙ c.in-Ok.ensures.1 in
+    let allowed = start_allowed (group_view this) c.in_ok-charter.ensures.0 in
+    let shared = ap (λ ch. ch.value) c.in-Ok-begin.ensures.charter ∙ c.in-Ok.ensures ∙ c.in_ok-charter.ensures.1 in
     let fresh = c.in-Ok-begin.ensures.fresh ∙ ap (λ a. new_term a.value.roster) (sym c.in-Ok-begin.ensures.charter) in
     let of = next_term g.E.RingElection.winner this.name this c.requires term shared fresh (record { some = allowed.0; short = c.requires.few; distinct = c.requires.distinct }) in
     record {

@@ -1,0 +1,198 @@
+//! The lines that ask: what a line of bytes spells.
+
+use crate::algorithms::Kind;
+use crate::names::{GroupName, NodeId, Side};
+
+/// The greatest number that `drain` takes.
+const COUNT_LIMIT: u64 = 1_000_000_000;
+
+/// What one line asks for.
+#[derive(Clone, Copy, Debug, PartialEq, Eq)]
+pub enum Event {
+    Create {
+        group: GroupName,
+        kind: Kind,
+    },
+    Join {
+        group: GroupName,
+        node: NodeId,
+    },
+    Leave {
+        group: GroupName,
+        node: NodeId,
+    },
+    Start {
+        group: GroupName,
+    },
+    Who {
+        group: GroupName,
+        node: NodeId,
+    },
+    Members {
+        group: GroupName,
+    },
+    Terms {
+        group: GroupName,
+    },
+    Groups,
+    Deliver {
+        group: GroupName,
+        node: NodeId,
+        side: Side,
+    },
+    Pending {
+        group: GroupName,
+    },
+    Drain {
+        group: GroupName,
+        count: u64,
+    },
+}
+
+/// The event that a line without its LF spells, `None` where it spells none.
+pub fn parse_event(line: &[u8]) -> Option<Event> {
+    let mut words = Words { rest: Some(line) };
+    let event = match words.next()? {
+        b"create" => Event::Create {
+            group: words.group()?,
+            kind: words.kind()?,
+        },
+        b"join" => Event::Join {
+            group: words.group()?,
+            node: words.node()?,
+        },
+        b"leave" => Event::Leave {
+            group: words.group()?,
+            node: words.node()?,
+        },
+        b"start" => Event::Start {
+            group: words.group()?,
+        },
+        b"who" => Event::Who {
+            group: words.group()?,
+            node: words.node()?,
+        },
+        b"members" => Event::Members {
+            group: words.group()?,
+        },
+        b"terms" => Event::Terms {
+            group: words.group()?,
+        },
+        b"groups" => Event::Groups,
+        b"deliver" => Event::Deliver {
+            group: words.group()?,
+            node: words.node()?,
+            side: words.side()?,
+        },
+        b"pending" => Event::Pending {
+            group: words.group()?,
+        },
+        b"drain" => Event::Drain {
+            group: words.group()?,
+            count: words.count()?,
+        },
+        _ => return None,
+    };
+    words.rest.is_none().then_some(event)
+}
+
+/// The words of a line, cut at each single space; a word may be empty and is then refused by
+/// whoever reads it.
+struct Words<'a> {
+    rest: Option<&'a [u8]>,
+}
+
+impl<'a> Words<'a> {
+    fn next(&mut self) -> Option<&'a [u8]> {
+        let line = self.rest?;
+        let Some(space) = line.iter().position(|&byte| byte == b' ') else {
+            self.rest = None;
+            return Some(line);
+        };
+        self.rest = Some(&line[space + 1..]);
+        Some(&line[..space])
+    }
+
+    fn group(&mut self) -> Option<GroupName> {
+        GroupName::from_bytes(self.next()?)
+    }
+
+    fn kind(&mut self) -> Option<Kind> {
+        Kind::from_word(self.next()?)
+    }
+
+    fn node(&mut self) -> Option<NodeId> {
+        let number = decimal(self.next()?)?;
+        NodeId::new(u32::try_from(number).ok()?)
+    }
+
+    fn count(&mut self) -> Option<u64> {
+        decimal(self.next()?).filter(|&number| number <= COUNT_LIMIT)
+    }
+
+    fn side(&mut self) -> Option<Side> {
+        match self.next()? {
+            b"left" => Some(Side::Left),
+            b"right" => Some(Side::Right),
+            _ => None,
+        }
+    }
+}
+
+/// A decimal number of at most ten digits, without sign and without leading zeros.
+fn decimal(word: &[u8]) -> Option<u64> {
+    let leading_zero = word.len() > 1 && word[0] == b'0';
+    let digits = word.iter().all(u8::is_ascii_digit);
+    if word.is_empty() || word.len() > 10 || leading_zero || !digits {
+        return None;
+    }
+    Some(
+        word.iter()
+            .fold(0, |number, digit| 10 * number + u64::from(digit - b'0')),
+    )
+}
+
+#[cfg(test)]
+mod tests {
+    use super::*;
+
+    #[test]
+    fn numbers_have_one_spelling() {
+        assert_eq!(decimal(b"0"), Some(0));
+        assert_eq!(decimal(b"4294967295"), Some(4_294_967_295));
+        for word in [
+            &b""[..],
+            b"00",
+            b"07",
+            b"+7",
+            b"-7",
+            b"1e3",
+            b" 7",
+            b"12345678901",
+        ] {
+            assert_eq!(decimal(word), None);
+        }
+    }
+
+    #[test]
+    fn a_line_has_its_words_and_no_more() {
+        assert_eq!(parse_event(b"groups"), Some(Event::Groups));
+        for line in [
+            &b""[..],
+            b" ",
+            b"groups ",
+            b" groups",
+            b"groups a",
+            b"start",
+            b"start a b",
+            b"start  a",
+            b"join a",
+            b"join a 7 ",
+            b"join a 7\r",
+            b"drain a 1000000001",
+        ] {
+            assert_eq!(parse_event(line), None);
+        }
+        assert!(parse_event(b"drain a 1000000000").is_some());
+    }
+}

@@ -1,0 +1,217 @@
+//! All nodes of one running term, and the packets between them.
+
+use crate::algorithms::{Algorithm, Chang, Hirschberg, Kind, LeLann, Peterson};
+use crate::names::{NodeId, Side};
+use crate::node::Node;
+use crate::ready::{Link, ReadyLinks};
+
+/// What became of one delivery.
+#[derive(Clone, Copy, Debug, PartialEq, Eq)]
+pub enum Delivery {
+    /// The front packet was taken; the leader is there where the receiver now knows it for the
+    /// first time.
+    Moved(Option<NodeId>),
+    /// Nothing is in flight on that link.
+    Idle,
+    /// Nothing ever arrives from that side.
+    OneWay,
+}
+
+/// A running term, whatever its algorithm.
+pub trait RunningTerm {
+    /// Moves the front packet of the link that leads to this position from this side.
+    fn deliver(&mut self, link: Link) -> Delivery;
+
+    /// Makes deliveries at the least ready link, until `count` are made or nothing is ready, and
+    /// tells `learned` of each node that gets to know the leader. The answer is their number.
+    fn drain(&mut self, count: u64, learned: &mut dyn FnMut(usize, NodeId)) -> u64;
+
+    /// The number of packets in flight.
+    fn pending(&self) -> u64;
+}
+
+/// Starts a term of this kind on a ring.
+pub fn begin(kind: Kind, ring: &[NodeId]) -> Box<dyn RunningTerm> {
+    match kind {
+        Kind::LeLann => Box::new(World::<LeLann>::begin(ring)),
+        Kind::Chang => Box::new(World::<Chang>::begin(ring)),
+        Kind::Hirschberg => Box::new(World::<Hirschberg>::begin(ring)),
+        Kind::Peterson => Box::new(World::<Peterson>::begin(ring)),
+    }
+}
+
+/// What is in flight on a link is what its sender sent there, from the number that its receiver
+/// took on.
+struct World<A: Algorithm> {
+    nodes: Vec<Node<A>>,
+    pending: u64,
+    ready: ReadyLinks,
+}
+
+impl<A: Algorithm> World<A> {
+    fn begin(ring: &[NodeId]) -> World<A> {
+        let nodes = ring.iter().map(|&me| Node::seat(me)).collect();
+        let mut world = World {
+            nodes,
+            pending: 0,
+            ready: ReadyLinks::default(),
+        };
+        for position in 0..ring.len() {
+            world.count_sends(position, 0, 0);
+        }
+        world
+    }
+
+    fn neighbour(&self, position: usize, side: Side) -> usize {
+        let last = self.nodes.len() - 1;
+        match side {
+            Side::Left => {
+                if position == 0 {
+                    last
+                } else {
+                    position - 1
+                }
+            }
+            Side::Right => {
+                if position == last {
+                    0
+                } else {
+                    position + 1
+                }
+            }
+        }
+    }
+
+    /// Counts what the node at this position sent beyond the given numbers.
+    fn count_sends(&mut self, position: usize, left: usize, right: usize) {
+        let node = &self.nodes[position];
+        let more_left = node.sent(Side::Left).len() - left;
+        let more_right = node.sent(Side::Right).len() - right;
+        self.pending += (more_left + more_right) as u64;
+        if more_left > 0 {
+            let receiver = self.neighbour(position, Side::Left);
+            self.ready.insert(Link {
+                receiver,
+                side: Side::Right,
+            });
+        }
+        if more_right > 0 {
+            let receiver = self.neighbour(position, Side::Right);
+            self.ready.insert(Link {
+                receiver,
+                side: Side::Left,
+            });
+        }
+    }
+
+    /// `None` where nothing is in flight on the link.
+    fn advance(&mut self, link: Link) -> Option<Option<NodeId>> {
+        let Link { receiver, side } = link;
+        let sender = self.neighbour(receiver, side);
+        let place = self.nodes[receiver].taken(side);
+        let sent = self.nodes[sender].sent(side.other());
+        let packet = *sent.get(place)?;
+        if sent.len() == place + 1 {
+            self.ready.remove(link);
+        }
+        let node = &mut self.nodes[receiver];
+        let (left, right) = (node.sent(Side::Left).len(), node.sent(Side::Right).len());
+        let learned = node.take(side, packet);
+        self.pending -= 1;
+        self.count_sends(receiver, left, right);
+        Some(learned)
+    }
+}
+
+impl<A: Algorithm> RunningTerm for World<A> {
+    fn deliver(&mut self, link: Link) -> Delivery {
+        if link.side == Side::Right && !A::TWO_WAY {
+            return Delivery::OneWay;
+        }
+        match self.advance(link) {
+            Some(learned) => Delivery::Moved(learned),
+            None => Delivery::Idle,
+        }
+    }
+
+    fn drain(&mut self, count: u64, learned: &mut dyn FnMut(usize, NodeId)) -> u64 {
+        for done in 0..count {
+            let Some(link) = self.ready.least() else {
+                return done;
+            };
+            if let Some(Some(leader)) = self.advance(link) {
+                learned(link.receiver, leader);
+            }
+        }
+        count
+    }
+
+    fn pending(&self) -> u64 {
+        self.pending
+    }
+}
+
+#[cfg(test)]
+mod tests {
+    use super::*;
+    use crate::node::Packet;
+
+    fn ring(numbers: &[u32]) -> Vec<NodeId> {
+        numbers
+            .iter()
+            .map(|&number| NodeId::new(number).unwrap())
+            .collect()
+    }
+
+    #[test]
+    fn the_first_delivery_is_at_the_least_link() {
+        let mut world = World::<Chang>::begin(&ring(&[3, 1, 2]));
+        let least = Link {
+            receiver: 0,
+            side: Side::Left,
+        };
+        assert_eq!(world.pending(), 3);
+        assert_eq!(world.ready.least(), Some(least));
+        assert_eq!(world.deliver(least), Delivery::Moved(None));
+        assert_eq!(world.deliver(least), Delivery::Idle);
+        assert_eq!(world.drain(100, &mut |_, _| {}), 7);
+        assert_eq!(world.pending(), 0);
+        assert_eq!(world.ready.least(), None);
+    }
+
+    #[test]
+    fn each_node_took_what_its_neighbours_sent() {
+        let members = ring(&[9, 4, 12, 7, 1, 30, 5]);
+        let mut world = World::<Hirschberg>::begin(&members);
+        let done = world.drain(1_000_000, &mut |_, _| {});
+        let receipts: usize = world.nodes.iter().map(|node| node.journal().len()).sum();
+        assert_eq!(done, receipts as u64);
+        for (position, node) in world.nodes.iter().enumerate() {
+            for side in [Side::Left, Side::Right] {
+                let sender = &world.nodes[world.neighbour(position, side)];
+                let taken = node.journal().iter().filter(|receipt| receipt.side == side);
+                let packets: Vec<_> = taken.map(|receipt| receipt.packet).collect();
+                assert_eq!(packets, sender.sent(side.other()));
+            }
+        }
+    }
+
+    #[test]
+    fn what_each_position_sends_under_peterson() {
+        let mut world = World::<Peterson>::begin(&ring(&[4, 1, 3, 2]));
+        world.drain(100, &mut |_, _| {});
+        let sent = |position: usize| -> Vec<u32> {
+            let packets = world.nodes[position].sent(Side::Right).iter();
+            packets
+                .filter_map(|packet| match packet {
+                    Packet::Algo(value) => Some(value.get()),
+                    Packet::Leader(_) => None,
+                })
+                .collect()
+        };
+        assert_eq!(sent(0), [4, 2, 3, 4, 4, 4]);
+        assert_eq!(sent(1), [1, 4, 4, 3, 4, 4]);
+        assert_eq!(sent(2), [3, 1, 4, 3, 4, 4]);
+        assert_eq!(sent(3), [2, 3, 3, 4, 4, 4]);
+    }
+}

@@ -1,0 +1,15 @@
+//! Every row of the examples, through the program itself.
+
+use std::path::Path;
+use std::process::Command;
+
+#[test]
+fn every_row_is_answered_as_written() {
+    let examples = Path::new(env!("CARGO_MANIFEST_DIR")).join("../../examples");
+    let checked = Command::new(examples.join("check-rows"))
+        .arg(env!("CARGO_BIN_EXE_plain-replay"))
+        .output()
+        .expect("check-rows runs");
+    let messages = String::from_utf8_lossy(&checked.stdout);
+    assert!(checked.status.success(), "{messages}");
+}

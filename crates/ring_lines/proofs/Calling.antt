@@ -1,0 +1,35 @@
+-- Lists of calls, one after another.
+use Rattle.std.proofs.Common.{◌≡◌, ℕ, true, List, [], ◌∷◌, ◌++◌, Result, ap, sym, ◌∙◌, subst, append_assoc, append-nil}
+use Rattle.std.specs.List.{list_all}
+use Rattle.std.proofs.lemmas.List.Concat.{flat_map-append}
+use Rattle.std.proofs.lemmas.List.Folds.{list_all-append}
+use Rattle.std.proofs.lemmas.Bool.{and_from}
+use Rattle.ring_lines.specs.Ends.{Calls, Reading, bytes_in, bytes_of, goes_on, LastOf}
+
+-- calls, and then more calls
+pub Calls-append : {S A : Type 0} (gives : S → A → S → Type 0) (from mid to : S) (first second : List A) → Calls gives from first mid → Calls gives mid second to → Calls gives from (first ++ second) to
+Calls-append gives from mid to [] second a b = subst (λ s. Calls gives s second to) a b
+Calls-append gives from mid to (answer ∷ first) second a b = (a.0, a.1, Calls-append gives a.0 mid to first second a.2 b)
+
+-- the bytes of two lists of calls
+pub bytes_of-append : {E : Type 0} (first second : List (Result (List ℕ) E)) → bytes_of (first ++ second) ≡ bytes_of first ++ bytes_of second
+bytes_of-append {E} first second = flat_map-append bytes_in first second
+
+-- another call may follow each of two lists of calls
+pub went_on-append : (first second : List Reading) → list_all goes_on first ≡ true → list_all goes_on second ≡ true → list_all goes_on (first ++ second) ≡ true
+went_on-append first second a b = list_all-append goes_on first second ∙ and_from _ _ a b
+
+-- the last of the second list is the last of both
+pub LastOf-append : (first second : List Reading) (last : Reading) → list_all goes_on first ≡ true → LastOf second last → LastOf (first ++ second) last
+LastOf-append first second last on ends = record {
+  before = first ++ ends.before;
+  whole = rw ends.whole (sym (append_assoc first ends.before (last ∷ [])));
+  went_on = went_on-append first ends.before on ends.went_on;
+}
+
+-- what an end holds after calls that each add their bytes to it
+pub Calls-add : {S E : Type 0} (gives : S → Result (List ℕ) E → S → Type 0) (held : S → List ℕ) → ((from : S) (answer : Result (List ℕ) E) (to : S) → gives from answer to → held to ≡ held from ++ bytes_in answer) →
+    (from : S) (log : List (Result (List ℕ) E)) (to : S) → Calls gives from log to → held to ≡ held from ++ bytes_of log
+Calls-add gives held adds from [] to c = ap held c ∙ sym (append-nil (held from))
+Calls-add gives held adds from (answer ∷ log) to c =
+    Calls-add gives held adds c.0 log to c.2 ∙ ap (λ (front : List ℕ). front ++ bytes_of log) (adds from answer c.0 c.1) ∙ append_assoc (held from) (bytes_in answer) (bytes_of log)

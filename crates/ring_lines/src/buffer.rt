@@ -1,0 +1,210 @@
+ghost use Rattle.std.specs.Prelude.{◌≡◌, ◌+◌, ◌-◌, ◌<◌, ◌≤◌, ◌||◌, ◌==◌, [], length, take, drop, position, slice_range, nat_lt, if◌then◌else◌, IfOk};
+ghost use Rattle.ring_lines.specs.Ends.{reading};
+ghost use Rattle.ring_lines.specs.Filling.{answer_of, phase_of};
+
+use crate::answers::{LONGEST, Line, LineFault, Next, Phase};
+use crate::ends::{Intake, ReadFault};
+use std::alloc::{AllocError, Global};
+use std::marker::Model;
+
+/// How many bytes the memory of a buffer has.
+const ROOM: usize = 4096;
+
+/// The byte that ends a line.
+const LF: u8 = b'\n';
+
+/// The bytes that were read and not yet answered, for the lines of a reader that stands elsewhere.
+#[derive(Drop)]
+pub struct LineBuffer {
+    bytes: Vec<u8>,
+    start: usize,
+    end: usize,
+    reads: u32,
+    phase: Phase,
+}
+
+impl Model for LineBuffer {
+    ghost use Rattle.std.specs.Prelude.{slice_range};
+    ghost use Rattle.ring_lines.specs.Buffer.{BufferView, IsWithin};
+
+    ghost Value = { BufferView };
+
+    ghost view = { λ a. record { held = slice_range a.bytes.items a.start a.end; reads = a.reads; phase = a.phase } };
+
+    ghost invariant = { λ a. IsWithin a.bytes.items a.start a.end };
+}
+
+impl LineBuffer {
+    ghost use Rattle.ring_lines.specs.Filling.{Fills, FindsLine, answer_of, last_of};
+    ghost use Rattle.ring_lines.specs.Lines.{has_lf};
+    ghost use Rattle.ring_lines.specs.Reader.{Answers, GivesNext};
+    ghost use Rattle.ring_lines.specs.declared.answers.Phase.TheVariants as phase;
+
+    /// An empty buffer for lines that may make so many read calls.
+    pub fn new(alloc: Global, reads: u32) -> Result<LineBuffer, AllocError>
+        ensures { IfOk result (λ b. b ≡ record { held = []; reads = reads; phase = phase.Open }) }
+    {
+        let bytes = vec![in alloc; 0; ROOM]?;
+        Ok(LineBuffer {
+            bytes,
+            start: 0,
+            end: 0,
+            reads,
+            phase: Phase::Open,
+        })
+    }
+
+    /// Whether a whole line is held, so that the next call reads nothing.
+    pub fn has_line(&self) -> bool
+        ensures { result ≡ has_lf self.now.held }
+    {
+        self.bytes[self.start..self.end].contains(&LF)
+    }
+
+    /// The next line of what the reader gives.
+    ///
+    /// Makes no read call while a whole line is held, and no more than were granted in all. After
+    /// the end and after a fault it makes none, and answers the same again. Takes no memory.
+    pub fn next<R: Intake>(&mut self, reader: &mut R) -> Next
+        ensures { GivesNext R.read_gives reader.old self.old result reader.new self.new }
+    {
+        match self.phase {
+            Phase::Open => self.gather(reader),
+            Phase::Ended => Next::End,
+            Phase::Faulted(fault) => Next::Fault(fault),
+        }
+    }
+
+    // Reads on until a line is held whole, the input ends, or a fault comes.
+    fn gather<R: Intake>(&mut self, reader: &mut R) -> Next
+        requires { self.old.phase ≡ phase.Open }
+        ensures { Answers R.read_gives reader.old self.old result reader.new self.new }
+    {
+        let mut long = false;
+        loop {
+            if let Some(len) = self.line_end() {
+                return self.take_line(len, long);
+            }
+            long = self.drop_long(long);
+            self.fill(reader);
+            match self.phase {
+                Phase::Open => {}
+                Phase::Ended => return self.take_rest(long),
+                Phase::Faulted(fault) => return Next::Fault(fault),
+            }
+        }
+    }
+
+    // How many bytes stand before the first LF that is held.
+    fn line_end(&self) -> Option<usize>
+        ensures { FindsLine self.now.held result }
+    {
+        find_line(&self.bytes[self.start..self.end])
+    }
+
+    // Takes off the held bytes up to the first LF, which stands behind `len` of them.
+    fn take_line(&mut self, len: usize, long: bool) -> Next
+        requires { len < length self.old.held }
+        ensures answer { result ≡ answer_of long (take len self.old.held) }
+        ensures rest { self.new ≡ record self.old { held = drop (len + 1) self.old.held } }
+    {
+        let line = &self.bytes[self.start..self.start + len];
+        let answer = answer_for(line, long);
+        self.start += len + 1;
+        answer
+    }
+
+    // Takes off all held bytes, which the end of the input leaves.
+    fn take_rest(&mut self, long: bool) -> Next
+        ensures answer { result ≡ last_of long self.old.held }
+        ensures rest { self.new ≡ record self.old { held = [] } }
+    {
+        let line = &self.bytes[self.start..self.end];
+        let answer = if line.is_empty() && !long {
+            Next::End
+        } else {
+            answer_for(line, long)
+        };
+        self.start = self.end;
+        answer
+    }
+
+    // Drops what is held where it is part of a line that is too long, and says whether it is.
+    fn drop_long(&mut self, long: bool) -> bool
+        ensures long { result ≡ (long || nat_lt 128 (length self.old.held)) }
+        ensures held { self.new ≡ record self.old { held = if result then [] else self.old.held } }
+    {
+        let long = long || self.end - self.start > LONGEST;
+        if long {
+            self.start = self.end;
+        }
+        long
+    }
+
+    // Makes one read call where one is left, and closes where none is or none may follow.
+    fn fill<R: Intake>(&mut self, reader: &mut R)
+        requires opened { self.old.phase ≡ phase.Open }
+        requires short { length self.old.held ≤ 128 }
+        ensures { Fills R.read_gives reader.old self.old reader.new self.new }
+    {
+        if self.reads == 0 {
+            self.phase = Phase::Faulted(LineFault::Endless);
+            return;
+        }
+        self.reads -= 1;
+        let answer = read_behind(reader, &mut self.bytes, self.start, self.end);
+        self.end = self.end - self.start + answer.unwrap_or(0);
+        self.start = 0;
+        self.phase = phase_after(answer);
+    }
+}
+
+// How many bytes stand before the first LF.
+fn find_line(bytes: &[u8]) -> Option<usize>
+    ensures { result ≡ position (λ byte. byte == 10) bytes.now }
+{
+    bytes.iter().position(|byte| *byte == LF)
+}
+
+// The answer for a line that ends with these bytes, behind more than it may have where it is long.
+fn answer_for(line: &[u8], long: bool) -> Next
+    ensures { result ≡ answer_of long line.now }
+{
+    if long || line.len() > LONGEST {
+        Next::Long
+    } else {
+        Next::Line(Line::new(line))
+    }
+}
+
+// Whether more may come after a read call with this answer.
+fn phase_after(answer: Result<usize, ReadFault>) -> Phase
+    ensures { result ≡ phase_of answer }
+{
+    match answer {
+        Ok(0) => Phase::Ended,
+        Ok(_) => Phase::Open,
+        Err(ReadFault::Interrupted) => Phase::Open,
+        Err(ReadFault::Failed) => Phase::Faulted(LineFault::Read),
+    }
+}
+
+// Moves the bytes from `start` to `end` to the front, and makes one read call into the memory
+// behind them.
+fn read_behind<R: Intake>(
+    reader: &mut R,
+    bytes: &mut [u8],
+    start: usize,
+    end: usize,
+) -> Result<usize, ReadFault>
+    requires order { start ≤ end }
+    requires inside { end ≤ length bytes.old }
+    requires room { end - start < length bytes.old }
+    ensures room { length bytes.new ≡ length bytes.old }
+    ensures front { take (end - start) bytes.new ≡ slice_range bytes.old start end }
+    ensures within { IfOk result (λ count. (end - start) + count ≤ length bytes.new) }
+    ensures step { R.read_gives reader.old (reading result (drop (end - start) bytes.new)) reader.new }
+{
+    bytes.copy_within(start..end, 0);
+    reader.read(&mut bytes[end - start..])
+}

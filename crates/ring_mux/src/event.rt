@@ -1,0 +1,35 @@
+use ring_id::{GroupName, NodeId, Side};
+
+/// What a client asks for.
+#[derive(Clone, Copy, Debug)]
+pub enum Command<E> {
+    /// A new group that elects by this algorithm.
+    Create(GroupName, E),
+    /// A new member of a group, the last in joining order.
+    Join(GroupName, NodeId),
+    /// A member leaves a group.
+    Leave(GroupName, NodeId),
+    /// A new term of a group.
+    Start(GroupName),
+    /// What a member of the last term's ring knows of its leader.
+    Who(GroupName, NodeId),
+    /// The members of a group.
+    Members(GroupName),
+    /// The terms of a group, with their leaders.
+    Terms(GroupName),
+    /// All groups.
+    Groups,
+}
+
+/// What happens: a client's command, or a line of a schedule.
+#[derive(Clone, Copy, Debug)]
+pub enum Event<E> {
+    /// A command of a client.
+    Client(Command<E>),
+    /// One delivery, at this member of a group's running term, from this side.
+    Deliver(GroupName, NodeId, Side),
+    /// How many packets are in flight in a group's running term.
+    Pending(GroupName),
+    /// At most so many deliveries in a group's running term, each at the first ready link.
+    Drain(GroupName, u32),
+}

@@ -1,0 +1,22 @@
+-- A node's receipts came from one side or the other.
+use Rattle.std.proofs.Common.{◌≡◌, take, ap, ◌∙◌, arith}
+use Rattle.std.proofs.lemmas.List.{take_all}
+use Rattle.ring_world.specs.Worlds.{node_at, receipts_in}
+use Rattle.ring_world.proofs.Links.{length-both_sides, receipts_in-take}
+use Rattle.ring_world.proofs.world.World.delivered.Goals as goal
+
+pub loop-position-preserved : goal.loop-position-preserved
+loop-position-preserved g c =
+    let left = rw c.node-node.ensures.node at c.taken.ensures in
+    let right = rw c.node-node.ensures.node at c.taken-in-loop-position.ensures in
+    let more = receipts_in-take c.args.self.now.journals c.loop-position.position (omega (arith, c.node-node.ensures.sound.count, c.size-position-end.ensures.value)) in
+    record {
+      counted = omega (arith, left, right, more, length-both_sides ((node_at c.args.self.now c.loop-position.position).journal));
+      few = omega (arith, c.taken.type_inv, c.taken-in-loop-position.type_inv);
+    }
+
+pub returns : goal.returns
+returns g c =
+    let journals = c.args.self.now.journals in
+    let all : take c.loop-position.position journals ≡ journals = take_all c.loop-position.position journals (omega (arith, c.size-position-end.ensures.sound.count, c.size-position-end.ensures.value)) in
+    c.loop-position.invariant.counted ∙ ap receipts_in all

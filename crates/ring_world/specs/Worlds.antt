@@ -1,0 +1,128 @@
+-- Worlds: the journals of all nodes of a term, and what is in flight between them. What is in flight
+-- is said of whole journals; no queue, count or bit is in these definitions.
+use Rattle.std.specs.Prelude.{◌≡◌, ◌+◌, ◌<◌, ◌⊎◌, ◌&&◌, ℕ, zero, suc, Bool, not, nat_lt, List, [], ◌∷◌, ◌++◌, length, drop, Option, Some, None, slice_set, slice_index_or}
+use Rattle.ring_id.specs.declared.refusal.Refusal.{Refusal}
+use Rattle.ring_id.specs.declared.refusal.Refusal.TheVariants as refused
+use Rattle.ring_id.specs.declared.side.Side.{Side}
+use Rattle.ring_id.specs.declared.side.Side.TheVariants.{Left, Right}
+use Rattle.ring_id.specs.Refusals.{IsRefusal, first_of}
+use Rattle.ring_id.specs.Sides.{other, same_side}
+use Rattle.ring_roster.specs.Ring.{IsRing, neighbour}
+use Rattle.ring_election.specs.Tables.{Table}
+use Rattle.ring_node.specs.declared.charter.Charter.{Charter}
+use Rattle.ring_node.specs.declared.packet.Packet.{Packet}
+use Rattle.ring_node.specs.Nodes.{IsFaithful, Seated, receiving, sent_of, taken_of, told_of}
+use Rattle.ring_node.specs.Reports.{Told}
+use Rattle.ring_world.specs.declared.delivery.Delivery.{Delivery}
+use Rattle.ring_world.specs.declared.delivery.Delivery.TheVariants.{Moved, Idle, Refused}
+
+-- a term that runs: its charter, and the journal of each position of its ring
+pub record Running (E M : Type 0) : Type 0 where
+  pub charter : Charter E
+  pub journals : List (List (Side × Packet M))
+
+-- the length of its ring
+abbrev pub size_of : {E M : Type 0} → Running E M → ℕ
+size_of world = length world.charter.roster
+
+-- the node at a position
+abbrev pub node_at : {E M : Type 0} → Running E M → ℕ → Seated E M
+node_at world i = record { charter = world.charter; position = i; journal = slice_index_or world.journals i [] }
+
+-- the journals of nodes
+abbrev pub journals_of : {E M : Type 0} → List (Seated E M) → List (List (Side × Packet M))
+journals_of [] = []
+journals_of (node ∷ nodes) = node.journal ∷ journals_of nodes
+
+-- the nodes of a charter with these journals, from a position on
+abbrev pub nodes_from : {E M : Type 0} → Charter E → ℕ → List (List (Side × Packet M)) → List (Seated E M)
+nodes_from charter i [] = []
+nodes_from charter i (journal ∷ journals) = record { charter = charter; position = i; journal = journal } ∷ nodes_from charter (i + 1) journals
+
+-- the node of each position, in order
+abbrev pub nodes_of : {E M : Type 0} → Running E M → List (Seated E M)
+nodes_of world = nodes_from world.charter 0 world.journals
+
+-- the same world after one more receipt at a position
+abbrev pub after_receipt : {E M : Type 0} → Running E M → ℕ → Side → Packet M → Running E M
+after_receipt world i side packet = record world { journals = slice_set world.journals i ((receiving (node_at world i) side packet).journal) }
+
+-- how many packets were received in all
+abbrev pub receipts_in : {M : Type 0} → List (List (Side × Packet M)) → ℕ
+receipts_in [] = 0
+receipts_in (journal ∷ journals) = length journal + receipts_in journals
+
+abbrev pub delivered_of : {E M : Type 0} → Running E M → ℕ
+delivered_of world = receipts_in world.journals
+
+-- a link is named by its receiver: that position, and the side from which it takes
+module _ {E S M : Type 0} (t : E → Table S M) where
+  -- what was sent on a link
+  abbrev pub sent_into : Running E M → ℕ → Side → List (Packet M)
+  sent_into world i side = sent_of t (node_at world (neighbour (size_of world) i side)) (other side)
+
+  -- what was taken from it
+  abbrev pub taken_at : Running E M → ℕ → Side → List (Packet M)
+  taken_at world i side = taken_of (node_at world i) side
+
+  -- what is in flight on it: what was sent, without as many packets from the front as were taken
+  abbrev pub in_flight : Running E M → ℕ → Side → List (Packet M)
+  in_flight world i side = drop (length (taken_at world i side)) (sent_into world i side)
+
+  -- how many packets are in flight on the links into the positions below n
+  abbrev pub pending_below : Running E M → ℕ → ℕ
+  pending_below world zero = 0
+  pending_below world (suc n) = pending_below world n + (length (in_flight world n Left) + length (in_flight world n Right))
+
+  -- how many packets are in flight in all
+  abbrev pub pending_of : Running E M → ℕ
+  pending_of world = pending_below world (size_of world)
+
+  -- each link's receiver took a first part of what was sent there
+  pub record IsSoundLinks (world : Running E M) : Type 0 where
+    pub taken_first : (i : ℕ) (side : Side) → i < size_of world → taken_at world i side ++ in_flight world i side ≡ sent_into world i side
+
+  -- At every moment the journals are a sound family that fits, and what a node knows is the winner.
+  pub record IsSoundWorld (fits : E → List ℕ → ℕ → Side → ℕ → M → Type 0) (winner : E → List ℕ → ℕ) (world : Running E M) : Type 0 where
+    pub is_ring : IsRing world.charter.roster
+    pub count : length world.journals ≡ size_of world
+    pub links : IsSoundLinks world
+    pub faithful : (i : ℕ) → i < size_of world → IsFaithful t fits winner (node_at world i)
+
+  -- what the type of a world keeps of its nodes: they are the charter's, in order, in a sound world
+  pub record IsWorld (fits : E → List ℕ → ℕ → Side → ℕ → M → Type 0) (winner : E → List ℕ → ℕ) (charter : Charter E) (nodes : List (Seated E M)) : Type 0 where
+    pub nodes_are : nodes ≡ nodes_from charter 0 (journals_of nodes)
+    pub sound : IsSoundWorld fits winner (record { charter = charter; journals = journals_of nodes })
+
+  -- the first packet in flight on a link is taken, and no other journal changes
+  pub record HasMoved (old : Running E M) (i : ℕ) (side : Side) (report : Option (Told E)) (new : Running E M) : Type 0 where
+    pub packet : Packet M
+    pub rest : List (Packet M)
+    pub front : in_flight old i side ≡ packet ∷ rest
+    pub journals : new ≡ after_receipt old i side packet
+    pub report_is : report ≡ told_of t (node_at old i) (node_at new i)
+
+  -- nothing arrives from the right under an algorithm that isn't two-way
+  abbrev pub link_refusal : Bool → Side → Option Refusal
+  link_refusal two_way side = first_of (same_side side Right && not two_way) refused.OneWay None
+
+  -- what `deliver` answers, and the world after it
+  abbrev pub Delivers : Bool → Running E M → ℕ → Side → Delivery E M S → Running E M → Type 0
+  Delivers two_way old i side (Moved report) new = (link_refusal two_way side ≡ None) × HasMoved old i side report new
+  Delivers two_way old i side Idle new = (link_refusal two_way side ≡ None) × (in_flight old i side ≡ []) × (new ≡ old)
+  Delivers two_way old i side (Refused refusal) new = IsRefusal (link_refusal two_way side) (nat_lt 0 (length (in_flight old i side))) refusal × (new ≡ old)
+
+  -- a link comes before another: its receiver's position is less, or it is the left link of the same
+  abbrev pub IsBefore : ℕ → Side → ℕ → Side → Type 0
+  IsBefore j from i side = (j < i) ⊎ ((j ≡ i) × (from ≡ Left) × (side ≡ Right))
+
+  -- the first link with something in flight
+  pub record IsFirstLink (world : Running E M) (i : ℕ) (side : Side) : Type 0 where
+    pub inside : i < size_of world
+    pub waits : 0 < length (in_flight world i side)
+    pub least : (j : ℕ) (from : Side) → IsBefore j from i side → in_flight world j from ≡ []
+
+  -- what `ready` answers
+  abbrev pub IsReady : Running E M → Option (ℕ × Side) → Type 0
+  IsReady world None = (i : ℕ) (side : Side) → i < size_of world → in_flight world i side ≡ []
+  IsReady world (Some link) = IsFirstLink world link.0 link.1

@@ -1,0 +1,2 @@
+mod Subcommands
+mod CommandLine
