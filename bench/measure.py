@@ -1,10 +1,14 @@
 """Runs a replayer over lines and measures it."""
 
+import contextlib
 import hashlib
 import os
 import pathlib
 import subprocess
 import time
+
+# How long a run may give no reply at all, in seconds.
+PATIENCE = 120
 
 
 class Failed(Exception):
@@ -64,21 +68,31 @@ class HeldRun:
 
     def feed(self, lines):
         """Gives all lines, and waits until each has its reply."""
-        open_replies = 0
+        count = 0
         for piece in iter(lambda: lines.read(1 << 20), b""):
             self.process.stdin.write(piece)
-            open_replies += piece.count(b"\n")
+            count += piece.count(b"\n")
         self.process.stdin.flush()
-        while open_replies > 0:
+        self.wait_for(count)
+
+    def wait_for(self, count):
+        """Waits for this many replies."""
+        last = time.monotonic()
+        while count > 0:
             found = self.replies.read(1 << 20).count(b"\n")
-            if found == 0 and self.process.poll() is not None:
-                raise Failed(f"it ended with {open_replies} lines not answered")
-            if found == 0:
+            count -= found
+            if found > 0:
+                last = time.monotonic()
+            elif self.process.poll() is not None:
+                raise Failed(f"it ended with {count} lines not answered")
+            elif time.monotonic() - last > PATIENCE:
+                raise Failed(f"no reply for {PATIENCE} seconds, with {count} lines not answered")
+            else:
                 time.sleep(0.005)
-            open_replies -= found
 
     def __exit__(self, *_):
-        self.process.stdin.close()
+        with contextlib.suppress(BrokenPipeError):
+            self.process.stdin.close()
         self.process.wait()
         self.target.close()
         self.replies.close()
@@ -92,7 +106,9 @@ def peak_memory(command, lines, replies):
 
 
 def program_behind(command, lines, replies):
-    """The command that a script ends in, so that the script itself isn't measured."""
+    """The command that a script ends in, so that the script itself isn't measured. The script
+    is called once before that, for it may have to build the program."""
+    subprocess.run(command, stdin=subprocess.DEVNULL, check=True)
     lines.write_bytes(b"groups\n")
     with HeldRun(command, replies) as run, lines.open("rb") as source:
         run.feed(source)

@@ -9,88 +9,34 @@ const COUNT_LIMIT: u64 = 1_000_000_000;
 /// What one line asks for.
 #[derive(Clone, Copy, Debug, PartialEq, Eq)]
 pub enum Event {
-    Create {
-        group: GroupName,
-        kind: Kind,
-    },
-    Join {
-        group: GroupName,
-        node: NodeId,
-    },
-    Leave {
-        group: GroupName,
-        node: NodeId,
-    },
-    Start {
-        group: GroupName,
-    },
-    Who {
-        group: GroupName,
-        node: NodeId,
-    },
-    Members {
-        group: GroupName,
-    },
-    Terms {
-        group: GroupName,
-    },
+    Create(GroupName, Kind),
+    Join(GroupName, NodeId),
+    Leave(GroupName, NodeId),
+    Start(GroupName),
+    Who(GroupName, NodeId),
+    Members(GroupName),
+    Terms(GroupName),
     Groups,
-    Deliver {
-        group: GroupName,
-        node: NodeId,
-        side: Side,
-    },
-    Pending {
-        group: GroupName,
-    },
-    Drain {
-        group: GroupName,
-        count: u64,
-    },
+    Deliver(GroupName, NodeId, Side),
+    Pending(GroupName),
+    Drain(GroupName, u64),
 }
 
 /// The event that a line without its LF spells, `None` where it spells none.
 pub fn parse_event(line: &[u8]) -> Option<Event> {
     let mut words = Words { rest: Some(line) };
     let event = match words.next()? {
-        b"create" => Event::Create {
-            group: words.group()?,
-            kind: words.kind()?,
-        },
-        b"join" => Event::Join {
-            group: words.group()?,
-            node: words.node()?,
-        },
-        b"leave" => Event::Leave {
-            group: words.group()?,
-            node: words.node()?,
-        },
-        b"start" => Event::Start {
-            group: words.group()?,
-        },
-        b"who" => Event::Who {
-            group: words.group()?,
-            node: words.node()?,
-        },
-        b"members" => Event::Members {
-            group: words.group()?,
-        },
-        b"terms" => Event::Terms {
-            group: words.group()?,
-        },
+        b"create" => Event::Create(words.group()?, words.kind()?),
+        b"join" => Event::Join(words.group()?, words.node()?),
+        b"leave" => Event::Leave(words.group()?, words.node()?),
+        b"start" => Event::Start(words.group()?),
+        b"who" => Event::Who(words.group()?, words.node()?),
+        b"members" => Event::Members(words.group()?),
+        b"terms" => Event::Terms(words.group()?),
         b"groups" => Event::Groups,
-        b"deliver" => Event::Deliver {
-            group: words.group()?,
-            node: words.node()?,
-            side: words.side()?,
-        },
-        b"pending" => Event::Pending {
-            group: words.group()?,
-        },
-        b"drain" => Event::Drain {
-            group: words.group()?,
-            count: words.count()?,
-        },
+        b"deliver" => Event::Deliver(words.group()?, words.node()?, words.side()?),
+        b"pending" => Event::Pending(words.group()?),
+        b"drain" => Event::Drain(words.group()?, words.count()?),
         _ => return None,
     };
     words.rest.is_none().then_some(event)

@@ -24,34 +24,36 @@ impl Service {
 
     fn answer(&mut self, event: Event) -> Result<Reply<'_>, Refusal> {
         match event {
-            Event::Create { group, kind } => self.create(group, kind),
-            Event::Join { group, node } => self
-                .book
-                .group_mut(&group)?
-                .join(node)
-                .map(|()| Reply::Done),
-            Event::Leave { group, node } => self
-                .book
-                .group_mut(&group)?
-                .leave(node)
-                .map(|()| Reply::Done),
-            Event::Start { group } => self.start(&group),
-            Event::Who { group, node } => self.who(&group, node),
-            Event::Members { group } => Ok(Reply::Members(self.book.group(&group)?.members())),
-            Event::Terms { group } => Ok(Reply::Terms(self.book.group(&group)?.terms())),
+            Event::Create(group, kind) => self.create(group, kind),
+            Event::Join(group, node) => self.join(&group, node),
+            Event::Leave(group, node) => self.leave(&group, node),
+            Event::Start(group) => self.start(&group),
+            Event::Who(group, node) => self.who(&group, node),
+            Event::Members(group) => Ok(Reply::Members(self.book.group(&group)?.members())),
+            Event::Terms(group) => Ok(Reply::Terms(self.book.group(&group)?.terms())),
             Event::Groups => Ok(Reply::Groups(self.book.groups())),
-            Event::Deliver { group, node, side } => self.deliver(&group, node, side),
-            Event::Pending { group } => {
+            Event::Deliver(group, node, side) => self.deliver(&group, node, side),
+            Event::Pending(group) => {
                 let place = self.book.place(&group)?;
                 Ok(Reply::Pending(self.running_at(place)?.pending()))
             }
-            Event::Drain { group, count } => self.drain(&group, count),
+            Event::Drain(group, count) => self.drain(&group, count),
         }
     }
 
     fn create(&mut self, group: GroupName, kind: Kind) -> Result<Reply<'_>, Refusal> {
         self.book.create(group, kind)?;
         self.running.push(None);
+        Ok(Reply::Done)
+    }
+
+    fn join(&mut self, group: &GroupName, node: NodeId) -> Result<Reply<'_>, Refusal> {
+        self.book.group_mut(group)?.join(node)?;
+        Ok(Reply::Done)
+    }
+
+    fn leave(&mut self, group: &GroupName, node: NodeId) -> Result<Reply<'_>, Refusal> {
+        self.book.group_mut(group)?.leave(node)?;
         Ok(Reply::Done)
     }
 

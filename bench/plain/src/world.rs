@@ -104,13 +104,15 @@ impl<A: Algorithm> World<A> {
         }
     }
 
-    /// `None` where nothing is in flight on the link.
-    fn advance(&mut self, link: Link) -> Option<Option<NodeId>> {
+    /// Moves the front packet of a link that may be used.
+    fn advance(&mut self, link: Link) -> Delivery {
         let Link { receiver, side } = link;
         let sender = self.neighbour(receiver, side);
         let place = self.nodes[receiver].taken(side);
         let sent = self.nodes[sender].sent(side.other());
-        let packet = *sent.get(place)?;
+        let Some(&packet) = sent.get(place) else {
+            return Delivery::Idle;
+        };
         if sent.len() == place + 1 {
             self.ready.remove(link);
         }
@@ -119,7 +121,7 @@ impl<A: Algorithm> World<A> {
         let learned = node.take(side, packet);
         self.pending -= 1;
         self.count_sends(receiver, left, right);
-        Some(learned)
+        Delivery::Moved(learned)
     }
 }
 
@@ -128,10 +130,7 @@ impl<A: Algorithm> RunningTerm for World<A> {
         if link.side == Side::Right && !A::TWO_WAY {
             return Delivery::OneWay;
         }
-        match self.advance(link) {
-            Some(learned) => Delivery::Moved(learned),
-            None => Delivery::Idle,
-        }
+        self.advance(link)
     }
 
     fn drain(&mut self, count: u64, learned: &mut dyn FnMut(usize, NodeId)) -> u64 {
@@ -139,7 +138,7 @@ impl<A: Algorithm> RunningTerm for World<A> {
             let Some(link) = self.ready.least() else {
                 return done;
             };
-            if let Some(Some(leader)) = self.advance(link) {
+            if let Delivery::Moved(Some(leader)) = self.advance(link) {
                 learned(link.receiver, leader);
             }
         }

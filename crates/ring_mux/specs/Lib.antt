@@ -1,0 +1,4 @@
+pub mod Journeys
+pub mod Replies
+pub mod Steps
+pub mod Views

@@ -5,9 +5,12 @@
 //! ring, and never changes.
 #![tactic(auto)]
 
+mod carried;
 mod event;
+mod mux;
 mod reply;
 
 pub use event::Command;
 pub use event::Event;
+pub use mux::Mux;
 pub use reply::Reply;

@@ -57,6 +57,7 @@ group_shows object name group found first grows (Err refusal) Says shows = rw fo
 
 module _ {E : Type 0} (entries : List (List ℕ × Group E)) (object : Object E) (is : object_view entries ≡ object) (name : List ℕ) (g h : Group E)
     (at : Some g ≡ lookup (bytes_eq name) entries) (after : List (List ℕ × Group E)) (written : after ≡ set_value (bytes_eq name) entries h) where
+  -- the group that was looked up is found in what the book shows
   found : find name object ≡ Some (group_view g)
   found = found_in entries object is name g at
 

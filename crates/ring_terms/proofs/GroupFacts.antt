@@ -40,6 +40,7 @@ charter_stays greatest report t Noted u n = ap (λ c. c.value) n.1
 charter_stays greatest report t Known u n = ap (λ v. v.charter.value) n.1
 charter_stays greatest report t Stale u n = ap (λ v. v.charter.value) n.1
 
+-- the leaders of terms are those of what the terms show
 leaders_seen : {E : Type 0} (ts : List (Term E)) → map (λ (t : Term E). t.leader) ts ≡ map (λ (v : TermView). v.leader) (map (term_view {E = E}) ts)
 leaders_seen [] = refl
 leaders_seen (t ∷ ts) = ap (λ (rest : List (Option ℕ)). t.leader ∷ rest) (leaders_seen ts)
@@ -87,16 +88,19 @@ module _ {E : Type 0} (winner : E → List ℕ → ℕ) (name : List ℕ) (g : G
     pub last_shown : last_term (group_view g) ≡ Some (term_view t)
     last_shown = rw (length-map, slice_get-map, at) refl
 
+    -- it is the term of this group whose number is the number of terms
     last_of : IsTermOf winner name g.algorithm (length g.terms.items) t
     last_of = subst (λ n. IsTermOf winner name g.algorithm n t) (omega (arith, slice_get_within g.terms.items (length g.terms.items - 1) t at)) (kept.each _ t at)
 
-    -- it is sound, and has the charter of the last term of this group
+    -- it is sound
     pub last_sound : IsSound winner t
     last_sound = last_of.kept
 
+    -- its charter is that of the last term of what the group shows
     pub last_chartered : running_charter name (group_view g) ≡ Some t.charter.value
     last_chartered = rw (last_shown, length-map) (ap Some (sym last_of.chartered))
 
+    -- its number is the number of terms
     last_numbered : t.charter.value.term ≡ length (group_view g).terms
     last_numbered = ap (λ ch. ch.term) last_of.chartered ∙ sym (length-map g.terms.items (term_view {E = E}))
 
@@ -115,6 +119,7 @@ module _ {E : Type 0} (winner : E → List ℕ → ℕ) (name : List ℕ) (g : G
           ∙ map-set (term_view {E = E}) g.terms.items (length g.terms.items - 1) u
           ∙ ap (λ n. slice_set (map (term_view {E = E}) g.terms.items) (n - 1) (term_view u)) (sym (length-map g.terms.items (term_view {E = E})))
 
+      -- and where the same term is written, nothing changes
       unchanged : u ≡ t → map (term_view {E = E}) items ≡ (group_view g).terms
       unchanged e =
           changed ∙ ap (λ v. (with_last (term_view v) (group_view g)).terms) e ∙ slice_set-same (group_view g).terms _ (term_view t) last_shown

@@ -20,7 +20,12 @@ use std::sync::Arc;
 /// The greatest number of groups of a book.
 const MOST_GROUPS: usize = 256;
 
-/// All groups and their terms. Contracts see a book as the election object.
+/// All groups and their terms. Each term is one election of a leader on a ring (Lynch, Distributed
+/// Algorithms, 3.2).
+///
+/// Contracts see a book as the election object: groups in order of creation. Its type keeps the
+/// limits of 256 groups, 256 members of a group with different numbers and 1000 terms, and that a
+/// term's leader is the winner of its ring.
 #[derive(Drop)]
 pub struct Book<E: RingElection> {
     groups: IndexMap<GroupName, Group<E>>,
@@ -48,7 +53,7 @@ impl<E: RingElection> Book<E> {
         }
     }
 
-    /// The number of groups, at most 256. Takes no memory.
+    /// The number of groups, at most 256. Takes no memory. Its second clause is what every book keeps.
     pub fn len(&self) -> usize
         ensures value { result ≡ length self.now }
         ensures kept { IsKept E.winner self.now }
@@ -59,7 +64,8 @@ impl<E: RingElection> Book<E> {
     /// Adds a group last, without members or terms. Refused, the first that holds: `Exists` where a
     /// group has this name, `GroupLimit` where 256 groups stand, `NoMemory`.
     pub fn create(&mut self, alloc: Global, group: GroupName, algorithm: E) -> Result<(), Refusal>
-        ensures { Answers (create_refusal group self.old) true self.old result self.new (λ _. Creates group algorithm self.old self.new) }
+        ensures { Answers (create_refusal group self.old) true self.old result self.new
+            (λ _. Creates group algorithm self.old self.new) }
     {
         if self.groups.contains_key(&group) {
             return Err(Refusal::Exists);
@@ -77,7 +83,8 @@ impl<E: RingElection> Book<E> {
     /// Adds a member last. Refused, the first that holds: `NoGroup`, `Member` where a member has this
     /// identity's number, `RingFull` where 256 members stand, `NoMemory`.
     pub fn join(&mut self, group: GroupName, node: NodeId) -> Result<(), Refusal>
-        ensures { Answers (in_group group (join_refusal node) self.old) true self.old result self.new (λ _. InGroup group (Joins node) self.old self.new) }
+        ensures { Answers (in_group group (join_refusal node) self.old) true self.old result self.new
+            (λ _. InGroup group (Joins node) self.old self.new) }
     {
         let Some(found) = self.groups.get_mut(&group) else {
             return Err(Refusal::NoGroup);
@@ -88,7 +95,8 @@ impl<E: RingElection> Book<E> {
     /// Takes the member with this identity's number out, and keeps the order of the rest. Takes no
     /// memory. Refused, the first that holds: `NoGroup`, `NotMember` where no member has it.
     pub fn leave(&mut self, group: GroupName, node: NodeId) -> Result<(), Refusal>
-        ensures { Answers (in_group group (leave_refusal node) self.old) false self.old result self.new (λ _. InGroup group (Leaves node) self.old self.new) }
+        ensures { Answers (in_group group (leave_refusal node) self.old) false self.old result self.new
+            (λ _. InGroup group (Leaves node) self.old self.new) }
     {
         let Some(found) = self.groups.get_mut(&group) else {
             return Err(Refusal::NoGroup);
@@ -98,7 +106,8 @@ impl<E: RingElection> Book<E> {
 
     /// The charter that `start` would make now; nothing changes. Refused as `start` is.
     pub fn plan(&self, alloc: Global, group: GroupName) -> Result<Arc<Charter<E>>, Refusal>
-        ensures { Shows (in_group group start_refusal self.now) true result (λ c. OfGroup group (λ g. c.value ≡ next_charter group g) self.now) }
+        ensures { Shows (in_group group start_refusal self.now) true result
+            (λ c. OfGroup group (λ g. c.value ≡ next_charter group g) self.now) }
     {
         let Some(found) = self.groups.get(&group) else {
             return Err(Refusal::NoGroup);
@@ -110,7 +119,8 @@ impl<E: RingElection> Book<E> {
     /// informed, and gives its charter. Refused, the first that holds: `NoGroup`, `Empty` where there
     /// are no members, `TermLimit` where 1000 terms were started, `NoMemory`.
     pub fn start(&mut self, alloc: Global, group: GroupName) -> Result<Arc<Charter<E>>, Refusal>
-        ensures { Answers (in_group group start_refusal self.old) true self.old result self.new (λ c. InGroup group (StartsWith group c.value) self.old self.new) }
+        ensures { Answers (in_group group start_refusal self.old) true self.old result self.new
+            (λ c. InGroup group (StartsWith group c.value) self.old self.new) }
     {
         let Some(found) = self.groups.get_mut(&group) else {
             return Err(Refusal::NoGroup);
@@ -122,7 +132,8 @@ impl<E: RingElection> Book<E> {
     /// Takes no memory. Refused, the first that holds: `NoGroup`, `NoTerm`, `NotInTerm` where no
     /// member of the term's ring has this identity's number.
     pub fn who(&self, group: GroupName, node: NodeId) -> Result<Standing, Refusal>
-        ensures { Shows (in_group group (who_refusal node) self.now) false result (λ s. OfGroup group (Tells node s) self.now) }
+        ensures { Shows (in_group group (who_refusal node) self.now) false result
+            (λ s. OfGroup group (Tells node s) self.now) }
     {
         let Some(found) = self.groups.get(&group) else {
             return Err(Refusal::NoGroup);
@@ -133,7 +144,8 @@ impl<E: RingElection> Book<E> {
     /// The charter of the last term. Takes no memory. Refused, the first that holds: `NoGroup`,
     /// `NoTerm`.
     pub fn running(&self, group: GroupName) -> Result<&Arc<Charter<E>>, Refusal>
-        ensures { Shows (in_group group running_refusal self.now) false result (λ c. OfGroup group (λ g. running_charter group g ≡ Some c.now.value) self.now) }
+        ensures { Shows (in_group group running_refusal self.now) false result
+            (λ c. OfGroup group (λ g. running_charter group g ≡ Some c.now.value) self.now) }
     {
         let Some(found) = self.groups.get(&group) else {
             return Err(Refusal::NoGroup);
@@ -143,7 +155,8 @@ impl<E: RingElection> Book<E> {
 
     /// The members of a group in joining order. Refused, the first that holds: `NoGroup`, `NoMemory`.
     pub fn members(&self, alloc: Global, group: GroupName) -> Result<MemberList, Refusal>
-        ensures { Shows (in_group group never_refused self.now) true result (λ list. OfGroup group (λ g. list ≡ g.members) self.now) }
+        ensures { Shows (in_group group never_refused self.now) true result
+            (λ list. OfGroup group (λ g. list ≡ g.members) self.now) }
     {
         let Some(found) = self.groups.get(&group) else {
             return Err(Refusal::NoGroup);
@@ -154,7 +167,8 @@ impl<E: RingElection> Book<E> {
     /// The leader of each term of a group, or none, in order. Refused, the first that holds:
     /// `NoGroup`, `NoMemory`.
     pub fn terms(&self, alloc: Global, group: GroupName) -> Result<TermList, Refusal>
-        ensures { Shows (in_group group never_refused self.now) true result (λ list. OfGroup group (λ g. list ≡ leaders g) self.now) }
+        ensures { Shows (in_group group never_refused self.now) true result
+            (λ list. OfGroup group (λ g. list ≡ leaders g) self.now) }
     {
         let Some(found) = self.groups.get(&group) else {
             return Err(Refusal::NoGroup);

@@ -44,7 +44,9 @@ impl<E: RingElection> Group<E> {
     /// Adds a member last.
     pub(crate) fn join(&mut self, node: NodeId) -> Result<(), Refusal>
         requires { IsGroupOf E.winner self.old.name self.old }
-        ensures answer { Answers (join_refusal node (group_view self.old)) true (group_view self.old) result (group_view self.new) (λ _. Joins node (group_view self.old) (group_view self.new)) }
+        ensures answer { Answers (join_refusal node (group_view self.old)) true
+            (group_view self.old) result (group_view self.new)
+            (λ _. Joins node (group_view self.old) (group_view self.new)) }
         ensures kept { IsGroupOf E.winner self.old.name self.new }
     {
         if self.has_member(node) {
@@ -69,7 +71,9 @@ impl<E: RingElection> Group<E> {
     /// Takes out the member with this identity's number, and keeps the order of the rest.
     pub(crate) fn leave(&mut self, node: NodeId) -> Result<(), Refusal>
         requires { IsGroupOf E.winner self.old.name self.old }
-        ensures answer { Answers (leave_refusal node (group_view self.old)) false (group_view self.old) result (group_view self.new) (λ _. Leaves node (group_view self.old) (group_view self.new)) }
+        ensures answer { Answers (leave_refusal node (group_view self.old)) false
+            (group_view self.old) result (group_view self.new)
+            (λ _. Leaves node (group_view self.old) (group_view self.new)) }
         ensures kept { IsGroupOf E.winner self.old.name self.new }
     {
         if !self.has_member(node) {
@@ -81,7 +85,8 @@ impl<E: RingElection> Group<E> {
 
     /// The members.
     pub(crate) fn members(&self, alloc: Global) -> Result<MemberList, Refusal>
-        ensures { Shows (never_refused (group_view self.now)) true result (λ list. list ≡ (group_view self.now).members) }
+        ensures { Shows (never_refused (group_view self.now)) true result
+            (λ list. list ≡ (group_view self.now).members) }
     {
         let Ok(members) = Vec::from_slice(alloc, &self.members) else {
             return Err(Refusal::NoMemory);
@@ -91,7 +96,8 @@ impl<E: RingElection> Group<E> {
 
     /// The leader of each term.
     pub(crate) fn terms(&self, alloc: Global) -> Result<TermList, Refusal>
-        ensures { Shows (never_refused (group_view self.now)) true result (λ list. list ≡ leaders (group_view self.now)) }
+        ensures { Shows (never_refused (group_view self.now)) true result
+            (λ list. list ≡ leaders (group_view self.now)) }
     {
         let Ok(leaders) = self.terms.iter().map(|term| term.leader()).collect(alloc) else {
             return Err(Refusal::NoMemory);
@@ -102,7 +108,8 @@ impl<E: RingElection> Group<E> {
     /// The charter of the term that would start now.
     pub(crate) fn plan(&self, alloc: Global) -> Result<Arc<Charter<E>>, Refusal>
         requires { IsGroupOf E.winner self.now.name self.now }
-        ensures { Shows (start_refusal (group_view self.now)) true result (λ c. c.value ≡ next_charter self.now.name (group_view self.now)) }
+        ensures { Shows (start_refusal (group_view self.now)) true result
+            (λ c. c.value ≡ next_charter self.now.name (group_view self.now)) }
     {
         if self.members.is_empty() {
             return Err(Refusal::Empty);
@@ -120,7 +127,9 @@ impl<E: RingElection> Group<E> {
     /// Starts a term, whose ring is the member list.
     pub(crate) fn start(&mut self, alloc: Global) -> Result<Arc<Charter<E>>, Refusal>
         requires { IsGroupOf E.winner self.old.name self.old }
-        ensures answer { Answers (start_refusal (group_view self.old)) true (group_view self.old) result (group_view self.new) (λ c. StartsWith self.old.name c.value (group_view self.old) (group_view self.new)) }
+        ensures answer { Answers (start_refusal (group_view self.old)) true
+            (group_view self.old) result (group_view self.new)
+            (λ c. StartsWith self.old.name c.value (group_view self.old) (group_view self.new)) }
         ensures kept { IsGroupOf E.winner self.old.name self.new }
     {
         let charter = self.plan(alloc)?;
@@ -139,7 +148,8 @@ impl<E: RingElection> Group<E> {
     /// What the last term says to the member with this identity's number.
     pub(crate) fn who(&self, node: NodeId) -> Result<Standing, Refusal>
         requires { IsGroupOf E.winner self.now.name self.now }
-        ensures { Shows (who_refusal node (group_view self.now)) false result (λ s. Tells node s (group_view self.now)) }
+        ensures { Shows (who_refusal node (group_view self.now)) false result
+            (λ s. Tells node s (group_view self.now)) }
     {
         let Some(term) = self.terms.last() else {
             return Err(Refusal::NoTerm);
@@ -150,7 +160,8 @@ impl<E: RingElection> Group<E> {
     /// The charter of the last term.
     pub(crate) fn running(&self) -> Result<&Arc<Charter<E>>, Refusal>
         requires { IsGroupOf E.winner self.now.name self.now }
-        ensures { Shows (running_refusal (group_view self.now)) false result (λ c. running_charter self.now.name (group_view self.now) ≡ Some c.now.value) }
+        ensures { Shows (running_refusal (group_view self.now)) false result
+            (λ c. running_charter self.now.name (group_view self.now) ≡ Some c.now.value) }
     {
         let Some(term) = self.terms.last() else {
             return Err(Refusal::NoTerm);
@@ -161,7 +172,8 @@ impl<E: RingElection> Group<E> {
     /// Takes note of a report.
     pub(crate) fn note(&mut self, report: &Report<E>) -> Noting
         requires { IsGroupOf E.winner self.old.name self.old }
-        ensures notes { NotesGroup E.is_greatest self.old.name report.now (group_view self.old) result (group_view self.new) }
+        ensures notes { NotesGroup E.is_greatest self.old.name report.now
+            (group_view self.old) result (group_view self.new) }
         ensures kept { IsGroupOf E.winner self.old.name self.new }
     {
         let Some(term) = self.terms.last_mut() else {

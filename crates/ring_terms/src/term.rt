@@ -54,7 +54,8 @@ impl<E: RingElection> Term<E> {
     /// What this term says to the member with this identity's number.
     pub(crate) fn who(&self, node: NodeId) -> Result<Standing, Refusal>
         requires { IsSound E.winner self.now }
-        ensures { Shows (member_refusal node (term_view self.now)) false result (λ s. TellsIn node self.now.charter.value.term s (term_view self.now)) }
+        ensures { Shows (member_refusal node (term_view self.now)) false result
+            (λ s. TellsIn node self.now.charter.value.term s (term_view self.now)) }
     {
         let term = self.charter.term();
         let Some(position) = self.charter.roster().position(node) else {

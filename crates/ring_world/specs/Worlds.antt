@@ -55,6 +55,10 @@ receipts_in (journal ∷ journals) = length journal + receipts_in journals
 abbrev pub delivered_of : {E M : Type 0} → Running E M → ℕ
 delivered_of world = receipts_in world.journals
 
+-- nothing arrives from the right under an algorithm that isn't two-way
+abbrev pub link_refusal : Bool → Side → Option Refusal
+link_refusal two_way side = first_of (same_side side Right && not two_way) refused.OneWay None
+
 -- a link is named by its receiver: that position, and the side from which it takes
 module _ {E S M : Type 0} (t : E → Table S M) where
   -- what was sent on a link
@@ -101,10 +105,6 @@ module _ {E S M : Type 0} (t : E → Table S M) where
     pub front : in_flight old i side ≡ packet ∷ rest
     pub journals : new ≡ after_receipt old i side packet
     pub report_is : report ≡ told_of t (node_at old i) (node_at new i)
-
-  -- nothing arrives from the right under an algorithm that isn't two-way
-  abbrev pub link_refusal : Bool → Side → Option Refusal
-  link_refusal two_way side = first_of (same_side side Right && not two_way) refused.OneWay None
 
   -- what `deliver` answers, and the world after it
   abbrev pub Delivers : Bool → Running E M → ℕ → Side → Delivery E M S → Running E M → Type 0

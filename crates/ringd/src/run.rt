@@ -9,7 +9,7 @@ const READS: u32 = 1_000_000_000;
 ///
 /// A fault is `Read` where a read call failed, and `Endless` where the input had not ended when all
 /// read calls were made. A read that a signal interrupted is made again.
-pub fn replay(rt: &impl Input) -> Result<(), ProgramFault> {
+pub fn replay(rt: &(impl Input + Print + AllocGlobal)) -> Result<(), ProgramFault> {
     let mut input = rt.reader();
     let mut buffer = [0u8; 4096];
     for _ in 0..READS {

@@ -90,3 +90,6 @@ pub fn read_words(alloc: Global, words: &[String]) -> Result<Order, WordsFault>
         _ => unreachable!("the command line has no other subcommand"),
     }
 }
+
+#[cfg(test)]
+mod tests;

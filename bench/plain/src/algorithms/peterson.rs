@@ -1,5 +1,6 @@
-//! Peterson (PetersonLeader of Lynch, Distributed Algorithms, 15.1.3): an active node compares
-//! three neighbouring values and takes the middle one's greatest; the others become relays.
+//! Peterson (PetersonLeader of Lynch, Distributed Algorithms, 15.1.3): an active node looks at
+//! three neighbouring values and stays active, with the middle one, where that is the greatest;
+//! else it becomes a relay.
 
 use super::{Algorithm, Sends};
 use crate::names::{NodeId, Side};

@@ -2,7 +2,7 @@ use Rattle.std.proofs.Common.{◌∙◌, List, [], Option, ap, map}
 use Rattle.std.specs.Prelude.{string_bytes, unwrap_or}
 use Rattle.clap.specs.Words.{Text, app_of, takes}
 use Rattle.ringd.specs.Words.{ringd_app}
-use Rattle.ringd.proofs.CommandLine.{fails_for_memory, meets_replay, no_mistake, read_name, read_no_name, replay_is_taken, taken_names_replay}
+use Rattle.ringd.proofs.CommandLine.{fails_for_memory, meets_replay, no_mistake, replay_is_taken, taken_names_replay}
 use Rattle.ringd.proofs.words.read_words.Goals as goal
 
 pub returns-in_err-matches-clause-replay : goal.returns-in_err-matches-clause-replay

@@ -1,0 +1,63 @@
+-- What an event does to the worlds: which journals change, and what the numbers in replies count.
+use Rattle.std.specs.Prelude.{◌≡◌, ◌<◌, ◌≤◌, ◌⊎◌, ℕ, zero, suc, Bool, true, false, List, [], length, Option, Some, None, nat_lt}
+use Rattle.std.specs.Map.{set_value}
+use Rattle.std.specs.Str.{bytes_eq}
+use Rattle.ring_id.specs.declared.side.Side.{Side}
+use Rattle.ring_id.specs.Refusals.{IsRefusal}
+use Rattle.ring_roster.specs.Ring.{position_of}
+use Rattle.ring_election.specs.Tables.{Table}
+use Rattle.ring_node.specs.Reports.{Told}
+use Rattle.ring_world.specs.Worlds.{HasMoved, IsFirstLink, Running, in_flight, link_refusal, pending_of}
+use Rattle.ring_terms.specs.Object.{GroupView, InGroup, Object}
+use Rattle.ring_mux.specs.declared.carried.Carried.{Carried}
+use Rattle.ring_mux.specs.declared.carried.Carried.TheVariants.{Moved, Idle, Refused}
+use Rattle.ring_mux.specs.Steps.{MovesOf, MovesTimes}
+use Rattle.ring_mux.specs.Views.{Held, world_in}
+
+-- the worlds with this one under that name, all others as they were
+abbrev pub with_world : {E M : Type 0} → List ℕ → Running E M → List (List ℕ × Running E M) → List (List ℕ × Running E M)
+with_world name world worlds = set_value (bytes_eq name) worlds world
+
+-- a delivery on the link into a position of a group's world: that world moves and no other, and the
+-- object by a step at the member of that position
+pub record HasCarried {E S M : Type 0} (t : E → Table S M) (greatest : E → Bool) (name : List ℕ) (i : ℕ) (side : Side) (old new : Held E M) : Type 0 where
+  pub before : Running E M
+  pub after : Running E M
+  pub report : Option (Told E)
+  pub found : world_in name old.worlds ≡ Some before
+  pub moved : HasMoved t before i side report after
+  pub worlds : new.worlds ≡ with_world name after old.worlds
+  pub object : (node : ℕ) → position_of node before.charter.roster ≡ Some i → InGroup name (MovesOf greatest node) old.object new.object
+
+-- what a delivery on a link of a group's world does
+abbrev pub Carries : {E S M : Type 0} → (E → Table S M) → (E → Bool) → (E → Bool) → List ℕ → ℕ → Side → Running E M → Held E M → Carried → Held E M → Type 0
+Carries t two_way greatest name i side world old Moved new = (link_refusal (two_way world.charter.algorithm) side ≡ None) × HasCarried t greatest name i side old new
+Carries t two_way greatest name i side world old Idle new = (link_refusal (two_way world.charter.algorithm) side ≡ None) × (in_flight t world i side ≡ []) × (new ≡ old)
+Carries t two_way greatest name i side world old (Refused refusal) new =
+    IsRefusal (link_refusal (two_way world.charter.algorithm) side) (nat_lt 0 (length (in_flight t world i side))) refusal × (new ≡ old)
+
+-- one delivery in a group's world at its first ready link: no other world changes
+pub record TravelsOnce {E S M : Type 0} (t : E → Table S M) (name : List ℕ) (old new : List (List ℕ × Running E M)) : Type 0 where
+  pub before : Running E M
+  pub after : Running E M
+  pub position : ℕ
+  pub side : Side
+  pub report : Option (Told E)
+  pub found : world_in name old ≡ Some before
+  pub ready : IsFirstLink t before position side
+  pub moved : HasMoved t before position side report after
+  pub worlds : new ≡ with_world name after old
+
+-- so many deliveries in a group's world, one after another, each at the link that was ready then: no
+-- other world changes
+abbrev pub Travels : {E S M : Type 0} → (E → Table S M) → List ℕ → ℕ → List (List ℕ × Running E M) → List (List ℕ × Running E M) → Type 0
+Travels t name zero old new = new ≡ old
+Travels {E} {S} {M} t name (suc n) old new = (mid : List (List ℕ × Running E M)) × Travels t name n old mid × TravelsOnce t name mid new
+
+-- what the deliveries of a drain did: how many were made, and whether one was refused memory
+pub record Makes {E S M : Type 0} (t : E → Table S M) (greatest : E → Bool) (name : List ℕ) (count done : ℕ) (starved : Bool) (old new : Held E M) : Type 0 where
+  pub within : done ≤ count
+  pub object : InGroup name (MovesTimes greatest done) old.object new.object
+  pub worlds : Travels t name done old.worlds new.worlds
+  pub ended : starved ≡ false → (done ≡ count) ⊎ ((w : Running E M) → world_in name new.worlds ≡ Some w → pending_of t w ≡ 0)
+  pub stopped : starved ≡ true → (done < count) × ((w : Running E M) → world_in name new.worlds ≡ Some w → 0 < pending_of t w)

@@ -1,0 +1,40 @@
+-- What a mux stands for: the election object, and the world of the last term of each group.
+use Rattle.std.specs.Prelude.{◌≡◌, ◌<◌, ℕ, List, length, Option, Some, is_some, map, slice_get}
+use Rattle.std.specs.Map.{lookup}
+use Rattle.std.specs.Str.{bytes_eq}
+use Rattle.ring_election.specs.Tables.{Table}
+use Rattle.ring_node.specs.Nodes.{known_of}
+use Rattle.ring_world.specs.Worlds.{Running, node_at, pending_of}
+use Rattle.ring_terms.specs.Object.{GroupView, Object, OfGroup, OfLast, TermView, find, last_term}
+use Rattle.ring_terms.specs.Charters.{running_charter}
+
+-- the object, and a world under the name of each group that has a term
+pub record Held (E M : Type 0) : Type 0 where
+  pub object : Object E
+  pub worlds : List (List ℕ × Running E M)
+
+-- the world under a name
+abbrev pub world_in : {E M : Type 0} → List ℕ → List (List ℕ × Running E M) → Option (Running E M)
+world_in name worlds = lookup (bytes_eq name) worlds
+
+-- The world of a term: its charter is the term's, and a member is informed exactly where its node
+-- knows the leader.
+pub record IsWorldOf {E S M : Type 0} (t : E → Table S M) (name : List ℕ) (group : GroupView E) (term : TermView) (worlds : List (List ℕ × Running E M)) : Type 0 where
+  pub world : Running E M
+  pub found : world_in name worlds ≡ Some world
+  pub charter : running_charter name group ≡ Some world.charter
+  pub marks : (i : ℕ) → i < length term.ring → slice_get term.informed i ≡ Some (is_some (known_of t (node_at world i)))
+
+-- what the type of a mux keeps: the last term of each group has its world
+pub record IsHeld {E S M : Type 0} (t : E → Table S M) (object : Object E) (worlds : List (List ℕ × Running E M)) : Type 0 where
+  pub each : (name : List ℕ) (group : GroupView E) (term : TermView) → find name object ≡ Some group → last_term group ≡ Some term → IsWorldOf t name group term worlds
+
+-- so many packets are in flight in the world under a name
+pub record IsPendingIn {E S M : Type 0} (t : E → Table S M) (name : List ℕ) (number : ℕ) (held : Held E M) : Type 0 where
+  pub world : Running E M
+  pub found : world_in name held.worlds ≡ Some world
+  pub counted : number ≡ pending_of t world
+
+-- a position on the ring of a group's last term
+abbrev pub IsSeat : {E : Type 0} → List ℕ → ℕ → Object E → Type 0
+IsSeat name i object = OfGroup name (OfLast (λ term. i < length term.ring)) object

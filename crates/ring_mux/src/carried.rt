@@ -1,0 +1,12 @@
+use ring_id::Refusal;
+
+/// What a delivery in a group's running term did.
+#[derive(Clone, Copy, Debug, PartialEq, Eq)]
+pub enum Carried {
+    /// The front packet of the link was taken, and what it told was noted.
+    Moved,
+    /// Nothing is in flight on the link.
+    Idle,
+    /// Refused, and nothing has changed.
+    Refused(Refusal),
+}
