@@ -1,0 +1,5 @@
+pub mod Appending
+pub mod OneSpelling
+pub mod Reading
+pub mod Sinks
+pub mod Spelling

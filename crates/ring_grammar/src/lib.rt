@@ -1,1 +1,16 @@
+//! The grammar of lines both ways: the events that lines spell, and the spellings of replies.
+//!
+//! Each event and each reply has one spelling, and no bytes spell two of them. A line that spells no
+//! event is none of the grammar's. Reading and printing take no memory.
 #![tactic(auto)]
+
+mod parse;
+mod print;
+mod sink;
+mod spelling;
+mod values;
+
+pub use parse::{parse_command, parse_event};
+pub use print::print_reply;
+pub use sink::{Sink, SinkFailed};
+pub use spelling::one_spelling;

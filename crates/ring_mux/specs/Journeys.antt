@@ -8,7 +8,8 @@ use Rattle.ring_roster.specs.Ring.{position_of}
 use Rattle.ring_election.specs.Tables.{Table}
 use Rattle.ring_node.specs.Reports.{Told}
 use Rattle.ring_world.specs.Worlds.{HasMoved, IsFirstLink, Running, in_flight, link_refusal, pending_of}
-use Rattle.ring_terms.specs.Object.{GroupView, InGroup, Object}
+use Rattle.ring_terms.specs.Commands.{running_refusal}
+use Rattle.ring_terms.specs.Object.{InGroup, OfGroup}
 use Rattle.ring_mux.specs.declared.carried.Carried.{Carried}
 use Rattle.ring_mux.specs.declared.carried.Carried.TheVariants.{Moved, Idle, Refused}
 use Rattle.ring_mux.specs.Steps.{MovesOf, MovesTimes}
@@ -59,5 +60,6 @@ pub record Makes {E S M : Type 0} (t : E → Table S M) (greatest : E → Bool) 
   pub within : done ≤ count
   pub object : InGroup name (MovesTimes greatest done) old.object new.object
   pub worlds : Travels t name done old.worlds new.worlds
+  pub runs : OfGroup name (λ group. running_refusal group ≡ None) new.object
   pub ended : starved ≡ false → (done ≡ count) ⊎ ((w : Running E M) → world_in name new.worlds ≡ Some w → pending_of t w ≡ 0)
   pub stopped : starved ≡ true → (done < count) × ((w : Running E M) → world_in name new.worlds ≡ Some w → 0 < pending_of t w)

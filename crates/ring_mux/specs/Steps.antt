@@ -10,7 +10,7 @@ use Rattle.ring_roster.specs.Ring.{position_of}
 use Rattle.ring_world.specs.Worlds.{link_refusal}
 use Rattle.ring_terms.specs.declared.standing.Standing.{Standing}
 use Rattle.ring_terms.specs.declared.standing.Standing.TheVariants as standing
-use Rattle.ring_terms.specs.Object.{GroupView, InGroup, Object, OfGroup, TermView, last_term, leaders, names}
+use Rattle.ring_terms.specs.Object.{GroupView, InGroup, Object, OfGroup, last_term, leaders, names}
 use Rattle.ring_terms.specs.Commands.{Creates, Joins, Leaves, Starts, create_refusal, in_group, join_refusal, leave_refusal, never_refused, running_refusal, start_refusal, who_refusal}
 use Rattle.ring_terms.specs.Moves.{Moves}
 use Rattle.ring_terms.specs.Standings.{Tells}

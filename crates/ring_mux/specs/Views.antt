@@ -1,5 +1,5 @@
 -- What a mux stands for: the election object, and the world of the last term of each group.
-use Rattle.std.specs.Prelude.{◌≡◌, ◌<◌, ℕ, List, length, Option, Some, is_some, map, slice_get}
+use Rattle.std.specs.Prelude.{◌≡◌, ◌<◌, ℕ, List, length, Option, Some, is_some, slice_get}
 use Rattle.std.specs.Map.{lookup}
 use Rattle.std.specs.Str.{bytes_eq}
 use Rattle.ring_election.specs.Tables.{Table}

@@ -10,7 +10,6 @@ mod event;
 mod mux;
 mod reply;
 
-pub use event::Command;
-pub use event::Event;
+pub use event::{Command, Event};
 pub use mux::Mux;
 pub use reply::Reply;

@@ -1,12 +1,12 @@
 ghost use Rattle.std.specs.Prelude.{◌≡◌, [], Some, None, IsOk, IfOk, OnErr, true, false};
-ghost use Rattle.ring_roster.specs.Ring.{position_of};
+ghost use Rattle.ring_roster.specs.Ring.{IsRing, position_of};
 ghost use Rattle.ring_world.specs.Worlds.{IsReady, pending_of};
 ghost use Rattle.ring_terms.specs.Commands.{Shows, in_group, running_refusal, who_refusal};
 ghost use Rattle.ring_terms.specs.Object.{OfGroup, OfLast};
 ghost use Rattle.ring_mux.specs.Journeys.{Carries, Makes};
 ghost use Rattle.ring_mux.specs.Replies.{done_reply, told_reply};
 ghost use Rattle.ring_mux.specs.Steps.{Run, Step, StepOf, standing_reply};
-ghost use Rattle.ring_mux.specs.Views.{IsPendingIn, IsSeat, world_in};
+ghost use Rattle.ring_mux.specs.Views.{IsHeld, IsPendingIn, IsSeat, world_in};
 
 use crate::carried::Carried;
 use crate::event::{Command, Event};
@@ -179,7 +179,8 @@ impl<E: RingElection> Mux<E> {
 
     /// Where a member of a group's running term stands on its ring.
     fn seat(&self, group: GroupName, node: NodeId) -> Result<usize, Refusal>
-        ensures { Shows (in_group group (who_refusal node) self.now.object) false result (λ i. OfGroup group (OfLast (λ term. position_of node term.ring ≡ Some i)) self.now.object) }
+        ensures seat { Shows (in_group group (who_refusal node) self.now.object) false result (λ i. OfGroup group (OfLast (λ term. position_of node term.ring ≡ Some i)) self.now.object) }
+        ensures kept { IsHeld E.table self.now.object self.now.worlds }
     {
         let charter = self.book.running(group)?;
         match charter.roster().position(node) {
@@ -190,7 +191,8 @@ impl<E: RingElection> Mux<E> {
 
     /// How many packets are in flight in a group's world.
     fn waiting(&self, group: GroupName) -> u128
-        ensures { (w : _) → world_in group self.now.worlds ≡ Some w → result ≡ pending_of E.table w }
+        ensures counted { (w : _) → world_in group self.now.worlds ≡ Some w → result ≡ pending_of E.table w }
+        ensures kept { IsHeld E.table self.now.object self.now.worlds }
     {
         match self.worlds.get(&group) {
             Some(world) => world.pending(),
@@ -200,7 +202,8 @@ impl<E: RingElection> Mux<E> {
 
     /// The first ready link of a group's world.
     fn ready(&self, group: GroupName) -> Option<(usize, Side)>
-        ensures { (w : _) → world_in group self.now.worlds ≡ Some w → IsReady E.table w result }
+        ensures first { (w : _) → world_in group self.now.worlds ≡ Some w → IsReady E.table w result × IsRing w.charter.roster }
+        ensures kept { IsHeld E.table self.now.object self.now.worlds }
     {
         let world = self.worlds.get(&group)?;
         world.ready()
@@ -237,7 +240,8 @@ impl<E: RingElection> Mux<E> {
             };
             match self.carry(group, position, side) {
                 Carried::Moved => {}
-                Carried::Idle | Carried::Refused(_) => return (done, true),
+                Carried::Idle => return (done, true),
+                Carried::Refused(_) => return (done, true),
             }
         }
         (count, false)

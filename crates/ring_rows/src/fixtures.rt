@@ -1,10 +1,10 @@
 //! What the tests of all layers make: identities, names, rings, charters, nodes and worlds.
 
 use ring_election::RingElection;
-use ring_id::{GroupName, NodeId, TermNo};
+use ring_id::{GroupName, NodeId, Refusal, Side, TermNo};
 use ring_node::{Charter, Envelope, Node};
-use ring_id::Side;
 use ring_roster::Roster;
+use ring_world::{Delivery, World};
 use std::alloc::Global;
 use std::sync::Arc;
 use std::test::Fail;
@@ -23,13 +23,9 @@ pub fn ids(alloc: Global, numbers: &[u32]) -> Result<Vec<NodeId>, Fail> {
     Ok(members)
 }
 
-/// The identities from 1 to this number.
-pub fn rising(alloc: Global, most: u32) -> Result<Vec<NodeId>, Fail> {
-    let mut members = Vec::new(alloc);
-    for number in 1..=most {
-        members.push(id(number)?)?;
-    }
-    Ok(members)
+/// The numbers from 1 to this one.
+pub fn rising(alloc: Global, most: u32) -> Result<Vec<u32>, Fail> {
+    Ok((1..=most).collect(alloc)?)
 }
 
 /// The group name with this text.
@@ -73,5 +69,63 @@ pub fn envelope<E: RingElection>(
     place: usize,
 ) -> Result<Envelope<E>, Fail> {
     let copy = Arc::try_clone(node.charter())?;
-    Ok(node.envelope(copy, side, place).ok_or("nothing was sent there")?)
+    Ok(
+        node.envelope(copy, side, place)
+            .ok_or("nothing was sent there")?,
+    )
+}
+
+/// What a delivery did, in values that can be compared.
+#[derive(Clone, Copy, Debug, PartialEq, Eq)]
+pub enum Did {
+    /// A packet was taken, by which its receiver learned nothing.
+    Moved,
+    /// A packet was taken, by which the member with this number first knows this leader.
+    Told(u32, u32),
+    /// There was no packet.
+    Idle,
+    /// It was refused.
+    Refused(Refusal),
+}
+
+/// The world of term 1 of group `a` on the ring of these numbers, with nothing delivered.
+pub fn begin<E: RingElection>(
+    alloc: Global,
+    algorithm: E,
+    numbers: &[u32],
+) -> Result<World<E>, Fail> {
+    Ok(World::begin(alloc, charter(alloc, algorithm, 1, numbers)?)?)
+}
+
+/// Delivers to this position from this side.
+pub fn deliver<E: RingElection>(
+    world: &mut World<E>,
+    position: usize,
+    side: Side,
+) -> Result<Did, Fail> {
+    if position >= world.charter().roster().len() {
+        return Err("no such position".into());
+    }
+    Ok(match world.deliver(position, side) {
+        Delivery::Moved(None) => Did::Moved,
+        Delivery::Moved(Some(report)) => Did::Told(report.member().get(), report.leader().get()),
+        Delivery::Idle => Did::Idle,
+        Delivery::Refused(refusal) => Did::Refused(refusal),
+    })
+}
+
+/// Delivers at the link that is ready until none is, and at most so often: how many deliveries moved
+/// a packet.
+pub fn drain<E: RingElection>(world: &mut World<E>, most: u32) -> Result<u32, Fail> {
+    for done in 0..most {
+        let Some((position, side)) = world.ready() else {
+            return Ok(done);
+        };
+        match deliver(world, position, side)? {
+            Did::Moved | Did::Told(_, _) => {}
+            Did::Idle => return Err("nothing is in flight on the ready link".into()),
+            Did::Refused(refusal) => return Err(refusal.into()),
+        }
+    }
+    Ok(most)
 }

@@ -51,7 +51,11 @@ fn names_have_1_to_16_small_letters_digits_and_hyphens(rt: HostRuntime) -> Resul
         b":".as_slice(),
         b"\xc3\xa4".as_slice(),
     ] {
-        assert_eq!(rt; GroupName::from_bytes(name).err(), Some(Refusal::BadLine), "{name:?}");
+        assert_eq!(rt;
+            GroupName::from_bytes(name).err(),
+            Some(Refusal::BadLine),
+            "{name:?}"
+        );
     }
     Ok(())
 }

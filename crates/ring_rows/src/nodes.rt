@@ -47,11 +47,15 @@ fn carried(envelope: &Envelope<Chang>) -> (Packet<NodeId>, usize) {
     (envelope.packet(), envelope.index())
 }
 
-/// Whether two nodes can't be told apart by how much they sent and took and by what they know.
+/// How many packets a node sent to its left and right and took from there, and what it knows.
 fn counts(node: &Node<Chang>) -> ([usize; 4], Option<NodeId>) {
-    let sent = (node.sent(Side::Left), node.sent(Side::Right));
-    let taken = (node.taken(Side::Left), node.taken(Side::Right));
-    ([sent.0, sent.1, taken.0, taken.1], node.known())
+    let packets = [
+        node.sent(Side::Left),
+        node.sent(Side::Right),
+        node.taken(Side::Left),
+        node.taken(Side::Right),
+    ];
+    (packets, node.known())
 }
 
 /// Offers an envelope that is not taken: the fault. The envelope comes back as it was, and the node
@@ -82,13 +86,22 @@ fn a_node_starts_with_its_own_identity_sent_to_the_right(rt: HostRuntime) -> Res
         assert_eq!(rt; node.position(), position);
         assert!(rt; node.charter().same(&shared));
         assert_eq!(rt; counts(&node), ([0, 1, 0, 0], None));
-        assert_eq!(rt; node.packet(Side::Right, 0), Some(Packet::Algo(id(number)?)));
+        assert_eq!(rt;
+            node.packet(Side::Right, 0),
+            Some(Packet::Algo(id(number)?))
+        );
         assert_eq!(rt; node.packet(Side::Right, 1), None);
         assert_eq!(rt; node.packet(Side::Left, 0), None);
         assert_eq!(rt; node.receipt(Side::Left, 0), None);
         assert!(rt; node.report(Arc::try_clone(&shared)?).is_none());
-        assert!(rt; node.envelope(Arc::try_clone(&shared)?, Side::Right, 1).is_none());
-        assert!(rt; node.envelope(Arc::try_clone(&shared)?, Side::Left, 0).is_none());
+        assert!(rt;
+            node.envelope(Arc::try_clone(&shared)?, Side::Right, 1)
+                .is_none()
+        );
+        assert!(rt;
+            node.envelope(Arc::try_clone(&shared)?, Side::Left, 0)
+                .is_none()
+        );
     }
     Ok(())
 }
@@ -209,7 +222,10 @@ fn the_greatest_decides_and_the_others_are_told(rt: HostRuntime) -> Result<(), F
     for node in [zero, one, two] {
         let report = node.report(Arc::try_clone(node.charter())?);
         let report = report.ok_or("the node does not know")?;
-        assert_eq!(rt; Some(report.member()), node.charter().roster().at(node.position()));
+        assert_eq!(rt;
+            Some(report.member()),
+            node.charter().roster().at(node.position())
+        );
         assert_eq!(rt; report.leader(), id(3)?);
         assert!(rt; report.charter().same(node.charter()));
     }

@@ -23,17 +23,26 @@ fn lists_that_are_no_rings_are_refused(rt: HostRuntime) -> Result<(), Fail> {
 #[test]
 fn a_ring_has_at_most_256_members(rt: HostRuntime) -> Result<(), Fail> {
     let alloc = rt.alloc();
-    let mut members = rising(alloc, 256)?;
+    let mut members = ids(alloc, &rising(alloc, 256)?)?;
     assert_eq!(rt; Roster::from_members(alloc, &members)?.len(), 256);
     members.push(id(1)?)?;
-    assert_eq!(rt; Roster::from_members(alloc, &members).err(), Some(Refusal::RingFull));
+    assert_eq!(rt;
+        Roster::from_members(alloc, &members).err(),
+        Some(Refusal::RingFull)
+    );
     members.pop();
     members.push(id(257)?)?;
-    assert_eq!(rt; Roster::from_members(alloc, &members).err(), Some(Refusal::RingFull));
+    assert_eq!(rt;
+        Roster::from_members(alloc, &members).err(),
+        Some(Refusal::RingFull)
+    );
     members.pop();
     members.pop();
     members.push(id(1)?)?;
-    assert_eq!(rt; Roster::from_members(alloc, &members).err(), Some(Refusal::Member));
+    assert_eq!(rt;
+        Roster::from_members(alloc, &members).err(),
+        Some(Refusal::Member)
+    );
     Ok(())
 }
 

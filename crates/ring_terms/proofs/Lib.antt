@@ -2,5 +2,5 @@ mod BookFacts
 mod Entries
 mod GroupFacts
 mod Informing
-mod Members
+pub mod Members
 mod Places

@@ -69,7 +69,8 @@ impl<E: RingElection> World<E> {
     /// refused `NoMemory` where a growth was. Nothing has changed then.
     pub fn deliver(&mut self, position: usize, side: Side) -> Delivery<E>
         requires { position < length self.old.charter.roster }
-        ensures { Delivers E.table (E.is_two_way self.old.charter.algorithm) self.old position side result self.new }
+        ensures delivers { Delivers E.table (E.is_two_way self.old.charter.algorithm) self.old position side result self.new }
+        ensures sound { IsSoundWorld E.table E.fits E.winner self.new }
     {
         if self.is_closed(side) {
             return Delivery::Refused(Refusal::OneWay);
@@ -110,7 +111,8 @@ impl<E: RingElection> World<E> {
 
     /// The first link with something in flight: the least position that receives, left before right.
     pub fn ready(&self) -> Option<(usize, Side)>
-        ensures { IsReady E.table self.now result }
+        ensures first { IsReady E.table self.now result }
+        ensures sound { IsSoundWorld E.table E.fits E.winner self.now }
     {
         for position in 0..self.size() {
             if self.waiting(position, Side::Left) > 0 {
@@ -125,11 +127,13 @@ impl<E: RingElection> World<E> {
 
     /// Whether nothing is ever sent on the links that arrive from this side.
     fn is_closed(&self, side: Side) -> bool
-        ensures { result ≡ (same_side side Right && not (E.is_two_way self.now.charter.algorithm)) }
+        ensures value { result ≡ (same_side side Right && not (E.is_two_way self.now.charter.algorithm)) }
+        ensures sound { IsSoundWorld E.table E.fits E.winner self.now }
     {
+        let one_way = !self.charter().algorithm().two_way();
         match side {
             Side::Left => false,
-            Side::Right => !self.charter.algorithm().two_way(),
+            Side::Right => one_way,
         }
     }
 
@@ -146,6 +150,7 @@ impl<E: RingElection> World<E> {
         ensures journals { OnOk result (self.new ≡ after_receipt self.old position side packet) }
         ensures report { IfOk result (λ report. report ≡ told_of E.table (node_at self.old position) (node_at self.new position)) }
         ensures err { OnErr result (self.new ≡ self.old) }
+        ensures sound { IsSoundWorld E.table E.fits E.winner self.new }
     {
         let Ok(copy) = Arc::try_clone(&self.charter) else {
             return Err(NoMemory);

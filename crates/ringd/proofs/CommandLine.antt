@@ -1,5 +1,5 @@
 -- The program's own command line: it takes `ringd replay`, and what it takes names `replay`.
-use Rattle.std.proofs.Common.{◌≡◌, ◌∙◌, ◌||◌, ℕ, Bool, codes, cond, true, false, refl, sym, ap, List, [], ◌∷◌, Option, Some, None, Result, Ok, Err, IsErrAnd, IsOkUnless, is_some, option_map, true≢false}
+use Rattle.std.proofs.Common.{◌≡◌, ◌∙◌, ◌||◌, Bool, codes, cond, true, false, refl, sym, ap, List, [], ◌∷◌, Option, Some, None, Result, Ok, Err, IsErrAnd, IsOkUnless, is_some, option_map, true≢false}
 use Rattle.std.specs.Prelude.{Box, slice_get, unwrap_or}
 use Rattle.std.specs.Box.{box_value}
 use Rattle.std.specs.Str.{bytes_eq}
@@ -8,14 +8,14 @@ use Rattle.clap.specs.Walk.{Row, Text, Walk, answers_to, finished, nothing_held,
 use Rattle.clap.specs.Simple.{App, Shape, argument_words, built, entered, label_of, names_of, rows_at}
 use Rattle.clap.specs.Kinds.{Kinds, or_else}
 use Rattle.clap.specs.Faults.{check_fault, defaults_fault, entered_fault, settle_fault, walk_fault}
-use Rattle.clap.specs.Words.{HasMatchesOf, app_of, fault_of, kind_of, is_simple, is_simple_and_free, subcommand_name_of, subcommand_of, subcommand_rows, subcommand_rows_of, takes}
+use Rattle.clap.specs.Words.{HasMatchesOf, fault_of, kind_of, is_simple, is_simple_and_free, subcommand_name_of, subcommand_of, subcommand_rows, subcommand_rows_of, takes}
 use Rattle.clap.specs.declared.error.Error.{Error}
 use Rattle.clap.specs.declared.error.kind.ErrorKind.TheVariants.{OutOfMemory}
 use Rattle.clap.specs.declared.parser.matches.ArgMatches.{ArgMatches}
 use Rattle.clap.specs.declared.parser.matches.SubCommand.{SubCommand}
 use Rattle.clap.specs.declared.parser.matches.ArgMatches.TheViews.{out-ArgMatches, out-SubCommand}
 use Rattle.clap.proofs.OnLiterals.{clap_on_literals}
-use Rattle.ringd.specs.Words.{Tells, named, ringd_app}
+use Rattle.ringd.specs.Words.{IsFaultOf, ringd_app, subcommand_in}
 use Rattle.ringd.specs.declared.words.Order.{Order}
 use Rattle.ringd.specs.declared.words.WordsFault.{WordsFault}
 use Rattle.ringd.specs.declared.words.WordsFault.TheVariants.{NoMemory, Usage}
@@ -57,6 +57,7 @@ stop_names_replay rows (Some p) avoids none = go (answers_to p.0 (label_of repla
   where
     found : Bool → Bool → Option (Text × List Row)
     found replay help = option_map (λ s. rows_at s p.1) (cond replay (Some replay_below) (cond help (Some help_below) None))
+
     go : (replay help : Bool) → answers_to p.0 (label_of help_below) ≡ help → check_fault whole.top rows (is_some (found replay help)) ≡ []
         → option_map (λ q. q.0) (found replay help) ≡ Some (codes "replay")
     go true help same fine = refl
@@ -64,7 +65,7 @@ stop_names_replay rows (Some p) avoids none = go (answers_to p.0 (label_of repla
     go false false same bad = absurd (cc)
 
 -- words that have no mistake name `replay`
-pub taken_names_replay : (words : List Text) → fault_of ringd_app words ≡ [] → named words ≡ Some (codes "replay")
+pub taken_names_replay : (words : List Text) → fault_of ringd_app words ≡ [] → subcommand_in words ≡ Some (codes "replay")
 taken_names_replay words none =
     let given : List Text = argument_words ringd_app words in
     let end : Walk = walk whole.top.rules (names_of whole) nothing_held given in
@@ -102,7 +103,7 @@ meets_replay a words m is free matches =
 
 -- where a parse by this command line can fail for want of memory alone, the words' fault says so
 pub fails_for_memory : (a : App) (words : List Text) (error : Error) (r : Result Order WordsFault) → a ≡ ringd_app → (takes a words ≡ true → kind_of error ≡ OutOfMemory)
-    → IsErrAnd r (Tells error) → takes ringd_app words ≡ true → IsOkUnless r NoMemory
+    → IsErrAnd r (IsFaultOf error) → takes ringd_app words ≡ true → IsOkUnless r NoMemory
 fails_for_memory a words error (Ok order) is passes told taken = tt
 fails_for_memory a words error (Err NoMemory) is passes told taken = refl
 fails_for_memory a words error (Err (Usage given)) is passes told taken = absurd (told.1 (passes (ap (λ (x : App). takes x words) is ∙ taken)))

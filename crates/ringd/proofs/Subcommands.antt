@@ -1,5 +1,5 @@
 -- A parse of words that have no mistake meets no subcommand `help`: that word asks for help.
-use Rattle.std.proofs.Common.{◌≡◌, ◌∙◌, ◌&&◌, Bool, codes, cond, true, false, not, refl, sym, ap, subst, ℕ, List, [], ◌∷◌, ◌++◌, Option, Some, None, is_some, fold}
+use Rattle.std.proofs.Common.{◌≡◌, ◌∙◌, ◌&&◌, Bool, codes, cond, true, false, not, refl, sym, ap, subst, List, [], ◌∷◌, ◌++◌, Option, Some, None, is_some, fold}
 use Rattle.std.specs.Prelude.{⊤}
 use Rattle.std.specs.Str.{bytes_eq}
 use Rattle.clap.specs.Lexer.{long_of, short_of}
@@ -72,6 +72,7 @@ named_avoids_help s name word h enabled none = go (bytes_eq name (codes "help"))
   where
     asks : Bool → Bool → Kinds
     asks is_help disabled = cond (is_help && not disabled) (DisplayHelp ∷ InvalidSubcommand ∷ []) []
+
     go : (b : Bool) → asks b false ≡ [] → b ≡ false
     go true bad = absurd (cc)
     go false fine = refl
@@ -84,6 +85,7 @@ free_word_avoids_help s w word None enabled on none = go (bytes_eq word (45 ∷ 
   where
     taken : Bool → Held × Step
     taken b = cond b (w.held, trailing w.position) (long_or_other s.rules w.waiting word (long_of word) w.held)
+
     go : (b : Bool) → AvoidsHelp (after_step s.rules word w (taken b).0 (taken b).1).stopped
     go true = subst AvoidsHelp (sym on) tt
     go false = subst AvoidsHelp (sym (goes_on s.rules word w (taken false).0 (taken false).1 on (long_is_other s.rules w.waiting word w.held (long_of word)))) tt
@@ -97,6 +99,7 @@ word_avoids_help s names w word enabled on none =
   where
     taken : Bool → Held × Step
     taken b = word_met s.rules names b w.waiting w.position word w.held
+
     go : (b : Bool) → word_fault s names b w.waiting word w.held ≡ [] → AvoidsHelp (after_step s.rules word w (taken b).0 (taken b).1).stopped
     go true fine = subst AvoidsHelp (sym (goes_on s.rules word w w.held value on tt)) tt
     go false fine = free_word_avoids_help s w word (subcommand_met names w.waiting word) enabled on fine
@@ -118,18 +121,25 @@ walk_avoids_help s names w (word ∷ words) enabled on none =
   where
     after : Walk
     after = walked s.rules names w word
+
     met_before : Held × Step
     met_before = word_met s.rules names w.is_trailing w.waiting w.position word w.held
+
     of_word : Kinds
     of_word = word_fault s names w.is_trailing w.waiting word w.held
+
     of_step : Kinds
     of_step = step_fault s w.position met_before.0 met_before.1
+
     turn_has_none : turn_fault s names w word ≡ []
     turn_has_none = first_has_none (turn_fault s names w word) (walk_fault s names after words) none
+
     word_has_none : of_word ≡ []
     word_has_none = first_has_none of_word of_step (ap (λ (o : Option (Text × List Text)). cond (is_some o) [] (or_else of_word of_step)) (sym on) ∙ turn_has_none)
+
     end_avoids : Type 0
     end_avoids = AvoidsHelp (fold (walked s.rules names) after words).stopped
+
     go : (after.stopped ≡ None → end_avoids) → (o : Option (Text × List Text)) → after.stopped ≡ o → end_avoids
     go later None on_still = later on_still
     go later (Some p) met = keeps_name s.rules names after p words met (subst AvoidsHelp met (word_avoids_help s names w word enabled on word_has_none))

@@ -18,20 +18,20 @@ abbrev pub word_of : Order → Text
 word_of Replay = codes "replay"
 
 -- the subcommand that the words name
-abbrev pub named : List Text → Option Text
-named words = option_map (λ p. p.0) (subcommand_of ringd_app words)
+abbrev pub subcommand_in : List Text → Option Text
+subcommand_in words = option_map (λ p. p.0) (subcommand_of ringd_app words)
 
 -- the command line takes the words, and they name the subcommand of this order
 pub record IsGiven (words : List Text) (order : Order) : Type 0 where
   pub taken : fault_of ringd_app words ≡ []
-  pub named : named words ≡ Some (word_of order)
+  pub named : subcommand_in words ≡ Some (word_of order)
 
 -- the words have a mistake of the error's kind, or memory was refused
 abbrev pub HasCause : List Text → WordsFault → Type 0
 HasCause words (Usage error) = IsAmong (kind_of error) (fault_of ringd_app words)
 HasCause words NoMemory = ⊤
 
--- clap's error, where it is not for want of memory
-abbrev pub Tells : Error → WordsFault → Type 0
-Tells error (Usage given) = (given ≡ error) × (kind_of error ≢ OutOfMemory)
-Tells error NoMemory = kind_of error ≡ OutOfMemory
+-- what the error is told as: itself, where it is not for want of memory
+abbrev pub IsFaultOf : Error → WordsFault → Type 0
+IsFaultOf error (Usage given) = (given ≡ error) × (kind_of error ≢ OutOfMemory)
+IsFaultOf error NoMemory = kind_of error ≡ OutOfMemory

@@ -2,7 +2,7 @@
 ghost use Rattle.std.specs.Prelude.{◌≡◌, ◌∷◌, [], ℕ, List, IfErr, IfOk, IsOkUnless, codes, map, string_bytes, true};
 ghost use Rattle.clap.specs.Words.{app_of, kind_of, takes, Text};
 ghost use Rattle.clap.specs.declared.error.kind.ErrorKind.TheVariants.{ValueValidation};
-ghost use Rattle.ringd.specs.Words.{HasCause, IsGiven, Tells, ringd_app};
+ghost use Rattle.ringd.specs.Words.{HasCause, IsFaultOf, IsGiven, ringd_app};
 
 use clap::Command;
 use clap::error::ErrorKind;
@@ -28,7 +28,7 @@ pub enum WordsFault {
 }
 
 impl From<clap::Error> for WordsFault {
-    ghost from_gives = { Tells };
+    ghost from_gives = { IsFaultOf };
 
     fn from(error: clap::Error) -> WordsFault {
         if error.kind() == ErrorKind::OutOfMemory {
@@ -53,8 +53,7 @@ impl From<AllocError> for WordsFault {
 fn command<'a>(alloc: Global) -> Result<Command<'a>, AllocError>
     ensures { IfOk result (λ c. app_of c ≡ ringd_app) }
 {
-    let replay = Command::new(alloc, "replay")
-        .about("Answers each line of standard input on standard output");
+    let replay = Command::new(alloc, "replay").about("Answers the lines of standard input");
     Command::new(alloc, "ringd")
         .about("Keeps a leader for each of many groups")
         .subcommand_required(true)

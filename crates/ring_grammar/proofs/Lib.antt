@@ -1,0 +1,7 @@
+mod Cutting
+mod Numbers
+mod OneEvent
+mod OneReply
+mod Plain
+mod Putting
+mod Words

@@ -1,0 +1,6 @@
+use Rattle.std.proofs.Common.{◌++◌, codes, take}
+use Rattle.ring_grammar.proofs.Putting.{spaced}
+use Rattle.ring_grammar.proofs.print.put_groups.Given as goal
+
+abbrev pub invariant-loop-name : goal.invariant-loop-name
+invariant-loop-name g l = g.W.Sink.takes l.fn.out (codes "groups" ++ spaced (take l.name-index l.names)) l.out

@@ -1,0 +1,30 @@
+-- How lines are read: cut into words, then each word by itself.
+use Rattle.std.specs.Prelude.{◌≡◌, ◌<◌, ◌==◌, ◌^◌, ℕ, Bool, List, Option, None, Some}
+use Rattle.std.specs.List.{slice_split}
+use Rattle.ring_mux.specs.declared.event.Command.{Command}
+use Rattle.ring_mux.specs.declared.event.Event.{Event}
+use Rattle.ring_mux.specs.declared.event.Event.TheVariants.{Client, Deliver, Pending, Drain}
+
+-- The value that this text spells, and none only where it spells no value that is legal.
+abbrev pub Reads : {A B : Type 0} → (A → B) → (A → Type 0) → B → Option A → Type 0
+Reads spell IsLegal text (Some a) = IsLegal a × (text ≡ spell a)
+Reads {A} spell IsLegal text None = (a : A) → IsLegal a → text ≡ spell a → ⊥
+
+-- whether this byte is a space
+abbrev pub is_space : ℕ → Bool
+is_space b = b == 32
+
+-- the words of a line: the parts between spaces
+abbrev pub words_in : List ℕ → List (List ℕ)
+words_in line = slice_split is_space line
+
+-- numbers of 32 bits
+abbrev pub IsShortNumber : ℕ → Type 0
+IsShortNumber n = n < 2 ^ 32
+
+-- the client command that an event is, if it is one
+abbrev pub client_part : {E : Type 0} → Event E → Option (Command E)
+client_part (Client command) = Some command
+client_part (Deliver group node side) = None
+client_part (Pending group) = None
+client_part (Drain group count) = None

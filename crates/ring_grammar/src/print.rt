@@ -1,0 +1,152 @@
+ghost use Rattle.std.specs.Prelude.{◌++◌, ◌∷◌, decimal, OnErr, OnOk};
+ghost use Rattle.ring_grammar.specs.Spelling.{line_of, node_word, reply_line, reply_words, term_word};
+ghost use Rattle.ring_mux.specs.declared.reply.Reply.TheVariants as reply;
+
+use crate::sink::{Sink, SinkFailed};
+use itoa::Buffer;
+use ring_id::{GroupName, NodeId};
+use ring_mux::Reply;
+
+/// Puts the line of a reply: its one spelling and an LF.
+///
+/// At `Err` a front of it was put. Takes no memory.
+pub fn print_reply<W: Sink>(reply: &Reply, out: &mut W) -> Result<(), SinkFailed>
+    ensures ok { OnOk result (W.takes out.old (reply_line reply.now) out.new) }
+    ensures err { OnErr result (W.takes_front out.old (reply_line reply.now) out.new) }
+{
+    put_words(reply, out)?;
+    out.put(b"\n")
+}
+
+// The words of a reply, joined by one space.
+fn put_words<W: Sink>(reply: &Reply, out: &mut W) -> Result<(), SinkFailed>
+    ensures ok { OnOk result (W.takes out.old (line_of (reply_words reply.now)) out.new) }
+    ensures err { OnErr result (W.takes_front out.old (line_of (reply_words reply.now)) out.new) }
+{
+    match reply {
+        Reply::Done => out.put(b"ok"),
+        Reply::Term(term) => put_number(b"term ", u128::from(term.get()), out),
+        Reply::Leader(term, leader) => put_numbers(
+            b"leader ",
+            u128::from(term.get()),
+            b" ",
+            u128::from(leader.get()),
+            out,
+        ),
+        Reply::Undecided(term) => put_number(b"undecided ", u128::from(term.get()), out),
+        Reply::Members(members) => put_members(members.as_slice(), out),
+        Reply::Terms(leaders) => put_terms(leaders.as_slice(), out),
+        Reply::Groups(names) => put_groups(names.as_slice(), out),
+        Reply::Moved => out.put(b"moved"),
+        Reply::Idle => out.put(b"idle"),
+        Reply::Pending(left) => put_number(b"pending ", *left, out),
+        Reply::Drained {
+            done,
+            left,
+            starved,
+        } => put_drained(u128::from(*done), *left, *starved, out),
+        Reply::Refused(refusal) => put_both(b"no ", refusal.word(), out),
+    }
+}
+
+// One text and then another.
+fn put_both<W: Sink>(first: &[u8], second: &[u8], out: &mut W) -> Result<(), SinkFailed>
+    ensures ok { OnOk result (W.takes out.old (first.now ++ second.now) out.new) }
+    ensures err { OnErr result (W.takes_front out.old (first.now ++ second.now) out.new) }
+{
+    out.put(first)?;
+    out.put(second)
+}
+
+// A text and then a number.
+fn put_number<W: Sink>(text: &[u8], number: u128, out: &mut W) -> Result<(), SinkFailed>
+    ensures ok { OnOk result (W.takes out.old (text.now ++ decimal number) out.new) }
+    ensures err { OnErr result (W.takes_front out.old (text.now ++ decimal number) out.new) }
+{
+    put_both(text, Buffer::new().format(number).as_bytes(), out)
+}
+
+// A text and then an identity.
+fn put_node<W: Sink>(text: &[u8], node: NodeId, out: &mut W) -> Result<(), SinkFailed>
+    ensures ok { OnOk result (W.takes out.old (text.now ++ node_word node) out.new) }
+    ensures err { OnErr result (W.takes_front out.old (text.now ++ node_word node) out.new) }
+{
+    put_number(text, u128::from(node.get()), out)
+}
+
+// A text and a number, twice.
+fn put_numbers<W: Sink>(
+    text: &[u8],
+    number: u128,
+    next_text: &[u8],
+    next_number: u128,
+    out: &mut W,
+) -> Result<(), SinkFailed>
+    ensures ok { OnOk result (W.takes out.old ((text.now ++ decimal number) ++ (next_text.now ++ decimal next_number)) out.new) }
+    ensures err { OnErr result (W.takes_front out.old ((text.now ++ decimal number) ++ (next_text.now ++ decimal next_number)) out.new) }
+{
+    put_number(text, number, out)?;
+    put_number(next_text, next_number, out)
+}
+
+fn put_drained<W: Sink>(
+    done: u128,
+    left: u128,
+    starved: bool,
+    out: &mut W,
+) -> Result<(), SinkFailed>
+    ensures ok { OnOk result (W.takes out.old (line_of (reply_words (reply.Drained done left starved))) out.new) }
+    ensures err { OnErr result (W.takes_front out.old (line_of (reply_words (reply.Drained done left starved))) out.new) }
+{
+    put_numbers(b"drained ", done, b" left ", left, out)?;
+    if starved {
+        out.put(b" no-memory")
+    } else {
+        Ok(())
+    }
+}
+
+fn put_members<W: Sink>(members: &[NodeId], out: &mut W) -> Result<(), SinkFailed>
+    ensures ok { OnOk result (W.takes out.old (line_of (reply_words (reply.Members members.now))) out.new) }
+    ensures err { OnErr result (W.takes_front out.old (line_of (reply_words (reply.Members members.now))) out.new) }
+{
+    out.put(b"members")?;
+    for member in members {
+        put_node(b" ", *member, out)?;
+    }
+    Ok(())
+}
+
+fn put_groups<W: Sink>(names: &[GroupName], out: &mut W) -> Result<(), SinkFailed>
+    ensures ok { OnOk result (W.takes out.old (line_of (reply_words (reply.Groups names.now))) out.new) }
+    ensures err { OnErr result (W.takes_front out.old (line_of (reply_words (reply.Groups names.now))) out.new) }
+{
+    out.put(b"groups")?;
+    for name in names {
+        put_both(b" ", name.bytes(), out)?;
+    }
+    Ok(())
+}
+
+fn put_terms<W: Sink>(leaders: &[Option<NodeId>], out: &mut W) -> Result<(), SinkFailed>
+    ensures ok { OnOk result (W.takes out.old (line_of (reply_words (reply.Terms leaders.now))) out.new) }
+    ensures err { OnErr result (W.takes_front out.old (line_of (reply_words (reply.Terms leaders.now))) out.new) }
+{
+    out.put(b"terms")?;
+    for (index, leader) in leaders.iter().enumerate() {
+        put_term(index as u128 + 1, *leader, out)?;
+    }
+    Ok(())
+}
+
+// A space, the number of a term, a colon, and its leader or a hyphen.
+fn put_term<W: Sink>(number: u128, leader: Option<NodeId>, out: &mut W) -> Result<(), SinkFailed>
+    ensures ok { OnOk result (W.takes out.old (32 ∷ term_word number leader) out.new) }
+    ensures err { OnErr result (W.takes_front out.old (32 ∷ term_word number leader) out.new) }
+{
+    put_number(b" ", number, out)?;
+    match leader {
+        Some(leader) => put_node(b":", leader, out),
+        None => out.put(b":-"),
+    }
+}

@@ -1,0 +1,39 @@
+ghost use Rattle.std.specs.Prelude.{OnErr, OnOk};
+
+/// The bytes were not all put.
+#[derive(Clone, Copy, Debug, PartialEq, Eq)]
+pub struct SinkFailed;
+
+/// What bytes are put into, one piece after another.
+///
+/// The ghost members say from which state which bytes lead to which: all of them, or a front of them
+/// where putting failed. The laws are those of one piece after another.
+pub trait Sink {
+    ghost use Rattle.std.specs.Prelude.{List, ℕ};
+    ghost use Rattle.ring_grammar.specs.Sinks.{IsSequence};
+
+    ghost takes: { Self → List ℕ → Self → Type 0 };
+
+    ghost takes_front: { Self → List ℕ → Self → Type 0 };
+
+    /// Puts all of these bytes, or fails after a front of them.
+    fn put(&mut self, bytes: &[u8]) -> Result<(), SinkFailed>
+        ensures ok { OnOk result (takes self.old bytes.now self.new) }
+        ensures err { OnErr result (takes_front self.old bytes.now self.new) };
+
+    ghost laws: { IsSequence takes takes_front };
+}
+
+impl Sink for Vec<u8> {
+    ghost use Rattle.ring_grammar.specs.Appending.{Appends, AppendsFront, appends_in_sequence};
+
+    ghost takes = { λ a bytes b. Appends a.items bytes b.items };
+
+    ghost takes_front = { λ a bytes b. AppendsFront a.items bytes b.items };
+
+    ghost laws = { appends_in_sequence (λ v. v.items) };
+
+    fn put(&mut self, bytes: &[u8]) -> Result<(), SinkFailed> {
+        self.extend_from_slice(bytes).map_err(|_| SinkFailed)
+    }
+}

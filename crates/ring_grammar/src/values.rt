@@ -1,0 +1,73 @@
+ghost use Rattle.std.specs.Prelude.{◌≡◌, ◌≤◌, decimal};
+ghost use Rattle.ring_id.specs.GroupName.{IsName};
+ghost use Rattle.ring_any.specs.Any.{word_of};
+ghost use Rattle.ring_grammar.specs.Reading.{IsShortNumber, Reads};
+ghost use Rattle.ring_grammar.specs.Spelling.{IsNode, node_word, side_word};
+
+use itoa::Buffer;
+use ring_any::Any;
+use ring_id::{GroupName, NodeId, Side};
+use std::str;
+
+/// The greatest number of deliveries that a line can ask for.
+const MOST_DELIVERIES: u32 = 1_000_000_000;
+
+// The number that is printed as this text: so no sign and no leading zero.
+fn number(text: &[u8]) -> Option<u32>
+    ensures { Reads decimal IsShortNumber text.now result }
+{
+    let Ok(digits) = str::from_utf8(text) else {
+        return None;
+    };
+    let Ok(number) = digits.parse::<u32>() else {
+        return None;
+    };
+    if Buffer::new().format(number).as_bytes() != text {
+        return None;
+    }
+    Some(number)
+}
+
+/// The identity that this word spells.
+pub(crate) fn node(word: &[u8]) -> Option<NodeId>
+    ensures { Reads node_word IsNode word.now result }
+{
+    NodeId::new(number(word)?)
+}
+
+/// The number of deliveries that this word spells.
+pub(crate) fn count(word: &[u8]) -> Option<u32>
+    ensures { Reads decimal (λ n. n ≤ 1000000000) word.now result }
+{
+    let count = number(word)?;
+    if count <= MOST_DELIVERIES {
+        Some(count)
+    } else {
+        None
+    }
+}
+
+/// The group name that this word is.
+pub(crate) fn name(word: &[u8]) -> Option<GroupName>
+    ensures { Reads (λ n. n) IsName word.now result }
+{
+    GroupName::from_bytes(word).ok()
+}
+
+/// The kind of election that this word spells.
+pub(crate) fn kind(word: &[u8]) -> Option<Any>
+    ensures { Reads word_of (λ _. Unit {0}) word.now result }
+{
+    Any::from_word(word)
+}
+
+/// The side that this word spells.
+pub(crate) fn side(word: &[u8]) -> Option<Side>
+    ensures { Reads side_word (λ _. Unit {0}) word.now result }
+{
+    match word {
+        b"left" => Some(Side::Left),
+        b"right" => Some(Side::Right),
+        _ => None,
+    }
+}

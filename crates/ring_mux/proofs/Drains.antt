@@ -1,0 +1,145 @@
+-- The deliveries of a drain, one after another.
+use Rattle.std.proofs.Common.{◌≡◌, ◌<◌, ℕ, zero, suc, Bool, true, false, cond, List, [], ◌∷◌, length, Option, Some, None, get_or, refl, sym, ap, ◌∙◌, arith, inl, inr, subst}
+use Rattle.std.specs.Map.{set_value}
+use Rattle.std.specs.Str.{bytes_eq}
+use Rattle.std.proofs.lemmas.Map.Steps.{set_value_same}
+use Rattle.ring_id.specs.declared.side.Side.{Side}
+use Rattle.ring_id.specs.declared.side.Side.TheVariants.{Left, Right}
+use Rattle.ring_id.specs.declared.refusal.Refusal.TheVariants as refused
+use Rattle.ring_id.specs.Refusals.{unless_some}
+use Rattle.ring_roster.specs.Ring.{IsRing}
+use Rattle.ring_election.specs.Tables.{Table}
+use Rattle.ring_node.specs.declared.charter.Charter.{Charter}
+use Rattle.ring_world.specs.Worlds.{IsFirstLink, IsReady, Running, in_flight, pending_below, pending_of, size_of}
+use Rattle.ring_world.proofs.Links.{same_or_not}
+use Rattle.ring_terms.specs.Commands.{running_refusal}
+use Rattle.ring_terms.specs.Object.{GroupView, InGroup, Object, OfGroup, TermView, find, last_term, with_group}
+use Rattle.ring_mux.specs.declared.carried.Carried.TheVariants.{Moved}
+use Rattle.ring_mux.specs.Journeys.{Carries, Travels}
+use Rattle.ring_mux.specs.Steps.{MovesOf, MovesTimes}
+use Rattle.ring_mux.specs.Views.{Held, IsHeld, IsSeat, IsWorldOf, world_in}
+use Rattle.ring_mux.proofs.Carrying.{last_written, position_here, running_ring, same_found, written_found}
+
+module _ {E S M : Type 0} (t : E → Table S M) (world : Running E M) where
+  -- where nothing is in flight on the links below n, nothing is pending there
+  none_below : (n : ℕ) → ((i : ℕ) (side : Side) → i < n → in_flight t world i side ≡ []) → pending_below t world n ≡ 0
+  none_below zero none = refl
+  none_below (suc n) none =
+      let rest = none_below n (λ i side below. none i side (omega arith)) in
+      let left = ap length (none n Left (omega arith)) in
+      let right = ap length (none n Right (omega arith)) in
+      omega (arith, rest, left, right)
+
+  -- where something is in flight on a link into a position, something is pending there
+  side_waits : (n : ℕ) (side : Side) → 0 < length (in_flight t world n side) → 0 < pending_below t world (suc n)
+  side_waits n Left waits = omega (arith, waits)
+  side_waits n Right waits = omega (arith, waits)
+
+  -- where something is in flight on a link below n, something is pending there
+  some_below : (n i : ℕ) (side : Side) → i < n → 0 < length (in_flight t world i side) → 0 < pending_below t world n
+  some_below zero i side below waits = absurd (omega arith)
+  some_below (suc n) i side below waits =
+      elim (same_or_not i n) [
+        | inl here ↦ side_waits n side (rw here at waits)
+        | inr differ ↦ let rest = some_below n i side (omega arith) waits in omega (arith, rest)
+      ]
+
+-- a value that is written twice is the last one
+written_twice : {X : Type 0} (name : List ℕ) (es : List (List ℕ × X)) (v w : X) → set_value (bytes_eq name) (set_value (bytes_eq name) es v) w ≡ set_value (bytes_eq name) es w
+written_twice name [] v w = refl
+written_twice {X} name (e ∷ es) v w =
+    elim (bytes_eq name e.0) as (λ b. bytes_eq name e.0 ≡ b → set_value (bytes_eq name) (cond b ((e.0, v) ∷ es) (e ∷ set_value (bytes_eq name) es v)) w ≡ cond b ((e.0, w) ∷ es) (e ∷ set_value (bytes_eq name) es w)) [
+      | true ↦ λ here. rw here refl
+      | false ↦ λ away. rw away (ap (λ (l : List (List ℕ × X)). e ∷ l) (written_twice name es v w))
+    ] refl
+
+-- no deliveries change nothing
+pub none_moved : {E : Type 0} (greatest : E → Bool) (name : List ℕ) (object : Object E) (group : GroupView E) → find name object ≡ Some group → InGroup name (MovesTimes greatest 0) object object
+none_moved greatest name object group found = record { before = group; after = group; found = found; does = refl; rest = sym (set_value_same (bytes_eq name) object group found) }
+
+-- one delivery more
+pub one_moved : {E : Type 0} (greatest : E → Bool) (name : List ℕ) (n node : ℕ) (old mid new : Object E) → InGroup name (MovesTimes greatest n) old mid → InGroup name (MovesOf greatest node) mid new → InGroup name (MovesTimes greatest (suc n)) old new
+one_moved greatest name n node old mid new many one =
+    let between : find name mid ≡ Some many.after = ap (find name) many.rest ∙ written_found name old many.before many.after many.found in
+    let same : one.before ≡ many.after = same_found (find name mid) one.before many.after one.found between in
+    record {
+      before = many.before;
+      after = one.after;
+      found = many.found;
+      does = (many.after, many.does, record { node = node; moves = rw same at one.does });
+      rest = one.rest ∙ ap (with_group name one.after) many.rest ∙ written_twice name old many.after one.after;
+    }
+
+-- a group that a delivery moves still has its term
+pub still_runs : {E : Type 0} (greatest : E → Bool) (name : List ℕ) (node : ℕ) (old new : Object E) → OfGroup name (λ g. running_refusal g ≡ None) old → InGroup name (MovesOf greatest node) old new → OfGroup name (λ g. running_refusal g ≡ None) new
+still_runs greatest name node old new runs one = record {
+  group = one.after;
+  found = ap (find name) one.rest ∙ written_found name old one.before one.after one.found;
+  says =
+      let same : one.before ≡ runs.group = same_found (find name old) one.before runs.group one.found runs.found in
+      elim one.does [
+        | inl stays ↦ rw (stays, same) runs.says
+        | inr informs ↦
+            let in_last = informs.1 in
+            let last : last_term one.after ≡ Some in_last.after = ap last_term in_last.rest ∙ last_written one.before.terms in_last.before in_last.after in_last.found in
+            rw last refl
+      ];
+}
+
+-- a group that runs has a last term
+runs_term : (o : Option TermView) → unless_some o refused.NoTerm (λ _. None) ≡ None → (term : TermView) × (o ≡ Some term)
+runs_term None h = cc
+runs_term (Some term) h = (term, refl)
+
+module _ {E S M : Type 0} (t : E → Table S M) (object : Object E) (worlds : List (List ℕ × Running E M)) (held : IsHeld t object worlds) (name : List ℕ) (runs : OfGroup name (λ g. running_refusal g ≡ None) object) where
+  -- its world
+  pub the_term : (term : TermView) × (last_term runs.group ≡ Some term)
+  the_term = runs_term (last_term runs.group) runs.says
+
+  pub kept : IsWorldOf t name runs.group (the_term.0) worlds
+  kept = held.each name runs.group (the_term.0) runs.found (the_term.1)
+
+  -- where nothing is ready nothing is pending
+  pub quiet_at : IsReady t kept.world None → (w : Running E M) → world_in name worlds ≡ Some w → pending_of t w ≡ 0
+  quiet_at none w found = rw (same_found (world_in name worlds) w kept.world found kept.found) (none_below t kept.world (size_of kept.world) none)
+
+  module _ (position : ℕ) (side : Side) (ready : IsFirstLink t kept.world position side) where
+    -- a link that is ready is a seat, and something is pending there
+    pub seat_ready : IsSeat name position object
+    seat_ready =
+        let charter = running_ring name runs.group (the_term.0) kept.world.charter (the_term.1) kept.charter in
+        let inside : position < length (the_term.0.ring) = subst (λ (c : Charter E). position < length c.roster) charter ready.inside in
+        record { group = runs.group; found = runs.found; says = record { term = the_term.0; found = the_term.1; says = inside } }
+
+    pub pending_at : (w : Running E M) → world_in name worlds ≡ Some w → 0 < pending_of t w
+    pending_at w found = rw (same_found (world_in name worlds) w kept.world found kept.found) (some_below t kept.world (size_of kept.world) position side ready.inside ready.waits)
+
+    -- a delivery there is one more of the drain's
+    pub travels_on : (two_way greatest : E → Bool) (n : ℕ) (start new : Held E M) → IsRing kept.world.charter.roster
+        → InGroup name (MovesTimes greatest n) start.object object
+        → Travels t name n start.worlds worlds
+        → ((w : Running E M) → world_in name worlds ≡ Some w → Carries t two_way greatest name position side w (record { object = object; worlds = worlds }) Moved new)
+        → InGroup name (MovesTimes greatest (suc n)) start.object new.object × Travels t name (suc n) start.worlds new.worlds × OfGroup name (λ g. running_refusal g ≡ None) new.object
+    travels_on two_way greatest n start new is_ring moves travels carries =
+        let carried = (carries kept.world kept.found).1 in
+        let same : carried.before ≡ kept.world = same_found (world_in name worlds) carried.before kept.world carried.found kept.found in
+        let node : ℕ = get_or kept.world.charter.roster position 0 in
+        let step = (carried.object) node (rw same (position_here kept.world.charter.roster position is_ring ready.inside)) in (
+          one_moved greatest name n node start.object object new.object moves step,
+          (
+            worlds,
+            travels,
+            record {
+              before = carried.before;
+              after = carried.after;
+              position = position;
+              side = side;
+              report = carried.report;
+              found = carried.found;
+              ready = rw same ready;
+              moved = carried.moved;
+              worlds = carried.worlds;
+            },
+          ),
+          still_runs greatest name node object new.object runs step,
+        )

@@ -1,0 +1,6 @@
+pub mod Carrying
+pub mod Drains
+pub mod Holding
+pub mod HoldingSteps
+pub mod Outcomes
+pub mod Seats
