@@ -1,0 +1,190 @@
+use super::print_reply;
+use crate::sink::{Sink, SinkFailed};
+use ring_any::Any;
+use ring_id::{GroupName, NodeId, Refusal, TermNo};
+use ring_mux::Reply;
+use ring_terms::Book;
+use std::alloc::Global;
+use std::test::Fail;
+
+// A list of bytes that takes so many pieces and no more.
+#[derive(Drop)]
+struct Pieces {
+    bytes: Vec<u8>,
+    room: usize,
+}
+
+impl Sink for Pieces {
+    ghost use Rattle.std.proofs.Common.{rules};
+    ghost use Rattle.ring_grammar.specs.Appending.{Appends, AppendsFront, appends_in_sequence};
+
+    ghost takes = { λ a bytes b. Appends a.bytes.items bytes b.bytes.items };
+
+    ghost takes_front = { λ a bytes b. AppendsFront a.bytes.items bytes b.bytes.items };
+
+    ghost laws = { appends_in_sequence (λ a. a.bytes.items) };
+
+    fn put(&mut self, bytes: &[u8]) -> Result<(), SinkFailed> {
+        let room = self.room.checked_sub(1).ok_or(SinkFailed)?;
+        self.bytes.put(bytes)?;
+        self.room = room;
+        Ok(())
+    }
+}
+
+fn node(number: u32) -> Result<NodeId, Fail> {
+    Ok(NodeId::new(number).ok_or("no identity")?)
+}
+
+fn term(number: u16) -> Result<TermNo, Fail> {
+    Ok(TermNo::new(number).ok_or("no term")?)
+}
+
+// What is printed of a reply; printed again where memory is refused.
+fn printed(alloc: Global, reply: &Reply) -> Result<Vec<u8>, SinkFailed> {
+    let mut out = Vec::new(alloc);
+    if print_reply(reply, &mut out).is_err() {
+        out.clear();
+        print_reply(reply, &mut out)?;
+    }
+    Ok(out)
+}
+
+fn drained(done: u32, left: u128, starved: bool) -> Reply {
+    Reply::Drained {
+        done,
+        left,
+        starved,
+    }
+}
+
+#[test]
+fn replies_of_one_form(rt: HostRuntime) -> Result<(), Fail> {
+    let (term, node) = (term(20)?, node(4294967295)?);
+    for (reply, text) in [
+        (Reply::Done, b"ok\n".as_slice()),
+        (Reply::Term(term), b"term 20\n".as_slice()),
+        (
+            Reply::Leader(term, node),
+            b"leader 20 4294967295\n".as_slice(),
+        ),
+        (Reply::Undecided(term), b"undecided 20\n".as_slice()),
+        (Reply::Moved, b"moved\n".as_slice()),
+        (Reply::Idle, b"idle\n".as_slice()),
+        (Reply::Pending(0), b"pending 0\n".as_slice()),
+        (
+            Reply::Pending(u128::MAX),
+            b"pending 340282366920938463463374607431768211455\n".as_slice(),
+        ),
+        (drained(8, 0, false), b"drained 8 left 0\n".as_slice()),
+        (
+            drained(0, 3, true),
+            b"drained 0 left 3 no-memory\n".as_slice(),
+        ),
+    ] {
+        assert_eq!(rt; printed(rt.alloc(), &reply)?.as_slice(), text);
+    }
+    Ok(())
+}
+
+#[test]
+fn refusals(rt: HostRuntime) -> Result<(), Fail> {
+    for (refusal, text) in [
+        (Refusal::BadLine, b"no bad-line\n".as_slice()),
+        (Refusal::NoGroup, b"no no-group\n".as_slice()),
+        (Refusal::Exists, b"no exists\n".as_slice()),
+        (Refusal::GroupLimit, b"no group-limit\n".as_slice()),
+        (Refusal::Member, b"no member\n".as_slice()),
+        (Refusal::NotMember, b"no not-member\n".as_slice()),
+        (Refusal::RingFull, b"no ring-full\n".as_slice()),
+        (Refusal::Empty, b"no empty\n".as_slice()),
+        (Refusal::TermLimit, b"no term-limit\n".as_slice()),
+        (Refusal::NoTerm, b"no no-term\n".as_slice()),
+        (Refusal::NotInTerm, b"no not-in-term\n".as_slice()),
+        (Refusal::OneWay, b"no one-way\n".as_slice()),
+        (Refusal::NoMemory, b"no no-memory\n".as_slice()),
+    ] {
+        assert_eq!(rt;
+            printed(rt.alloc(), &Reply::Refused(refusal))?.as_slice(),
+            text
+        );
+    }
+    Ok(())
+}
+
+// A book of the group `a`, with members and two terms, and of the group `b-2`, with neither.
+fn book(alloc: Global) -> Result<Book<Any>, Refusal> {
+    let mut book = Book::new(alloc);
+    let full = GroupName::from_bytes(b"a")?;
+    book.create(alloc, full, Any::Chang)?;
+    for number in [3, 4294967295, 1] {
+        book.join(full, NodeId::new(number).ok_or(Refusal::BadLine)?)?;
+    }
+    book.start(alloc, full)?;
+    book.start(alloc, full)?;
+    book.create(alloc, GroupName::from_bytes(b"b-2")?, Any::LeLann)?;
+    Ok(book)
+}
+
+#[test]
+fn replies_with_lists(rt: HostRuntime) -> Result<(), Fail> {
+    let alloc = rt.alloc();
+    let book = book(alloc).or_else(|_| book(alloc))?;
+    let full = GroupName::from_bytes(b"a")?;
+    let members = book
+        .members(alloc, full)
+        .or_else(|_| book.members(alloc, full))?;
+    assert_eq!(rt;
+        printed(alloc, &Reply::Members(members))?.as_slice(),
+        b"members 3 4294967295 1\n".as_slice()
+    );
+    let terms = book
+        .terms(alloc, full)
+        .or_else(|_| book.terms(alloc, full))?;
+    assert_eq!(rt;
+        printed(alloc, &Reply::Terms(terms))?.as_slice(),
+        b"terms 1:- 2:-\n".as_slice()
+    );
+    let groups = book.groups(alloc).or_else(|_| book.groups(alloc))?;
+    assert_eq!(rt;
+        printed(alloc, &Reply::Groups(groups))?.as_slice(),
+        b"groups a b-2\n".as_slice()
+    );
+    Ok(())
+}
+
+#[test]
+fn lists_with_nothing(rt: HostRuntime) -> Result<(), Fail> {
+    let alloc = rt.alloc();
+    let book = book(alloc).or_else(|_| book(alloc))?;
+    let empty = GroupName::from_bytes(b"b-2")?;
+    let members = book
+        .members(alloc, empty)
+        .or_else(|_| book.members(alloc, empty))?;
+    assert_eq!(rt;
+        printed(alloc, &Reply::Members(members))?.as_slice(),
+        b"members\n".as_slice()
+    );
+    let terms = book
+        .terms(alloc, empty)
+        .or_else(|_| book.terms(alloc, empty))?;
+    assert_eq!(rt;
+        printed(alloc, &Reply::Terms(terms))?.as_slice(),
+        b"terms\n".as_slice()
+    );
+    Ok(())
+}
+
+#[test]
+fn a_failed_sink_leaves_a_front(rt: HostRuntime) -> Result<(), Fail> {
+    let reply = drained(0, 3, true);
+    for room in 0..6 {
+        let mut out = Pieces {
+            bytes: Vec::new(rt.alloc()),
+            room,
+        };
+        assert_eq!(rt; print_reply(&reply, &mut out), Err(SinkFailed));
+        assert!(rt; b"drained 0 left 3 no-memory".starts_with(&out.bytes));
+    }
+    Ok(())
+}
