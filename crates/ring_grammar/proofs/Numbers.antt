@@ -1,5 +1,5 @@
 -- Numbers and the texts that are printed of them.
-use Rattle.std.proofs.Common.{◌≡◌, ◌<◌, ◌≤◌, ◌^◌, ◌↔◌, ℕ, List, Option, None, Some, Result, Ok, Err, IsSome, IfSome, sym, ◌∙◌, arith, rules, refl, decimal, true, not}
+use Rattle.std.proofs.Common.{◌≡◌, ◌<◌, ◌↔◌, ℕ, List, Option, None, Some, Result, Ok, IsSome, IfSome, sym, ◌∙◌, arith, refl, decimal, true, not}
 use Rattle.std.specs.Str.{bytes_eq}
 use Rattle.std.proofs.lemmas.Slice.Eq.{bytes_eq-Decides}
 use Rattle.std.specs.Str.Parse.{ParsesUnsigned}

@@ -1,5 +1,5 @@
 -- Each event has one spelling, and no line spells two events.
-use Rattle.std.proofs.Common.{◌≡◌, ◌<◌, ◌≤◌, ◌^◌, ◌+◌, ◌*◌, ℕ, Bool, true, false, List, [], ◌∷◌, ◌++◌, length, length-append, sym, ◌∙◌, ap, arith, refl, codes, decimal}
+use Rattle.std.proofs.Common.{◌≡◌, ◌≤◌, ◌+◌, ◌*◌, ℕ, Bool, true, false, List, [], ◌∷◌, ◌++◌, length, length-append, sym, ◌∙◌, ap, arith, refl, codes, decimal}
 use Rattle.std.specs.Prelude.{◌==◌, ◌||◌, fold}
 use Rattle.std.proofs.lemmas.Fmt.{decimal_injective, length-decimal-le}
 use Rattle.ring_any.specs.Any.{word_of}

@@ -1,5 +1,5 @@
 -- The words of a line are those of the event that it spells.
-use Rattle.std.proofs.Common.{◌≡◌, ◌<◌, ◌≤◌, ◌^◌, ◌+◌, ◌&&◌, ℕ, true, List, [], ◌∷◌, length, Option, None, Some, IfSome, sym, ◌∙◌, ap, arith, refl, decimal}
+use Rattle.std.proofs.Common.{◌≡◌, ◌<◌, ◌≤◌, ◌+◌, ◌&&◌, ℕ, true, List, [], ◌∷◌, length, Option, None, Some, IfSome, sym, ◌∙◌, ap, arith, refl, decimal}
 use Rattle.std.specs.Prelude.{IfNone}
 use Rattle.std.proofs.lemmas.Bool.{and_from}
 use Rattle.std.proofs.lemmas.List.Splits.{join_with_byte-slice_split, length-slice_split}
@@ -8,11 +8,9 @@ use Rattle.ring_any.specs.declared.any.Any.{Any}
 use Rattle.ring_any.specs.declared.any.Any.TheVariants.{LeLann, Chang, Hirschberg, Peterson}
 use Rattle.ring_id.specs.declared.side.Side.{Side}
 use Rattle.ring_id.specs.declared.side.Side.TheVariants.{Left, Right}
-use Rattle.ring_mux.specs.declared.event.Command.{Command}
 use Rattle.ring_mux.specs.declared.event.Command.TheVariants.{Create, Join, Leave, Start, Who, Members, Terms, Groups}
 use Rattle.ring_mux.specs.declared.event.Event.{Event}
 use Rattle.ring_mux.specs.declared.event.Event.TheVariants.{Client, Deliver, Pending, Drain}
-use Rattle.ring_id.specs.GroupName.{IsName}
 use Rattle.ring_grammar.specs.Reading.{Reads, is_space, words_in}
 use Rattle.ring_grammar.specs.Spelling.{IsEvent, IsNode, Spells, event_words, line_of, node_word, side_word}
 use Rattle.ring_grammar.proofs.Plain.{all_plain, is_plain, plain-decimal, plain-name, words_in-line_of}

@@ -1,5 +1,5 @@
 -- A list of bytes takes texts by appending them.
-use Rattle.std.specs.Prelude.{◌≡◌, ℕ, List, [], ◌++◌, refl}
+use Rattle.std.specs.Prelude.{◌≡◌, ℕ, List, ◌++◌, refl}
 use Rattle.std.proofs.Common.{sym, append_assoc, append-nil}
 use Rattle.ring_grammar.specs.Sinks.{IsSequence}
 

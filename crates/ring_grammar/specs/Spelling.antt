@@ -1,4 +1,5 @@
--- Lines both ways: the words of each line in order, and words joined by one space.
+-- Lines both ways: each line is its words in order, joined by one space. No value has two spellings:
+-- the words are functions of the value.
 use Rattle.std.specs.Prelude.{◌≡◌, ◌<◌, ◌≤◌, ◌+◌, ◌^◌, ℕ, Bool, true, false, List, [], ◌∷◌, ◌++◌, length, map, Option, None, Some, All, IfSome, codes, decimal}
 use Rattle.std.specs.List.{join_with_byte}
 use Rattle.ring_id.specs.GroupName.{IsName}
@@ -16,6 +17,10 @@ use Rattle.ring_mux.specs.declared.event.Event.TheVariants.{Client, Deliver, Pen
 use Rattle.ring_mux.specs.declared.reply.Reply.{Reply}
 use Rattle.ring_mux.specs.declared.reply.Reply.TheVariants.{Done, Term, Leader, Undecided, Moved, Idle, Drained, Refused}
 use Rattle.ring_mux.specs.declared.reply.Reply.TheVariants as reply
+
+-- words joined by one space
+abbrev pub line_of : List (List ℕ) → List ℕ
+line_of words = join_with_byte 32 words
 
 -- an identity, given its rank, is spelled by its number
 abbrev pub node_word : ℕ → List ℕ
@@ -66,6 +71,12 @@ IsEvent (Deliver group node side) = IsName group × IsNode node
 IsEvent (Pending group) = IsName group
 IsEvent (Drain group count) = IsName group × (count ≤ 1000000000)
 
+-- These bytes spell this event: at most 128 bytes, which are its words.
+pub record Spells (line : List ℕ) (event : Event Any) : Type 0 where
+  pub short : length line ≤ 128
+  pub legal : IsEvent event
+  pub same : line ≡ line_of (event_words event)
+
 -- a leader that was named is spelled by its number, and no leader by a hyphen
 abbrev pub leader_word : Option ℕ → List ℕ
 leader_word None = codes "-"
@@ -100,21 +111,11 @@ reply_words (reply.Pending left) = codes "pending" ∷ decimal left ∷ []
 reply_words (Drained done left starved) = codes "drained" ∷ decimal done ∷ codes "left" ∷ decimal left ∷ starved_words starved
 reply_words (Refused refusal) = codes "no" ∷ word_in_table refusal ∷ []
 
--- words joined by one space
-abbrev pub line_of : List (List ℕ) → List ℕ
-line_of words = join_with_byte 32 words
-
--- These bytes spell this event: at most 128 bytes, which are its words.
-pub record Spells (line : List ℕ) (event : Event Any) : Type 0 where
-  pub short : length line ≤ 128
-  pub legal : IsEvent event
-  pub same : line ≡ line_of (event_words event)
-
 -- the line of a reply: its words, and an LF
 abbrev pub reply_line : Reply → List ℕ
 reply_line reply = line_of (reply_words reply) ++ 10 ∷ []
 
--- the replies of the grammar: 1 to 1000 terms, and numbers as long as the program has them
+-- the replies of the grammar: at most 1000 terms, and numbers within their types
 abbrev pub IsReply : Reply → Type 0
 IsReply (Term term) = IsTerm term
 IsReply (Leader term leader) = IsTerm term × IsNode leader

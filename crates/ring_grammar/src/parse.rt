@@ -1,4 +1,4 @@
-ghost use Rattle.std.specs.Prelude.{◌≡◌, ◌<◌, ◌+◌, ◌∷◌, [], position, IfSome, IfNone};
+ghost use Rattle.std.specs.Prelude.{◌≡◌, ◌∷◌, [], position, IfSome, IfNone};
 ghost use Rattle.ring_any.specs.declared.any.Any.{Any};
 ghost use Rattle.ring_mux.specs.declared.event.Event.{Event};
 ghost use Rattle.ring_mux.specs.declared.event.Command.{Command};

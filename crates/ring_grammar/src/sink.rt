@@ -6,14 +6,16 @@ pub struct SinkFailed;
 
 /// What bytes are put into, one piece after another.
 ///
-/// The ghost members say from which state which bytes lead to which: all of them, or a front of them
-/// where putting failed. The laws are those of one piece after another.
+/// An implementer says from which state which bytes lead to which, so a list of bytes can be a sink,
+/// and so can a buffer before a writer of which only its calls are known.
 pub trait Sink {
     ghost use Rattle.std.specs.Prelude.{List, ℕ};
     ghost use Rattle.ring_grammar.specs.Sinks.{IsSequence};
 
+    // all of these bytes were put between the one state and the other
     ghost takes: { Self → List ℕ → Self → Type 0 };
 
+    // a front of these bytes was put, and then putting failed
     ghost takes_front: { Self → List ℕ → Self → Type 0 };
 
     /// Puts all of these bytes, or fails after a front of them.
@@ -21,9 +23,11 @@ pub trait Sink {
         ensures ok { OnOk result (takes self.old bytes.now self.new) }
         ensures err { OnErr result (takes_front self.old bytes.now self.new) };
 
+    // one piece after another is both together
     ghost laws: { IsSequence takes takes_front };
 }
 
+/// Bytes are appended. It fails where memory is refused.
 impl Sink for Vec<u8> {
     ghost use Rattle.ring_grammar.specs.Appending.{Appends, AppendsFront, appends_in_sequence};
 

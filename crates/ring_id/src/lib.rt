@@ -12,9 +12,7 @@ mod side;
 mod term;
 
 pub use group_name::GroupName;
-pub use identity::NodeId;
-pub use identity::same_ids;
-pub use refusal::NoMemory;
-pub use refusal::Refusal;
+pub use identity::{NodeId, same_ids};
+pub use refusal::{NoMemory, Refusal};
 pub use side::Side;
 pub use term::TermNo;

@@ -1,1 +1,4 @@
+pub mod Quiet
+pub mod Settlements
+pub mod Sorts
 pub mod Worlds

@@ -59,6 +59,11 @@ delivered_of world = receipts_in world.journals
 abbrev pub link_refusal : Bool → Side → Option Refusal
 link_refusal two_way side = first_of (same_side side Right && not two_way) refused.OneWay None
 
+-- the most packets that can be received: the messages that the algorithm's bound allows on such a
+-- ring, and one announcement for each position
+abbrev pub most_deliveries : {E M : Type 0} → (E → ℕ → ℕ) → Running E M → ℕ
+most_deliveries bound world = bound world.charter.algorithm (size_of world) + size_of world
+
 -- a link is named by its receiver: that position, and the side from which it takes
 module _ {E S M : Type 0} (t : E → Table S M) where
   -- what was sent on a link

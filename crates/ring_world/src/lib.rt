@@ -4,10 +4,17 @@
 //! flight on a link is what its sender sent there without what its receiver took; a delivery takes the
 //! front packet of one link. At every moment the journals are a sound family that fits, and whatever a
 //! node knows is the winner.
+//!
+//! Quiet means known: where nothing is in flight every node knows the leader, and `settle` finds the
+//! same of nodes that come back from elsewhere. Work is bounded: a world takes at most as many packets
+//! as the algorithm's bound allows messages, and one announcement for each position.
 #![tactic(auto)]
 
 mod delivery;
+mod settlement;
+mod sort;
 mod world;
 
 pub use delivery::Delivery;
+pub use settlement::{Settlement, settle};
 pub use world::World;

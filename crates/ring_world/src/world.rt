@@ -1,10 +1,11 @@
-ghost use Rattle.std.specs.Prelude.{◌≡◌, ◌<◌, ◌≤◌, ◌&&◌, not, [], IfOk, IfSome, OnErr, OnOk, length, replicate, slice_get};
+ghost use Rattle.std.specs.Prelude.{◌≡◌, ◌<◌, ◌≤◌, ◌↔◌, ◌&&◌, not, [], IfNone, IfOk, IfSome, OnErr, OnOk, length, replicate, slice_get};
 ghost use Rattle.ring_id.specs.declared.side.Side.TheVariants.{Right};
 ghost use Rattle.ring_id.specs.Sides.{other, same_side};
 ghost use Rattle.ring_roster.specs.Ring.{neighbour};
 ghost use Rattle.ring_node.specs.Envelopes.{IsProper};
 ghost use Rattle.ring_node.specs.Nodes.{next_index, told_of};
-ghost use Rattle.ring_world.specs.Worlds.{Delivers, IsReady, IsSoundWorld, after_receipt, delivered_of, in_flight, node_at, nodes_of, pending_of};
+ghost use Rattle.ring_world.specs.Quiet.{AllKnow, IsQuiet};
+ghost use Rattle.ring_world.specs.Worlds.{Delivers, IsReady, IsSoundWorld, after_receipt, delivered_of, in_flight, most_deliveries, node_at, nodes_of, pending_of};
 
 use crate::delivery::Delivery;
 use ring_election::RingElection;
@@ -66,11 +67,14 @@ impl<E: RingElection> World<E> {
 
     /// Delivers the front packet of the link into a position from a side. Refused `OneWay` where the
     /// algorithm sends nothing that arrives from there; `Idle` where nothing is in flight on the link;
-    /// refused `NoMemory` where a growth was. Nothing has changed then.
+    /// refused `NoMemory` where a growth was. Nothing has changed then. A world takes no more
+    /// packets than the algorithm's bound and the length of its ring together (Lynch, Distributed
+    /// Algorithms, 2.2: communication complexity).
     pub fn deliver(&mut self, position: usize, side: Side) -> Delivery<E>
         requires { position < length self.old.charter.roster }
         ensures delivers { Delivers E.table (E.is_two_way self.old.charter.algorithm) self.old position side result self.new }
         ensures sound { IsSoundWorld E.table E.fits E.winner self.new }
+        ensures bounded { delivered_of self.new ≤ most_deliveries E.bound self.new }
     {
         if self.is_closed(side) {
             return Delivery::Refused(Refusal::OneWay);
@@ -84,9 +88,12 @@ impl<E: RingElection> World<E> {
         }
     }
 
-    /// How many packets were sent and not yet taken.
+    /// How many packets were sent and not yet taken. Where there are none, every node knows the
+    /// leader (Lynch, Distributed Algorithms, 3.2 and 15.1).
     pub fn pending(&self) -> u128
-        ensures { result ≡ pending_of E.table self.now }
+        ensures value { result ≡ pending_of E.table self.now }
+        ensures idle { (result ≡ 0) ↔ IsQuiet E.table self.now }
+        ensures quiet { result ≡ 0 → AllKnow E.table E.winner self.now }
     {
         let mut pending = 0;
         for position in 0..self.size() {
@@ -97,9 +104,10 @@ impl<E: RingElection> World<E> {
         pending
     }
 
-    /// How many packets were taken in all.
+    /// How many packets were taken in all: at most the algorithm's bound and the length of the ring.
     pub fn delivered(&self) -> u128
-        ensures { result ≡ delivered_of self.now }
+        ensures value { result ≡ delivered_of self.now }
+        ensures bounded { result ≤ most_deliveries E.bound self.now }
     {
         let mut delivered = 0;
         for position in 0..self.size() {
@@ -110,9 +118,11 @@ impl<E: RingElection> World<E> {
     }
 
     /// The first link with something in flight: the least position that receives, left before right.
+    /// Where there is none, every node knows the leader.
     pub fn ready(&self) -> Option<(usize, Side)>
         ensures first { IsReady E.table self.now result }
         ensures sound { IsSoundWorld E.table E.fits E.winner self.now }
+        ensures quiet { IfNone result (AllKnow E.table E.winner self.now) }
     {
         for position in 0..self.size() {
             if self.waiting(position, Side::Left) > 0 {

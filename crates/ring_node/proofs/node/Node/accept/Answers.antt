@@ -83,5 +83,5 @@ returns-clause-faithful g c =
       is_ring = new.is_ring;
       inside = slice_get_within _ _ _ new.here;
       fitting = new.fitting;
-      knows = λ v h. new.knows v (new.known_is ∙ rw (get_or_from_slice_get _ _ _ 0 new.here) at h)
+      knows = λ v h. new.knows v (new.known_is ∙ rw (get_or_from_slice_get _ _ _ 0 new.here) at h);
     }

@@ -1,8 +1,9 @@
--- A node's receipts came from one side or the other.
+-- A node's receipts came from one side or the other; all together they are bounded.
 use Rattle.std.proofs.Common.{◌≡◌, take, ap, ◌∙◌, arith}
 use Rattle.std.proofs.lemmas.List.{take_all}
 use Rattle.ring_world.specs.Worlds.{node_at, receipts_in}
 use Rattle.ring_world.proofs.Links.{length-both_sides, receipts_in-take}
+use Rattle.ring_world.proofs.Work.{work_bounded}
 use Rattle.ring_world.proofs.world.World.delivered.Goals as goal
 
 pub loop-position-preserved : goal.loop-position-preserved
@@ -15,8 +16,15 @@ loop-position-preserved g c =
       few = omega (arith, c.taken.type_inv, c.taken-in-loop-position.type_inv);
     }
 
-pub returns : goal.returns
-returns g c =
+pub returns-clause-value : goal.returns-clause-value
+returns-clause-value g c =
     let journals = c.args.self.now.journals in
     let all : take c.loop-position.position journals ≡ journals = take_all c.loop-position.position journals (omega (arith, c.size-position-end.ensures.sound.count, c.size-position-end.ensures.value)) in
     c.loop-position.invariant.counted ∙ ap receipts_in all
+
+pub returns-clause-bounded : goal.returns-clause-bounded
+returns-clause-bounded g c =
+    let world = c.args.self.now in
+    rw (returns-clause-value g c)
+    (work_bounded g.E.RingElection.table g.E.RingElection.fits g.E.RingElection.winner world c.size-position-end.ensures.sound g.E.RingElection.bound
+    (g.met.E.RingElection.bounded world.charter.algorithm))

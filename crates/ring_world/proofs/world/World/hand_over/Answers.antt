@@ -66,11 +66,7 @@ returns-clause-report g c =
     (report ∙ report_after _ _ _ _ _ c.self.invariant c.args.position inside c.args.side c.args.packet _ gained _ (sym news ∙ c.in-Some.is))
 
 pub returns-in_default-2-clause-sound : goal.returns-in_default-2-clause-sound
-returns-in_default-2-clause-sound g c =
-    let inside = rw (← c.self.view_is) at c.requires.inside in
-    let node = node_there _ _ _ _ _ c.self.invariant c.args.position inside _ c.index_mut-node.ensures.value in
-    (world_after _ _ _ _ _ c.self.invariant c.args.position (place_within _ _ _ _ _ c.self.invariant c.args.position inside) c.args.side c.args.packet (rw (← c.self.view_is) at c.requires.front) _
-    (rw node at c.in_ok-accept.ensures.journal) c.in_ok-accept.ensures.faithful).sound
+returns-in_default-2-clause-sound g c = (invariant_of-self-in_default-2 g c).sound
 
 pub returns-clause-sound : goal.returns-clause-sound
 returns-clause-sound g c = (invariant_of-self-2 g c).sound

@@ -1,0 +1,51 @@
+-- Settled terms: nodes of a charter, one at each position of its ring, that have taken all that was
+-- sent to them. An announcement may be taken before messages that were sent earlier on its link, so
+-- each sort of packet is compared by itself.
+use Rattle.std.specs.Prelude.{◌≡◌, ◌+◌, ◌<◌, ℕ, List, [], ◌∷◌, length, drop, Option, Some, None, slice_get}
+use Rattle.ring_id.specs.declared.side.Side.{Side}
+use Rattle.ring_id.specs.Sides.{other}
+use Rattle.ring_roster.specs.Ring.{neighbour}
+use Rattle.ring_election.specs.Tables.{Table}
+use Rattle.ring_node.specs.declared.charter.Charter.{Charter}
+use Rattle.ring_node.specs.declared.packet.Packet.{Packet}
+use Rattle.ring_node.specs.Nodes.{IsFaithful, Seated, known_of, sent_of, taken_of}
+use Rattle.ring_world.specs.declared.sort.Sort.{Sort}
+use Rattle.ring_world.specs.Sorts.{of_sort}
+
+-- this node of the charter stands at a position, and it is the only one of these nodes that does
+pub record IsAlone {E M : Type 0} (charter : Charter E) (nodes : List (Seated E M)) (position : ℕ) (node : Seated E M) : Type 0 where
+  pub place : ℕ
+  pub there : slice_get nodes place ≡ Some node
+  pub charter_is : node.charter ≡ charter
+  pub position_is : node.position ≡ position
+  pub alone : (k : ℕ) (another : Seated E M) → slice_get nodes k ≡ Some another → another.charter ≡ charter → another.position ≡ position → k ≡ place
+
+module _ {E S M : Type 0} (t : E → Table S M) where
+  -- a node has taken all that its neighbour at a side has sent to it, and that neighbour is alone
+  pub record IsFed (charter : Charter E) (nodes : List (Seated E M)) (node : Seated E M) (side : Side) : Type 0 where
+    pub sender : Seated E M
+    pub alone : IsAlone charter nodes (neighbour (length charter.roster) node.position side) sender
+    pub taken : (sort : Sort) → of_sort sort (taken_of node side) ≡ of_sort sort (sent_of t sender (other side))
+
+  -- a position has one node, which has taken all that was sent to it
+  pub record IsSettledAt (charter : Charter E) (nodes : List (Seated E M)) (position : ℕ) : Type 0 where
+    pub node : Seated E M
+    pub alone : IsAlone charter nodes position node
+    pub fed : (side : Side) → IsFed charter nodes node side
+
+  -- and so it is at each position of the ring
+  pub record IsSettled (charter : Charter E) (nodes : List (Seated E M)) : Type 0 where
+    pub each : (i : ℕ) → i < length charter.roster → IsSettledAt charter nodes i
+
+  -- each of these nodes that is of the charter knows the leader, which is the winner of its ring
+  pub record EachKnows (winner : E → List ℕ → ℕ) (charter : Charter E) (nodes : List (Seated E M)) : Type 0 where
+    pub each : (k : ℕ) (node : Seated E M) → slice_get nodes k ≡ Some node → node.charter ≡ charter → known_of t node ≡ Some (winner charter.algorithm charter.roster)
+
+  -- what the type of each of these nodes keeps
+  pub record AllFaithful (fits : E → List ℕ → ℕ → Side → ℕ → M → Type 0) (winner : E → List ℕ → ℕ) (nodes : List (Seated E M)) : Type 0 where
+    pub each : (k : ℕ) (node : Seated E M) → slice_get nodes k ≡ Some node → IsFaithful t fits winner node
+
+-- the first packet of this sort from a place on, with its place, if there is one
+abbrev pub IsNextOf : {M : Type 0} → Sort → List (Packet M) → ℕ → Option (ℕ × Packet M) → Type 0
+IsNextOf sort packets from None = of_sort sort (drop from packets) ≡ []
+IsNextOf sort packets from (Some next) = of_sort sort (drop from packets) ≡ next.1 ∷ of_sort sort (drop (next.0 + 1) packets)
