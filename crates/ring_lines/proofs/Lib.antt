@@ -5,3 +5,4 @@ mod Filled
 pub mod Gathered
 pub mod Paging
 pub mod Writing
+pub mod Replays

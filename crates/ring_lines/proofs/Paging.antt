@@ -1,9 +1,12 @@
 -- What is put on a page, and what is written of it.
-use Rattle.std.proofs.Common.{◌≡◌, ◌≤◌, ℕ, List, ◌++◌, ◌∷◌, [], length, take, refl, ap, ◌∙◌, arith, length-append}
+use Rattle.std.proofs.Common.{◌≡◌, ◌≤◌, ℕ, List, ◌++◌, ◌∷◌, [], length, take, refl, ap, sym, ◌∙◌, arith, length-append}
 use Rattle.std.proofs.lemmas.List.{take_at}
 use Rattle.ring_lines.specs.Ends.{Writing, Calls, bytes_of, Wrote, WroteFront}
 use Rattle.ring_lines.specs.Page.{PageView, PageTakes}
 use Rattle.ring_lines.proofs.Calling.{Calls-add}
+use Rattle.ring_lines.proofs.Writing.{bytes_before, wrote_none}
+use Rattle.ring_lines.specs.Pages.{Passes}
+use Rattle.ring_grammar.specs.Appending.{AppendsFront}
 
 -- the calls add their bytes to the text on a page
 page_text : (from : PageView) (log : List Writing) (to : PageView) → Calls PageTakes from log to → to.text ≡ from.text ++ bytes_of log
@@ -20,3 +23,28 @@ take-wrote_front from to text w = rw (page_text from (w.before ++ w.last ∷ [])
 pub length-wrote_front : (from to : PageView) (text : List ℕ) → WroteFront PageTakes from text to → length from.text ≤ length to.text
 length-wrote_front from to text w =
     rw (page_text from (w.before ++ w.last ∷ []) to w.calls) (omega (arith, length-append from.text (bytes_of (w.before ++ w.last ∷ []))))
+
+-- a text that was put on a page in part is a front of it
+pub appends_front-wrote_front : (from to : PageView) (text : List ℕ) → WroteFront PageTakes from text to → AppendsFront from.text text to.text
+appends_front-wrote_front from to text w = record {
+  front = bytes_of w.before;
+  rest = w.rest;
+  whole = sym w.whole;
+  appended = page_text from (w.before ++ w.last ∷ []) to w.calls ∙ ap (λ (more : List ℕ). from.text ++ more) (bytes_before w);
+}
+
+-- the page is as it was once a front that was put on it is cut off
+pub take-appends_front : (from text to : List ℕ) → AppendsFront from text to → take (length from) to ≡ from
+take-appends_front from text to a = rw a.appended (take_at from a.front _ refl)
+
+pub length-appends_front : (from text to : List ℕ) → AppendsFront from text to → length from ≤ length to
+length-appends_front from text to a = rw a.appended (omega (arith, length-append from a.front))
+
+module _ {V : Type 0} (gives : V → Writing → V → Type 0) where
+  -- what is put on the page alone
+  pub passes_on_page : (writer : V) (held text now : List ℕ) → now ≡ held ++ text → Passes gives writer held text writer now
+  passes_on_page writer held text now is = record { written = []; wrote = wrote_none gives writer; whole = is }
+
+  -- what is put on the page once what it held is written
+  pub passes_behind : (from to : V) (held cut text now : List ℕ) → cut ≡ held → Wrote gives from cut to → now ≡ text → Passes gives from held text to now
+  passes_behind from to held cut text now same w is = record { written = cut; wrote = w; whole = rw (is, same) refl }

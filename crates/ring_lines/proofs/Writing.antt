@@ -2,6 +2,7 @@
 use Rattle.std.proofs.Common.{◌≡◌, ◌<◌, ℕ, length, length-append, arith, List, [], ◌∷◌, ◌++◌, take, drop, Result, Ok, Err, refl, ap, sym, ◌∙◌, append_assoc, append-nil}
 use Rattle.std.proofs.lemmas.List.{take-append-drop}
 use Rattle.ring_lines.specs.Ends.{Writing, writing, Calls, bytes_in, bytes_of, Wrote, WroteFront}
+use Rattle.ring_lines.specs.Replay.{WrotePart}
 use Rattle.std.specs.Result.{result_unwrap_or}
 use Rattle.ring_lines.specs.declared.ends.WriteFailed.{WriteFailed}
 use Rattle.ring_lines.proofs.Calling.{Calls-append, bytes_of-append}
@@ -87,3 +88,40 @@ module _ {S : Type 0} (gives : S → Writing → S → Type 0) (from : S) (text 
     some = some;
     whole = p.whole;
   }
+
+-- where the last call took nothing, those before it took all that was taken
+pub bytes_before : {S : Type 0} {gives : S → Writing → S → Type 0} {from to : S} {text : List ℕ} → (w : WroteFront gives from text to) → bytes_of (w.before ++ w.last ∷ []) ≡ bytes_of w.before
+bytes_before w = bytes_of-append w.before (w.last ∷ []) ∙ rw (w.refused, append-nil) refl
+
+-- a front was written
+pub wrote_part : {S : Type 0} {gives : S → Writing → S → Type 0} {from to : S} {text : List ℕ} → WroteFront gives from text to → WrotePart gives from text to
+wrote_part w = record {
+  part = bytes_of w.before;
+  rest = w.rest;
+  wrote = record { log = w.before ++ w.last ∷ []; calls = w.calls; taken = bytes_before w };
+  whole = w.whole;
+}
+
+module _ {S : Type 0} {gives : S → Writing → S → Type 0} {from mid to : S} {first second : List ℕ} where
+  -- one text and then a front of another
+  pub wrote_then_part : Wrote gives from first mid → WrotePart gives mid second to → WrotePart gives from (first ++ second) to
+  wrote_then_part a b = record {
+    part = first ++ b.part;
+    rest = b.rest;
+    wrote = wrote_then a b.wrote;
+    whole = rw (append_assoc, b.whole) refl;
+  }
+
+module _ {S : Type 0} {gives : S → Writing → S → Type 0} {from to : S} (first second : List ℕ) where
+  -- a front of a text is one of the text and what follows
+  pub part_of_both : WrotePart gives from first to → WrotePart gives from (first ++ second) to
+  part_of_both a = record {
+    part = a.part;
+    rest = a.rest ++ second;
+    wrote = a.wrote;
+    whole = sym (append_assoc a.part a.rest second) ∙ ap (λ (text : List ℕ). text ++ second) a.whole;
+  }
+
+  -- a text that was written whole is a front of it and what follows
+  pub part_of_whole : Wrote gives from first to → WrotePart gives from (first ++ second) to
+  part_of_whole a = record { part = first; rest = second; wrote = a; whole = refl }

@@ -5,4 +5,6 @@ pub mod Filling
 pub mod Known
 pub mod Lines
 pub mod Page
+pub mod Pages
 pub mod Reader
+pub mod Replay

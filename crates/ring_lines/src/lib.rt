@@ -13,6 +13,7 @@ mod drip;
 mod ends;
 mod page;
 mod reader;
+mod replaying;
 
 pub use answers::{Line, LineFault, Next, Phase};
 pub use buffer::LineBuffer;
@@ -20,3 +21,5 @@ pub use drip::{DripIn, DripOut};
 pub use ends::{FromRead, Intake, Outlet, ReadFault, ToWrite, WriteFailed, put};
 pub use page::Page;
 pub use reader::LineReader;
+pub use replaying::replay;
+pub use ring_grammar::{one_spelling, parse_command, parse_event, print_reply};

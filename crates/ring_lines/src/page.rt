@@ -2,6 +2,7 @@ ghost use Rattle.std.specs.Prelude.{◌≡◌, ◌+◌, ◌-◌, ◌≤◌, [], 
 ghost use Rattle.ring_lines.specs.Ends.{Wrote, WroteFront};
 
 use crate::ends::{Outlet, WriteFailed, put};
+use ring_grammar::{Sink, SinkFailed};
 use std::alloc::{AllocError, Global};
 use std::marker::Model;
 
@@ -71,6 +72,23 @@ impl Outlet for Page {
             return Ok(0);
         };
         Ok(count)
+    }
+}
+
+impl Sink for Page {
+    ghost use Rattle.ring_grammar.specs.Appending.{Appends, AppendsFront, appends_in_sequence};
+
+    ghost takes = { λ a text b. Appends a.text text b.text };
+
+    ghost takes_front = { λ a text b. AppendsFront a.text text b.text };
+
+    ghost laws = { appends_in_sequence (λ page. page.text) };
+
+    fn put(&mut self, bytes: &[u8]) -> Result<(), SinkFailed> {
+        match put(self, bytes) {
+            Ok(()) => Ok(()),
+            Err(WriteFailed) => Err(SinkFailed),
+        }
     }
 }
 

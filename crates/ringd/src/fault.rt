@@ -1,4 +1,5 @@
 //! Why the program ends before its work is done.
+use ring_lines::LineFault;
 use thiserror::Error;
 
 /// A fault that ends the program with status 1. Its text is the one line that standard error gets.
@@ -16,6 +17,17 @@ pub enum ProgramFault {
     /// A growth was refused.
     #[error("ringd: no memory")]
     NoMemory,
+}
+
+impl From<LineFault> for ProgramFault {
+    fn from(fault: LineFault) -> ProgramFault {
+        match fault {
+            LineFault::Read => ProgramFault::Read,
+            LineFault::Endless => ProgramFault::Endless,
+            LineFault::Write => ProgramFault::Write,
+            LineFault::NoMemory => ProgramFault::NoMemory,
+        }
+    }
 }
 
 #[cfg(test)]

@@ -1,24 +1,17 @@
 //! What the program does with its standard streams.
 use crate::fault::ProgramFault;
-use std::io::{ErrorKind, Read};
+use ring_lines::{FromRead, ToWrite};
 
 // How many read calls are made before the input counts as endless.
 const READS: u32 = 1_000_000_000;
 
-/// Reads standard input to its end.
+/// Answers each line of standard input by one line on standard output, to the end of the input.
 ///
-/// A fault is `Read` where a read call failed, and `Endless` where the input had not ended when all
-/// read calls were made. A read that a signal interrupted is made again.
+/// Its faults are those of the call `replay`: a read or a write call failed, the input had not ended
+/// when all read calls were made, or memory was refused before the first.
 pub fn replay(rt: &(impl Input + Print + AllocGlobal)) -> Result<(), ProgramFault> {
-    let mut input = rt.reader();
-    let mut buffer = [0u8; 4096];
-    for _ in 0..READS {
-        match input.read(&mut buffer) {
-            Ok(0) => return Ok(()),
-            Ok(_) => {}
-            Err(error) if error.kind() == ErrorKind::Interrupted => {}
-            Err(_) => return Err(ProgramFault::Read),
-        }
-    }
-    Err(ProgramFault::Endless)
+    let mut reader = FromRead(rt.reader());
+    let mut writer = ToWrite(std::io::writer(rt));
+    ring_lines::replay(rt.alloc(), &mut reader, &mut writer, READS)?;
+    Ok(())
 }
