@@ -43,7 +43,7 @@ name_itself : (name : List ℕ) → bytes_eq name name ≡ true
 name_itself name = (bytes_eq-Decides name name).1 refl
 
 -- what stands under a name once something was written under another name, or under it
-looked_up : {X : Type 0} (name other : List ℕ) (es : List (List ℕ × X)) (v w : X) → lookup (bytes_eq name) es ≡ Some v
+pub looked_up : {X : Type 0} (name other : List ℕ) (es : List (List ℕ × X)) (v w : X) → lookup (bytes_eq name) es ≡ Some v
     → lookup (bytes_eq other) (set_value (bytes_eq name) es w) ≡ cond (bytes_eq name other) (Some w) (lookup (bytes_eq other) es)
 looked_up name other es v w found =
     lookup-set_value nat_list_eq_equiv (bytes_eq name) (λ x y tx. rw (one_name name x tx) refl) other w es (rw found refl)

@@ -16,10 +16,12 @@ use Rattle.ring_node.specs.declared.charter.Charter.{Charter}
 use Rattle.ring_node.specs.declared.packet.Packet.{Packet}
 use Rattle.ring_node.specs.Nodes.{known_of}
 use Rattle.ring_world.specs.Worlds.{Running, node_at}
-use Rattle.ring_terms.specs.Charters.{next_charter}
+use Rattle.ring_terms.specs.Charters.{next_charter, running_charter}
 use Rattle.ring_terms.specs.Commands.{Answers, Creates, Joins, Leaves, StartsWith}
 use Rattle.ring_terms.specs.Object.{GroupView, InGroup, Object, OfGroup, TermView, find, last_term, new_group, new_term, with_group}
+use Rattle.ring_mux.specs.Journeys.{begun_of}
 use Rattle.ring_mux.specs.Views.{IsHeld, IsWorldOf, world_in}
+use Rattle.ring_mux.specs.WorldSteps.{Begins}
 
 -- two names that are equal as bytes are one
 pub same_name : (name other : List ℕ) → bytes_eq name other ≡ true → name ≡ other
@@ -120,10 +122,6 @@ last_term-push group term =
     ∙ slice_get-get_or (group.terms ++ term ∷ []) (length group.terms) term (omega (arith, long))
     ∙ ap Some (get_or_push group.terms term term (length group.terms) refl)
 
--- the world of a charter before any delivery
-abbrev pub begun_of : {E M : Type 0} → Charter E → Running E M
-begun_of charter = record { charter = charter; journals = replicate (length charter.roster) [] }
-
 -- in it nobody knows a leader
 known_of-begun : {E S M : Type 0} (t : E → Table S M) (charter : Charter E) (i : ℕ) → i < length charter.roster → known_of t (node_at (begun_of charter) i) ≡ None
 known_of-begun {M = M} t charter i below =
@@ -166,3 +164,31 @@ module _ {E S M : Type 0} (t : E → Table S M) where
       let elsewhere = λ (other : List ℕ) (differ : bytes_eq name other ≡ false). updates other ∙ ap (λ b. cond b (Some world) (world_in other worlds)) differ in
       subst (λ o. IsHeld t o worlds_after) (sym (starts.rest ∙ ap (λ g. with_group name g object) starts.does.starts.started))
       (held_with_group t object worlds name starts.before (started_of starts.before) worlds_after held starts.found (world_started name starts.before worlds_after here) elsewhere)
+
+-- a group that has started a term runs it
+running_started : {E : Type 0} (name : List ℕ) (charter : Charter E) (old new : Object E) → InGroup name (StartsWith name charter) old new → OfGroup name (λ g. running_charter name g ≡ Some charter) new
+running_started name charter old new starts =
+    let term : TermView = new_term starts.before.members in
+    let found : find name (with_group name starts.after old) ≡ Some starts.after =
+    find-with_group name starts.before starts.after old starts.found name ∙ ap (λ b. cond b (Some starts.after) (find name old)) (nat_list_eq_equiv.refl name) in
+    let running : running_charter name (started_of starts.before) ≡ Some (next_charter name starts.before) = rw (last_term-push starts.before term, length_push starts.before.terms term) refl in
+    record {
+      group = starts.after;
+      found = ap (find name) starts.rest ∙ found;
+      says = ap (running_charter name) starts.does.starts.started ∙ running ∙ ap Some (sym starts.does.chartered);
+    }
+
+-- and its world has seen no delivery
+pub begins : {E M : Type 0} (object : Object E) (worlds : List (List ℕ × Running E M)) (name : List ℕ) (planned started : Charter E) (world : Running E M) (after : Object E) (worlds_after : List (List ℕ × Running E M)) →
+    OfGroup name (λ g. planned ≡ next_charter name g) object → InGroup name (StartsWith name started) object after →
+    world ≡ begun_of planned → ((other : List ℕ) → world_in other worlds_after ≡ cond (bytes_eq name other) (Some world) (world_in other worlds)) →
+    Begins name (record { object = object; worlds = worlds }) (record { object = after; worlds = worlds_after })
+begins {E} {M} object worlds name planned started world after worlds_after plans starts made updates =
+    let one : plans.group ≡ starts.before = same_Some plans.group starts.before (sym plans.found ∙ starts.found) in
+    let same : planned ≡ started = plans.says ∙ ap (next_charter name) one ∙ sym starts.does.chartered in
+    let begun : world ≡ begun_of started = made ∙ ap (begun_of {E = E} {M = M}) same in
+    record {
+      charter = started;
+      started = running_started name started object after starts;
+      worlds = λ other. updates other ∙ ap (λ (w : Running E M). cond (bytes_eq name other) (Some w) (world_in other worlds)) begun;
+    }

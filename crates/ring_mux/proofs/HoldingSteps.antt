@@ -11,6 +11,9 @@ use Rattle.ring_mux.specs.declared.event.Event.{Event}
 use Rattle.ring_mux.specs.declared.reply.Reply.{Reply}
 use Rattle.ring_mux.specs.Replies.{told_reply}
 use Rattle.ring_mux.specs.Steps.{Replies, Run, Step, TellsReply}
+use Rattle.ring_mux.specs.Views.{Held}
+use Rattle.ring_mux.specs.WorldSteps.{RunOfWorlds, StepOfWorlds}
+use Rattle.ring_election.specs.Tables.{Table}
 
 -- what is so of a group, said in other words
 pub of_group : {E : Type 0} {Says Also : GroupView E → Type 0} (name : List ℕ) (object : Object E) → ((g : GroupView E) → Says g → Also g) → OfGroup name Says object → OfGroup name Also object
@@ -47,3 +50,15 @@ module _ {E : Type 0} (two_way greatest : E → Bool) where
   Run-push old mid new [] (r ∷ replies) event reply run step = absurd run
   Run-push old mid new (e ∷ events) [] event reply run step = absurd run
   Run-push old mid new (e ∷ events) (r ∷ replies) event reply run step = (run.0, run.1, Run-push run.0 mid new events replies event reply run.2 step)
+
+module _ {E S M : Type 0} (t : E → Table S M) (two_way greatest : E → Bool) where
+  -- and likewise below the object
+  pub RunOfWorlds-push : (old mid new : Held E M) (events : List (Event E)) (replies : List Reply) (event : Event E) (reply : Reply) →
+      RunOfWorlds t two_way greatest old events replies mid →
+      Step two_way greatest mid.object event reply new.object × StepOfWorlds t two_way greatest mid event reply new →
+      RunOfWorlds t two_way greatest old (events ++ event ∷ []) (replies ++ reply ∷ []) new
+  RunOfWorlds-push old mid new [] [] event reply run step =
+      (new, subst (λ (h : Held E M). Step two_way greatest h.object event reply new.object × StepOfWorlds t two_way greatest h event reply new) run step, refl)
+  RunOfWorlds-push old mid new [] (r ∷ replies) event reply run step = absurd run
+  RunOfWorlds-push old mid new (e ∷ events) [] event reply run step = absurd run
+  RunOfWorlds-push old mid new (e ∷ events) (r ∷ replies) event reply run step = (run.0, run.1, RunOfWorlds-push run.0 mid new events replies event reply run.2 step)

@@ -1,5 +1,5 @@
 -- A member's seat in the running term of its group, and the refusals of a delivery there.
-use Rattle.std.proofs.Common.{◌≡◌, ℕ, Bool, true, false, List, length, Option, Some, None, refl, sym, ap, ◌∙◌}
+use Rattle.std.proofs.Common.{◌≡◌, ℕ, Bool, true, false, List, length, Option, Some, None, refl, sym, ap, subst, ◌∙◌}
 use Rattle.std.proofs.lemmas.List.Quantifiers.{position-Some}
 use Rattle.ring_id.specs.declared.refusal.Refusal.{Refusal}
 use Rattle.ring_id.specs.declared.refusal.Refusal.TheVariants as refused
@@ -17,6 +17,8 @@ use Rattle.ring_mux.specs.Views.{Held, IsHeld, IsPendingIn, IsSeat, IsWorldOf, w
 use Rattle.ring_world.specs.Worlds.{pending_of}
 use Rattle.ring_mux.specs.declared.carried.Carried.TheVariants.{Moved, Idle, Refused}
 use Rattle.ring_mux.specs.Journeys.{Carries}
+use Rattle.ring_mux.specs.WorldSteps.{CarriesAt}
+use Rattle.ring_mux.specs.declared.carried.Carried.{Carried}
 use Rattle.ring_mux.proofs.Carrying.{option_map-some, running_ring, same_found}
 
 -- the running term of a group that has a running charter
@@ -60,6 +62,22 @@ module _ {E : Type 0} (two_way : E → Bool) (node : ℕ) (side : Side) (refusal
   pub refused_as_who : (name : List ℕ) (object : Object E) → IsRefusal (in_group name (who_refusal node) object) false refusal → IsRefusal (in_group name (deliver_refusal two_way node side) object) true refusal
   refused_as_who name object h = group_step (find name object) h
 
+-- memory is never refused to a call that grows nothing
+member_grows_nothing : (o : Option ℕ) (refusal : Refusal) → IsRefusal (unless_some o refused.NotInTerm (λ _. None)) false refusal → refusal ≡ refused.NoMemory → ⊥
+member_grows_nothing None refusal h memory = cc
+member_grows_nothing (Some i) refusal h memory = let bad = h.0 in cc
+
+term_grows_nothing : (o : Option TermView) (node : ℕ) (refusal : Refusal) → IsRefusal (unless_some o refused.NoTerm (member_refusal node)) false refusal → refusal ≡ refused.NoMemory → ⊥
+term_grows_nothing None node refusal h memory = cc
+term_grows_nothing (Some term) node refusal h memory = member_grows_nothing (position_of node term.ring) refusal h memory
+
+group_grows_nothing : {E : Type 0} (o : Option (GroupView E)) (node : ℕ) (refusal : Refusal) → IsRefusal (unless_some o refused.NoGroup (who_refusal node)) false refusal → refusal ≡ refused.NoMemory → ⊥
+group_grows_nothing None node refusal h memory = cc
+group_grows_nothing (Some group) node refusal h memory = term_grows_nothing (last_term group) node refusal h memory
+
+pub seat_grows_nothing : {E : Type 0} (name : List ℕ) (object : Object E) (node : ℕ) (refusal : Refusal) → IsRefusal (in_group name (who_refusal node) object) false refusal → refusal ≡ refused.NoMemory → ⊥
+seat_grows_nothing name object node refusal h memory = group_grows_nothing (find name object) node refusal h memory
+
 -- memory can be refused to any call that grows
 grows_more : (first : Option Refusal) (grows : Bool) (refusal : Refusal) → IsRefusal first grows refusal → IsRefusal first true refusal
 grows_more None grows refusal h = (refl, h.1)
@@ -101,6 +119,18 @@ module _ {E S M : Type 0} (t : E → Table S M) (object : Object E) (worlds : Li
   refused_at new refusal carries =
       let done = carries kept.world kept.found in
       (ap (λ (h : Held E M). h.object) (done.1), rw refusal_is (grows_more _ _ refusal (done.0)))
+
+  -- it is a delivery on the link into that position
+  pub carries_at : (new : Held E M) (done : Carried) → ((w : Running E M) → world_in name worlds ≡ Some w → Carries t two_way greatest name i side w (record { object = object; worlds = worlds }) done new)
+      → CarriesAt t two_way greatest name node side (record { object = object; worlds = worlds }) done new
+  carries_at new done carries = record { world = kept.world; position = i; found = kept.found; placed = placed; carries = carries kept.world kept.found }
+
+  pub refused_carries : (new : Held E M) (refusal : Refusal) → ((w : Running E M) → world_in name worlds ≡ Some w → Carries t two_way greatest name i side w (record { object = object; worlds = worlds }) (Refused refusal) new)
+      → (new ≡ record { object = object; worlds = worlds }) × (refusal ≡ refused.NoMemory → CarriesAt t two_way greatest name node side (record { object = object; worlds = worlds }) (Refused refused.NoMemory) new)
+  refused_carries new refusal carries = (
+    (carries kept.world kept.found).1,
+    λ memory. subst (λ (r : Refusal). CarriesAt t two_way greatest name node side (record { object = object; worlds = worlds }) (Refused r) new) memory (carries_at new (Refused refusal) carries),
+  )
 
 -- how many packets are in flight in the world of a group that has a running term
 pub pending_in : {E S M : Type 0} (t : E → Table S M) (held : Held E M) → IsHeld t held.object held.worlds → (name : List ℕ) (charter : Charter E) (number : ℕ)

@@ -1,11 +1,12 @@
 -- What an event does to the worlds: which journals change, and what the numbers in replies count.
-use Rattle.std.specs.Prelude.{◌≡◌, ◌<◌, ◌≤◌, ◌⊎◌, ℕ, zero, suc, Bool, true, false, List, [], length, Option, Some, None, nat_lt}
+use Rattle.std.specs.Prelude.{◌≡◌, ◌<◌, ◌≤◌, ◌⊎◌, ℕ, zero, suc, Bool, true, false, List, [], length, replicate, Option, Some, None, nat_lt}
 use Rattle.std.specs.Map.{set_value}
 use Rattle.std.specs.Str.{bytes_eq}
 use Rattle.ring_id.specs.declared.side.Side.{Side}
 use Rattle.ring_id.specs.Refusals.{IsRefusal}
 use Rattle.ring_roster.specs.Ring.{position_of}
 use Rattle.ring_election.specs.Tables.{Table}
+use Rattle.ring_node.specs.declared.charter.Charter.{Charter}
 use Rattle.ring_node.specs.Reports.{Told}
 use Rattle.ring_world.specs.Worlds.{HasMoved, IsFirstLink, Running, in_flight, link_refusal, pending_of}
 use Rattle.ring_terms.specs.Commands.{running_refusal}
@@ -18,6 +19,10 @@ use Rattle.ring_mux.specs.Views.{Held, world_in}
 -- the worlds with this one under that name, all others as they were
 abbrev pub with_world : {E M : Type 0} → List ℕ → Running E M → List (List ℕ × Running E M) → List (List ℕ × Running E M)
 with_world name world worlds = set_value (bytes_eq name) worlds world
+
+-- the world of a charter before any delivery
+abbrev pub begun_of : {E M : Type 0} → Charter E → Running E M
+begun_of charter = record { charter = charter; journals = replicate (length charter.roster) [] }
 
 -- a delivery on the link into a position of a group's world: that world moves and no other, and the
 -- object by a step at the member of that position

@@ -1,7 +1,7 @@
 -- The runs of the election object. A step says which reply an event may get, what each reply changes,
 -- and that nothing else changes: the first refusal that holds is answered and no other, and a reply of
 -- another kind never comes.
-use Rattle.std.specs.Prelude.{◌≡◌, ◌≤◌, ◌<◌, ◌⊎◌, ℕ, zero, suc, Bool, true, false, List, [], ◌∷◌, Option, None}
+use Rattle.std.specs.Prelude.{◌≡◌, ◌≤◌, ◌<◌, ◌⊎◌, ℕ, zero, suc, Bool, true, false, List, [], ◌∷◌, Option, Some, None, length, slice_get}
 use Rattle.ring_id.specs.declared.refusal.Refusal.{Refusal}
 use Rattle.ring_id.specs.declared.refusal.Refusal.TheVariants as refused
 use Rattle.ring_id.specs.declared.side.Side.{Side}
@@ -10,7 +10,7 @@ use Rattle.ring_roster.specs.Ring.{position_of}
 use Rattle.ring_world.specs.Worlds.{link_refusal}
 use Rattle.ring_terms.specs.declared.standing.Standing.{Standing}
 use Rattle.ring_terms.specs.declared.standing.Standing.TheVariants as standing
-use Rattle.ring_terms.specs.Object.{GroupView, InGroup, Object, OfGroup, last_term, leaders, names}
+use Rattle.ring_terms.specs.Object.{GroupView, InGroup, Object, OfGroup, OfLast, TermView, last_term, leaders, names}
 use Rattle.ring_terms.specs.Commands.{Creates, Joins, Leaves, Starts, create_refusal, in_group, join_refusal, leave_refusal, never_refused, running_refusal, start_refusal, who_refusal}
 use Rattle.ring_terms.specs.Moves.{Moves}
 use Rattle.ring_terms.specs.Standings.{Tells}
@@ -48,6 +48,15 @@ deliver_refusal two_way node side group =
 abbrev pub MovesOf : {E : Type 0} → (E → Bool) → ℕ → GroupView E → GroupView E → Type 0
 MovesOf greatest node old new = Moves (greatest old.algorithm) node old new
 
+-- a term is known at all its members
+pub record IsKnown (term : TermView) : Type 0 where
+  pub each : (i : ℕ) → i < length term.ring → slice_get term.informed i ≡ Some true
+
+-- where so many packets are in flight in the running term of this group: if there are none, the term
+-- is known at all its members
+abbrev pub KnownIfNone : {E : Type 0} → List ℕ → ℕ → Object E → Type 0
+KnownIfNone name number object = number ≡ 0 → OfGroup name (OfLast IsKnown) object
+
 -- one delivery at some member
 pub record MovesOnce {E : Type 0} (greatest : E → Bool) (old new : GroupView E) : Type 0 where
   pub node : ℕ
@@ -59,7 +68,7 @@ MovesTimes greatest zero old new = new ≡ old
 MovesTimes {E} greatest (suc n) old new = (mid : GroupView E) × MovesTimes greatest n old mid × MovesOnce greatest mid new
 
 -- A drain makes at most so many deliveries. It ends with all of them made or with nothing left, or it
--- starved: then deliveries were still to be made and packets remain.
+-- starved: then deliveries were still to be made and packets remain. Nothing left means known.
 pub record Drains {E : Type 0} (greatest : E → Bool) (name : List ℕ) (count : ℕ) (answer : Reply) (old new : Object E) : Type 0 where
   pub done : ℕ
   pub left : ℕ
@@ -69,6 +78,7 @@ pub record Drains {E : Type 0} (greatest : E → Bool) (name : List ℕ) (count 
   pub moves : InGroup name (MovesTimes greatest done) old new
   pub ended : starved ≡ false → (done ≡ count) ⊎ (left ≡ 0)
   pub stopped : starved ≡ true → (done < count) × (0 < left)
+  pub known : KnownIfNone name left new
 
 module _ {E : Type 0} (two_way greatest : E → Bool) where
   -- a command of a client
@@ -88,7 +98,7 @@ module _ {E : Type 0} (two_way greatest : E → Bool) where
   Step old (Deliver name node side) answer new =
       Replies (in_group name (deliver_refusal two_way node side) old) true old answer new
       (λ r. ((r ≡ reply.Idle) × (new ≡ old)) ⊎ ((r ≡ reply.Moved) × InGroup name (MovesOf greatest node) old new))
-  Step old (Pending name) answer new = Replies (in_group name running_refusal old) false old answer new (λ r. (new ≡ old) × (number : ℕ) × (r ≡ reply.Pending number))
+  Step old (Pending name) answer new = Replies (in_group name running_refusal old) false old answer new (λ r. (new ≡ old) × (number : ℕ) × (r ≡ reply.Pending number) × KnownIfNone name number old)
   Step old (Drain name count) answer new = Replies (in_group name running_refusal old) false old answer new (λ r. Drains greatest name count r old new)
 
   -- a run: one reply for each event, each a step

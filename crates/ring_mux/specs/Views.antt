@@ -4,7 +4,8 @@ use Rattle.std.specs.Map.{lookup}
 use Rattle.std.specs.Str.{bytes_eq}
 use Rattle.ring_election.specs.Tables.{Table}
 use Rattle.ring_node.specs.Nodes.{known_of}
-use Rattle.ring_world.specs.Worlds.{Running, node_at, pending_of}
+use Rattle.ring_id.specs.declared.side.Side.{Side}
+use Rattle.ring_world.specs.Worlds.{IsSoundWorld, Running, node_at, pending_of}
 use Rattle.ring_terms.specs.Object.{GroupView, Object, OfGroup, OfLast, TermView, find, last_term}
 use Rattle.ring_terms.specs.Charters.{running_charter}
 
@@ -25,9 +26,18 @@ pub record IsWorldOf {E S M : Type 0} (t : E → Table S M) (name : List ℕ) (g
   pub charter : running_charter name group ≡ Some world.charter
   pub marks : (i : ℕ) → i < length term.ring → slice_get term.informed i ≡ Some (is_some (known_of t (node_at world i)))
 
--- what the type of a mux keeps: the last term of each group has its world
+-- the last term of each group has its world
 pub record IsHeld {E S M : Type 0} (t : E → Table S M) (object : Object E) (worlds : List (List ℕ × Running E M)) : Type 0 where
   pub each : (name : List ℕ) (group : GroupView E) (term : TermView) → find name object ≡ Some group → last_term group ≡ Some term → IsWorldOf t name group term worlds
+
+-- each world is sound: its journals are a sound family that fits, and what a node knows is the winner
+pub record AreSound {E S M : Type 0} (t : E → Table S M) (fits : E → List ℕ → ℕ → Side → ℕ → M → Type 0) (winner : E → List ℕ → ℕ) (worlds : List (List ℕ × Running E M)) : Type 0 where
+  pub each : (name : List ℕ) (world : Running E M) → world_in name worlds ≡ Some world → IsSoundWorld t fits winner world
+
+-- what the type of a mux keeps
+pub record IsKept {E S M : Type 0} (t : E → Table S M) (fits : E → List ℕ → ℕ → Side → ℕ → M → Type 0) (winner : E → List ℕ → ℕ) (object : Object E) (worlds : List (List ℕ × Running E M)) : Type 0 where
+  pub held : IsHeld t object worlds
+  pub sound : AreSound t fits winner worlds
 
 -- so many packets are in flight in the world under a name
 pub record IsPendingIn {E S M : Type 0} (t : E → Table S M) (name : List ℕ) (number : ℕ) (held : Held E M) : Type 0 where

@@ -4,9 +4,11 @@ ghost use Rattle.ring_world.specs.Worlds.{IsReady, pending_of};
 ghost use Rattle.ring_terms.specs.Commands.{Shows, in_group, running_refusal, who_refusal};
 ghost use Rattle.ring_terms.specs.Object.{OfGroup, OfLast};
 ghost use Rattle.ring_mux.specs.Journeys.{Carries, Makes};
+ghost use Rattle.ring_mux.specs.Quiet.{QuietIsKnown};
 ghost use Rattle.ring_mux.specs.Replies.{done_reply, told_reply};
-ghost use Rattle.ring_mux.specs.Steps.{Run, Step, StepOf, standing_reply};
-ghost use Rattle.ring_mux.specs.Views.{IsHeld, IsPendingIn, IsSeat, world_in};
+ghost use Rattle.ring_mux.specs.Steps.{KnownIfNone, Run, Step, StepOf, standing_reply};
+ghost use Rattle.ring_mux.specs.Views.{IsKept, IsPendingIn, IsSeat, world_in};
+ghost use Rattle.ring_mux.specs.WorldSteps.{CommandOfWorlds, LeavesNothing, RunOfWorlds, StartOfWorlds, StepOfWorlds};
 
 use crate::carried::Carried;
 use crate::event::{Command, Event};
@@ -29,13 +31,13 @@ pub struct Mux<E: RingElection> {
 }
 
 impl<E: RingElection> Model for Mux<E> {
-    ghost use Rattle.ring_mux.specs.Views.{Held, IsHeld};
+    ghost use Rattle.ring_mux.specs.Views.{Held, IsKept};
 
     ghost Value = { Held E E.Msg };
 
     ghost view = { λ a. record { object = a.book; worlds = a.worlds.entries } };
 
-    ghost invariant = { λ a. IsHeld E.table a.book a.worlds.entries };
+    ghost invariant = { λ a. IsKept E.table E.fits E.winner a.book a.worlds.entries };
 }
 
 impl<E: RingElection> Mux<E> {
@@ -57,27 +59,35 @@ impl<E: RingElection> Mux<E> {
         &self.book
     }
 
-    /// One event: its reply is a step of the election object.
+    /// One event: its reply is a step of the election object, and what it does below is a step of the
+    /// worlds. Afterwards each running term with nothing in flight is known at all its members.
     pub fn step(&mut self, alloc: Global, event: Event<E>) -> Reply
         ensures object { Step E.is_two_way E.is_greatest self.old.object event result self.new.object }
+        ensures worlds { StepOfWorlds E.table E.is_two_way E.is_greatest self.old event result self.new }
+        ensures quiet { QuietIsKnown E.table self.new }
     {
-        match event {
+        let reply = match event {
             Event::Client(command) => self.command(alloc, command),
             Event::Deliver(group, node, side) => self.deliver(group, node, side),
-            Event::Pending(group) => match self.pending(group) {
-                Ok(pending) => Reply::Pending(pending),
-                Err(refusal) => Reply::Refused(refusal),
-            },
+            Event::Pending(group) => self.count(group),
             Event::Drain(group, count) => self.drain(group, count),
-        }
+        };
+        // what the type keeps holds of the new state too
+        let _ = &self.worlds;
+        reply
     }
 
-    /// Events one after another, one reply each. Room for all replies is found first: refused memory
-    /// means that no event was taken.
+    /// Events one after another, one reply each: a run of the election object, and of the worlds.
+    /// Afterwards each running term with nothing in flight is known at all its members. Room for all
+    /// replies is found first: refused memory means that no event was taken.
     pub fn run(&mut self, alloc: Global, events: &[Event<E>]) -> Result<Vec<Reply>, NoMemory>
         ensures run { IfOk result (λ replies. Run E.is_two_way E.is_greatest self.old.object events.now replies.items self.new.object) }
+        ensures worlds { IfOk result (λ replies. RunOfWorlds E.table E.is_two_way E.is_greatest self.old events.now replies.items self.new) }
+        ensures quiet { QuietIsKnown E.table self.new }
         ensures err { OnErr result (self.new ≡ self.old) }
     {
+        // what the type keeps holds before the first event
+        let _ = &self.worlds;
         let Ok(mut replies) = Vec::with_capacity(alloc, events.len()) else {
             return Err(NoMemory);
         };
@@ -91,6 +101,7 @@ impl<E: RingElection> Mux<E> {
     /// A client's command.
     fn command(&mut self, alloc: Global, command: Command<E>) -> Reply
         ensures object { StepOf E.is_two_way E.is_greatest self.old.object command result self.new.object }
+        ensures worlds { CommandOfWorlds self.old command result self.new }
     {
         match command {
             Command::Create(group, algorithm) => done(self.book.create(alloc, group, algorithm)),
@@ -116,6 +127,7 @@ impl<E: RingElection> Mux<E> {
     /// Starts a term: its world is made, and the room for it found, before anything changes.
     fn start(&mut self, alloc: Global, group: GroupName) -> Reply
         ensures object { StepOf E.is_two_way E.is_greatest self.old.object (Command.Start group) result self.new.object }
+        ensures worlds { StartOfWorlds group self.old result self.new }
     {
         let charter = match self.book.plan(alloc, group) {
             Ok(charter) => charter,
@@ -136,10 +148,11 @@ impl<E: RingElection> Mux<E> {
         }
     }
 
-    /// How many packets are in flight in a group's running term. Takes no memory. Refused, the first
-    /// that holds: `NoGroup`, `NoTerm`.
+    /// How many packets are in flight in a group's running term; where there are none the term is known
+    /// at all its members. Takes no memory. Refused, the first that holds: `NoGroup`, `NoTerm`.
     pub fn pending(&self, group: GroupName) -> Result<u128, Refusal>
-        ensures { Shows (in_group group running_refusal self.now.object) false result (λ number. IsPendingIn E.table group number self.now) }
+        ensures number { Shows (in_group group running_refusal self.now.object) false result (λ number. IsPendingIn E.table group number self.now) }
+        ensures known { IfOk result (λ number. KnownIfNone group number self.now.object) }
     {
         self.book.running(group)?;
         Ok(self.waiting(group))
@@ -147,9 +160,12 @@ impl<E: RingElection> Mux<E> {
 
     /// Makes deliveries at the first ready link of a group's running term, until so many are made,
     /// nothing is ready, or one is refused memory; those that were made stand. Refused, the first that
-    /// holds: `NoGroup`, `NoTerm`.
+    /// holds: `NoGroup`, `NoTerm`. A drain of more than the algorithm's bound and the length of the ring
+    /// together leaves nothing, unless it was refused memory.
     pub fn drain(&mut self, group: GroupName, count: u32) -> Reply
         ensures object { Step E.is_two_way E.is_greatest self.old.object (Event.Drain group count) result self.new.object }
+        ensures worlds { StepOfWorlds E.table E.is_two_way E.is_greatest self.old (Event.Drain group count) result self.new }
+        ensures bounded { LeavesNothing E.bound group count self.old.worlds result }
     {
         if let Err(refusal) = self.book.running(group) {
             return Reply::Refused(refusal);
@@ -165,6 +181,7 @@ impl<E: RingElection> Mux<E> {
     /// One delivery at a member of a group's running term, from a side.
     fn deliver(&mut self, group: GroupName, node: NodeId, side: Side) -> Reply
         ensures object { Step E.is_two_way E.is_greatest self.old.object (Event.Deliver group node side) result self.new.object }
+        ensures worlds { StepOfWorlds E.table E.is_two_way E.is_greatest self.old (Event.Deliver group node side) result self.new }
     {
         let position = match self.seat(group, node) {
             Ok(position) => position,
@@ -177,10 +194,21 @@ impl<E: RingElection> Mux<E> {
         }
     }
 
+    /// How many packets are in flight, as a reply.
+    fn count(&self, group: GroupName) -> Reply
+        ensures object { Step E.is_two_way E.is_greatest self.now.object (Event.Pending group) result self.now.object }
+        ensures worlds { StepOfWorlds E.table E.is_two_way E.is_greatest self.now (Event.Pending group) result self.now }
+    {
+        match self.pending(group) {
+            Ok(pending) => Reply::Pending(pending),
+            Err(refusal) => Reply::Refused(refusal),
+        }
+    }
+
     /// Where a member of a group's running term stands on its ring.
     fn seat(&self, group: GroupName, node: NodeId) -> Result<usize, Refusal>
         ensures seat { Shows (in_group group (who_refusal node) self.now.object) false result (λ i. OfGroup group (OfLast (λ term. position_of node term.ring ≡ Some i)) self.now.object) }
-        ensures kept { IsHeld E.table self.now.object self.now.worlds }
+        ensures kept { IsKept E.table E.fits E.winner self.now.object self.now.worlds }
     {
         let charter = self.book.running(group)?;
         match charter.roster().position(node) {
@@ -192,7 +220,7 @@ impl<E: RingElection> Mux<E> {
     /// How many packets are in flight in a group's world.
     fn waiting(&self, group: GroupName) -> u128
         ensures counted { (w : _) → world_in group self.now.worlds ≡ Some w → result ≡ pending_of E.table w }
-        ensures kept { IsHeld E.table self.now.object self.now.worlds }
+        ensures kept { IsKept E.table E.fits E.winner self.now.object self.now.worlds }
     {
         match self.worlds.get(&group) {
             Some(world) => world.pending(),
@@ -203,7 +231,7 @@ impl<E: RingElection> Mux<E> {
     /// The first ready link of a group's world.
     fn ready(&self, group: GroupName) -> Option<(usize, Side)>
         ensures first { (w : _) → world_in group self.now.worlds ≡ Some w → IsReady E.table w result × IsRing w.charter.roster }
-        ensures kept { IsHeld E.table self.now.object self.now.worlds }
+        ensures kept { IsKept E.table E.fits E.winner self.now.object self.now.worlds }
     {
         let world = self.worlds.get(&group)?;
         world.ready()

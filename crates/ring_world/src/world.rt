@@ -35,7 +35,8 @@ impl<E: RingElection> Model for World<E> {
 impl<E: RingElection> World<E> {
     /// The world of this charter in which every node has started. Refused for want of memory alone.
     pub fn begin(alloc: Global, charter: Arc<Charter<E>>) -> Result<World<E>, NoMemory>
-        ensures { IfOk result (λ world. world ≡ record { charter = charter.value; journals = replicate (length charter.value.roster) [] }) }
+        ensures started { IfOk result (λ world. world ≡ record { charter = charter.value; journals = replicate (length charter.value.roster) [] }) }
+        ensures sound { IfOk result (λ world. IsSoundWorld E.table E.fits E.winner world) }
     {
         let size = charter.roster().len();
         let Ok(mut nodes) = Vec::with_capacity(alloc, size) else {

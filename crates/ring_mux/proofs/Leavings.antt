@@ -1,0 +1,76 @@
+-- A drain of more than all that a world can take leaves nothing: each delivery is one receipt more.
+use Rattle.std.proofs.Common.{◌≡◌, ◌+◌, ◌<◌, ◌≤◌, ◌⊎◌, ℕ, zero, suc, Bool, false, List, [], ◌∷◌, ◌++◌, length, Option, Some, get_or, slice_set, refl, sym, ap, ◌∙◌, arith, inl, inr}
+use Rattle.std.proofs.Math.ListN.{length-set}
+use Rattle.std.proofs.lemmas.List.{length_push}
+use Rattle.ring_id.specs.declared.side.Side.{Side}
+use Rattle.ring_election.specs.Laws.{Bounded}
+use Rattle.ring_election.specs.Tables.{Table}
+use Rattle.ring_node.specs.declared.packet.Packet.{Packet}
+use Rattle.ring_world.specs.Worlds.{Running, after_receipt, delivered_of, most_deliveries, pending_of, receipts_in, size_of}
+use Rattle.ring_world.proofs.Work.{work_bounded}
+use Rattle.ring_terms.specs.Object.{Object}
+use Rattle.ring_mux.specs.Journeys.{Makes, Travels}
+use Rattle.ring_mux.specs.Views.{AreSound, Held, world_in}
+use Rattle.ring_mux.specs.WorldSteps.{LeavesNothing}
+use Rattle.ring_mux.specs.declared.reply.Reply.{Reply}
+use Rattle.ring_mux.specs.declared.reply.Reply.TheVariants.{Drained}
+use Rattle.ring_mux.proofs.Carrying.{same_found, written_found}
+
+-- one journal is longer by one
+receipts_in-set : {M : Type 0} (journals : List (List (Side × Packet M))) (i : ℕ) (receipt : Side × Packet M) → i < length journals
+    → receipts_in (slice_set journals i (get_or journals i [] ++ receipt ∷ [])) ≡ receipts_in journals + 1
+receipts_in-set [] i receipt below = absurd (omega arith)
+receipts_in-set (journal ∷ journals) zero receipt below = omega (arith, length_push journal receipt)
+receipts_in-set (journal ∷ journals) (suc i) receipt below = omega (arith, receipts_in-set journals i receipt (omega arith))
+
+-- a world after so many deliveries: its charter stays, and it has so many receipts more
+record HasTaken {E M : Type 0} (name : List ℕ) (n : ℕ) (world : Running E M) (worlds : List (List ℕ × Running E M)) : Type 0 where
+  after : Running E M
+  found : world_in name worlds ≡ Some after
+  charter : after.charter ≡ world.charter
+  count : length after.journals ≡ size_of after
+  taken : delivered_of after ≡ delivered_of world + n
+
+module _ {E S M : Type 0} (t : E → Table S M) (name : List ℕ) where
+  has_taken : (n : ℕ) (old new : List (List ℕ × Running E M)) → Travels t name n old new → (world : Running E M) → world_in name old ≡ Some world → length world.journals ≡ size_of world → HasTaken name n world new
+  has_taken zero old new same world found count = record { after = world; found = ap (world_in name) same ∙ found; charter = refl; count = count; taken = omega arith }
+  has_taken (suc n) old new travels world found count =
+      let before = has_taken n old (travels.0) (travels.1) world found count in
+      let once = travels.2 in
+      let same : once.before ≡ before.after = same_found (world_in name (travels.0)) once.before before.after once.found before.found in
+      let moved = once.moved.journals in
+      let inside : once.position < length once.before.journals = let there = once.ready.inside in let long = rw (← same) at before.count in omega (arith, there, long) in
+      let more : delivered_of once.after ≡ delivered_of once.before + 1 = ap (λ (w : Running E M). delivered_of w) moved ∙ receipts_in-set once.before.journals once.position (once.side, once.moved.packet) inside in
+      let here : delivered_of once.before ≡ delivered_of world + n = ap (λ (w : Running E M). delivered_of w) same ∙ before.taken in
+      record {
+        after = once.after;
+        found = ap (world_in name) once.worlds ∙ written_found name (travels.0) once.before once.after once.found;
+        charter = ap (λ (w : Running E M). w.charter) moved ∙ ap (λ (w : Running E M). w.charter) same ∙ before.charter;
+        count =
+            rw moved (length-set once.before.journals once.position _
+            ∙ ap (λ (w : Running E M). length w.journals) same
+            ∙ before.count
+            ∙ ap (λ (w : Running E M). size_of w) (sym same));
+        taken = omega (arith, more, here);
+      }
+
+  -- a drain that isn't starved and is of more than the bound allows leaves nothing
+  pub leaves_nothing : (fits : E → List ℕ → ℕ → Side → ℕ → M → Type 0) (winner : E → List ℕ → ℕ) (bound : E → ℕ → ℕ) → ((a : E) → Bounded (t a) (fits a) (bound a)) → (greatest : E → Bool) (count done left : ℕ) (starved : Bool) (old new : Held E M)
+      → AreSound t fits winner old.worlds
+      → AreSound t fits winner new.worlds
+      → Makes t greatest name count done starved old new
+      → ((w : Running E M) → world_in name new.worlds ≡ Some w → left ≡ pending_of t w)
+      → LeavesNothing bound name count old.worlds (Drained done left starved)
+  leaves_nothing fits winner bound bounded greatest count done left starved old new sound_old sound_new makes counted = record {
+    each = λ world found many done' left' says.
+        let taken = has_taken done old.worlds new.worlds makes.worlds world found (sound_old.each name world found).count in
+        let left_is : left ≡ left' = cc in
+        let calm : starved ≡ false = cc in
+        let work = work_bounded t fits winner taken.after (sound_new.each name taken.after taken.found) bound (bounded taken.after.charter.algorithm) in
+        let most : most_deliveries bound taken.after ≡ most_deliveries bound world = rw taken.charter refl in
+        sym left_is
+        ∙ elim (makes.ended calm) [
+          | inl all ↦ absurd (let more = taken.taken in omega (arith, work, most, more, all, many))
+          | inr quiet ↦ counted taken.after taken.found ∙ quiet taken.after taken.found
+        ];
+  }

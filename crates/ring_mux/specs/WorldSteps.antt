@@ -1,0 +1,87 @@
+-- The runs of a mux below the election object: which journals an event changes, and what the numbers
+-- in its reply count. Every event but a start, a delivery and a drain leaves all worlds as they are.
+use Rattle.std.specs.Prelude.{◌≡◌, ◌<◌, ℕ, Bool, false, cond, List, [], ◌∷◌, Some}
+use Rattle.std.specs.Str.{bytes_eq}
+use Rattle.ring_id.specs.declared.refusal.Refusal.{Refusal}
+use Rattle.ring_id.specs.declared.refusal.Refusal.TheVariants.{NoMemory}
+use Rattle.ring_id.specs.declared.side.Side.{Side}
+use Rattle.ring_roster.specs.Ring.{position_of}
+use Rattle.ring_election.specs.Tables.{Table}
+use Rattle.ring_node.specs.declared.charter.Charter.{Charter}
+use Rattle.ring_world.specs.Worlds.{Running, most_deliveries}
+use Rattle.ring_terms.specs.Charters.{running_charter}
+use Rattle.ring_terms.specs.Object.{OfGroup}
+use Rattle.ring_mux.specs.declared.carried.Carried.{Carried}
+use Rattle.ring_mux.specs.declared.carried.Carried.TheVariants as carried
+use Rattle.ring_mux.specs.declared.event.Command.{Command}
+use Rattle.ring_mux.specs.declared.event.Command.TheVariants.{Start}
+use Rattle.ring_mux.specs.declared.event.Event.{Event}
+use Rattle.ring_mux.specs.declared.event.Event.TheVariants as event
+use Rattle.ring_mux.specs.declared.reply.Reply.{Reply}
+use Rattle.ring_mux.specs.declared.reply.Reply.TheVariants as reply
+use Rattle.ring_mux.specs.Journeys.{Carries, Makes, begun_of}
+use Rattle.ring_mux.specs.Steps.{Step}
+use Rattle.ring_mux.specs.Views.{Held, IsPendingIn, world_in}
+
+-- the world of the term that a group has started, before any delivery; every other group's stays
+pub record Begins {E M : Type 0} (name : List ℕ) (old new : Held E M) : Type 0 where
+  pub charter : Charter E
+  pub started : OfGroup name (λ group. running_charter name group ≡ Some charter) new.object
+  pub worlds : (other : List ℕ) → world_in other new.worlds ≡ cond (bytes_eq name other) (Some (begun_of charter)) (world_in other old.worlds)
+
+-- start: a term that is answered has its new world
+abbrev pub StartOfWorlds : {E M : Type 0} → List ℕ → Held E M → Reply → Held E M → Type 0
+StartOfWorlds name old (reply.Term term) new = Begins name old new
+StartOfWorlds name old other new = new.worlds ≡ old.worlds
+
+-- a command of a client
+abbrev pub CommandOfWorlds : {E M : Type 0} → Held E M → Command E → Reply → Held E M → Type 0
+CommandOfWorlds old (Start name) answer new = StartOfWorlds name old answer new
+CommandOfWorlds old other answer new = new.worlds ≡ old.worlds
+
+module _ {E S M : Type 0} (t : E → Table S M) (two_way greatest : E → Bool) where
+  -- a delivery at a member is one on the link into its position, in the world of its group
+  pub record CarriesAt (name : List ℕ) (node : ℕ) (side : Side) (old : Held E M) (done : Carried) (new : Held E M) : Type 0 where
+    pub world : Running E M
+    pub position : ℕ
+    pub found : world_in name old.worlds ≡ Some world
+    pub placed : position_of node world.charter.roster ≡ Some position
+    pub carries : Carries t two_way greatest name position side world old done new
+
+  -- deliver: it moves that link, or nothing is in flight there; memory is refused to a delivery alone
+  abbrev pub DeliverOfWorlds : List ℕ → ℕ → Side → Held E M → Reply → Held E M → Type 0
+  DeliverOfWorlds name node side old reply.Moved new = CarriesAt name node side old carried.Moved new
+  DeliverOfWorlds name node side old reply.Idle new = CarriesAt name node side old carried.Idle new
+  DeliverOfWorlds name node side old (reply.Refused refusal) new = (new ≡ old) × (refusal ≡ NoMemory → CarriesAt name node side old (carried.Refused NoMemory) new)
+  DeliverOfWorlds name node side old other new = ⊥
+
+  -- pending: the number is that of the packets in flight
+  abbrev pub PendingOfWorlds : List ℕ → Held E M → Reply → Held E M → Type 0
+  PendingOfWorlds name old (reply.Pending number) new = (new ≡ old) × IsPendingIn t name number old
+  PendingOfWorlds name old (reply.Refused refusal) new = new ≡ old
+  PendingOfWorlds name old other new = ⊥
+
+  -- drain: its deliveries, each at the link that was ready then, and how many packets remain
+  abbrev pub DrainOfWorlds : List ℕ → ℕ → Held E M → Reply → Held E M → Type 0
+  DrainOfWorlds name count old (reply.Drained done left starved) new = Makes t greatest name count done starved old new × IsPendingIn t name left new
+  DrainOfWorlds name count old (reply.Refused refusal) new = new ≡ old
+  DrainOfWorlds name count old other new = ⊥
+
+  -- any event
+  abbrev pub StepOfWorlds : Held E M → Event E → Reply → Held E M → Type 0
+  StepOfWorlds old (event.Client command) answer new = CommandOfWorlds old command answer new
+  StepOfWorlds old (event.Deliver name node side) answer new = DeliverOfWorlds name node side old answer new
+  StepOfWorlds old (event.Pending name) answer new = PendingOfWorlds name old answer new
+  StepOfWorlds old (event.Drain name count) answer new = DrainOfWorlds name count old answer new
+
+  -- a run: one reply for each event, each a step of the object and of the worlds at once
+  abbrev pub RunOfWorlds : Held E M → List (Event E) → List Reply → Held E M → Type 0
+  RunOfWorlds old [] [] new = new ≡ old
+  RunOfWorlds old [] (answer ∷ answers) new = ⊥
+  RunOfWorlds old (event ∷ events) [] new = ⊥
+  RunOfWorlds old (event ∷ events) (answer ∷ answers) new =
+      (mid : Held E M) × (Step two_way greatest old.object event answer mid.object × StepOfWorlds old event answer mid) × RunOfWorlds mid events answers new
+
+-- a drain of more than all that the world of a group can take leaves nothing, unless it starved
+pub record LeavesNothing {E M : Type 0} (bound : E → ℕ → ℕ) (name : List ℕ) (count : ℕ) (worlds : List (List ℕ × Running E M)) (answer : Reply) : Type 0 where
+  pub each : (world : Running E M) → world_in name worlds ≡ Some world → most_deliveries bound world < count → (done left : ℕ) → answer ≡ reply.Drained done left false → left ≡ 0
