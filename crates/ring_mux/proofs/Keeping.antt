@@ -14,7 +14,7 @@ use Rattle.ring_terms.specs.Commands.{running_refusal}
 use Rattle.ring_terms.specs.Object.{GroupView, Object, OfGroup, TermView, find, last_term}
 use Rattle.ring_mux.specs.Quiet.{IsKnownIfQuiet, QuietIsKnown}
 use Rattle.ring_mux.specs.Steps.{IsKnown, KnownIfNone}
-use Rattle.ring_mux.specs.Views.{AreSound, IsKept, IsWorldOf, world_in}
+use Rattle.ring_mux.specs.Views.{AreSound, IsSoundHeld, IsWorldOf, world_in}
 use Rattle.ring_mux.proofs.Carrying.{looked_up, running_ring, same_found}
 use Rattle.ring_mux.proofs.Drains.{the_term}
 
@@ -37,7 +37,7 @@ module _ {E S M : Type 0} (t : E → Table S M) (fits : E → List ℕ → ℕ �
   sound_written name worlds world after sound found is_sound =
       sound_updated name worlds (set_value (bytes_eq name) worlds after) after sound is_sound (λ other. looked_up name other worlds world after found)
 
-  module _ (deciding : (a : E) → Deciding (t a) (fits a)) (undecided : (a : E) (me : ℕ) → (t a).decided ((t a).first me) ≡ None) (object : Object E) (worlds : List (List ℕ × Running E M)) (kept : IsKept t fits winner object worlds) where
+  module _ (deciding : (a : E) → Deciding (t a) (fits a)) (undecided : (a : E) (me : ℕ) → (t a).decided ((t a).first me) ≡ None) (object : Object E) (worlds : List (List ℕ × Running E M)) (kept : IsSoundHeld t fits winner object worlds) where
     -- the running term of a group is known where its world is quiet
     term_known : (name : List ℕ) (group : GroupView E) (term : TermView) (of : IsWorldOf t name group term worlds) → last_term group ≡ Some term → IsQuiet t of.world → IsKnown term
     term_known name group term of last quiet =

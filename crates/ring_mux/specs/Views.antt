@@ -35,7 +35,7 @@ pub record AreSound {E S M : Type 0} (t : E → Table S M) (fits : E → List �
   pub each : (name : List ℕ) (world : Running E M) → world_in name worlds ≡ Some world → IsSoundWorld t fits winner world
 
 -- what the type of a mux keeps
-pub record IsKept {E S M : Type 0} (t : E → Table S M) (fits : E → List ℕ → ℕ → Side → ℕ → M → Type 0) (winner : E → List ℕ → ℕ) (object : Object E) (worlds : List (List ℕ × Running E M)) : Type 0 where
+pub record IsSoundHeld {E S M : Type 0} (t : E → Table S M) (fits : E → List ℕ → ℕ → Side → ℕ → M → Type 0) (winner : E → List ℕ → ℕ) (object : Object E) (worlds : List (List ℕ × Running E M)) : Type 0 where
   pub held : IsHeld t object worlds
   pub sound : AreSound t fits winner worlds
 

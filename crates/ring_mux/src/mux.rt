@@ -7,7 +7,7 @@ ghost use Rattle.ring_mux.specs.Journeys.{Carries, Makes};
 ghost use Rattle.ring_mux.specs.Quiet.{QuietIsKnown};
 ghost use Rattle.ring_mux.specs.Replies.{done_reply, told_reply};
 ghost use Rattle.ring_mux.specs.Steps.{KnownIfNone, Run, Step, StepOf, standing_reply};
-ghost use Rattle.ring_mux.specs.Views.{IsKept, IsPendingIn, IsSeat, world_in};
+ghost use Rattle.ring_mux.specs.Views.{IsSoundHeld, IsPendingIn, IsSeat, world_in};
 ghost use Rattle.ring_mux.specs.WorldSteps.{CommandOfWorlds, LeavesNothing, RunOfWorlds, StartOfWorlds, StepOfWorlds};
 
 use crate::carried::Carried;
@@ -31,13 +31,13 @@ pub struct Mux<E: RingElection> {
 }
 
 impl<E: RingElection> Model for Mux<E> {
-    ghost use Rattle.ring_mux.specs.Views.{Held, IsKept};
+    ghost use Rattle.ring_mux.specs.Views.{Held, IsSoundHeld};
 
     ghost Value = { Held E E.Msg };
 
     ghost view = { λ a. record { object = a.book; worlds = a.worlds.entries } };
 
-    ghost invariant = { λ a. IsKept E.table E.fits E.winner a.book a.worlds.entries };
+    ghost invariant = { λ a. IsSoundHeld E.table E.fits E.winner a.book a.worlds.entries };
 }
 
 impl<E: RingElection> Mux<E> {
@@ -208,7 +208,7 @@ impl<E: RingElection> Mux<E> {
     /// Where a member of a group's running term stands on its ring.
     fn seat(&self, group: GroupName, node: NodeId) -> Result<usize, Refusal>
         ensures seat { Shows (in_group group (who_refusal node) self.now.object) false result (λ i. OfGroup group (OfLast (λ term. position_of node term.ring ≡ Some i)) self.now.object) }
-        ensures kept { IsKept E.table E.fits E.winner self.now.object self.now.worlds }
+        ensures kept { IsSoundHeld E.table E.fits E.winner self.now.object self.now.worlds }
     {
         let charter = self.book.running(group)?;
         match charter.roster().position(node) {
@@ -220,7 +220,7 @@ impl<E: RingElection> Mux<E> {
     /// How many packets are in flight in a group's world.
     fn waiting(&self, group: GroupName) -> u128
         ensures counted { (w : _) → world_in group self.now.worlds ≡ Some w → result ≡ pending_of E.table w }
-        ensures kept { IsKept E.table E.fits E.winner self.now.object self.now.worlds }
+        ensures kept { IsSoundHeld E.table E.fits E.winner self.now.object self.now.worlds }
     {
         match self.worlds.get(&group) {
             Some(world) => world.pending(),
@@ -231,7 +231,7 @@ impl<E: RingElection> Mux<E> {
     /// The first ready link of a group's world.
     fn ready(&self, group: GroupName) -> Option<(usize, Side)>
         ensures first { (w : _) → world_in group self.now.worlds ≡ Some w → IsReady E.table w result × IsRing w.charter.roster }
-        ensures kept { IsKept E.table E.fits E.winner self.now.object self.now.worlds }
+        ensures kept { IsSoundHeld E.table E.fits E.winner self.now.object self.now.worlds }
     {
         let world = self.worlds.get(&group)?;
         world.ready()
