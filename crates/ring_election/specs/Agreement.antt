@@ -1,4 +1,5 @@
--- One leader at most (Lynch, Distributed Algorithms, 3.2).
+-- One leader at most (Lynch, Distributed Algorithms, 3.1: exactly one process outputs that it is the
+-- leader).
 use Rattle.std.specs.Prelude.{◌≡◌, ℕ, List}
 use Rattle.ring_id.specs.declared.side.Side.{Side}
 use Rattle.ring_roster.specs.Ring.{IsRing}

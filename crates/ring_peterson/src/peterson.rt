@@ -93,7 +93,8 @@ impl RingElection for Peterson {
         false
     }
 
-    /// Never: the winner may be any member.
+    /// Never: in a ring of two or more the greatest identity becomes a relay in the first round, and
+    /// another wins.
     fn greatest(&self) -> bool
         ensures { result ≡ false }
     {
@@ -119,8 +120,9 @@ impl RingElection for Peterson {
         (state, sends)
     }
 
-    /// What comes from the left is answered to the right; from the right nothing is taken. Takes
-    /// no memory.
+    /// From the left, an active node keeps the first of two messages and passes it on; at the second
+    /// it takes the first over and sends it, or becomes a relay and sends nothing. A relay passes
+    /// each message on. From the right nothing happens. Takes no memory.
     fn receive(
         &self,
         state: &mut PetersonState,
@@ -164,12 +166,15 @@ mod tests {
     use std::collections::VecDeque;
     use std::test::Fail;
 
-    /// A node of a ring, with what it has sent to the right and nobody has taken.
+    /// A node of a ring, with what it has sent to the right and nobody has taken, all that it ever
+    /// sent, and the values that it held in the rounds in which it was active.
     #[derive(Drop)]
     struct Member {
         me: NodeId,
         state: PetersonState,
         link: VecDeque<NodeId>,
+        sent: Vec<u32>,
+        held: Vec<u32>,
     }
 
     /// The members of a ring after they have started.
@@ -178,9 +183,20 @@ mod tests {
         for number in numbers {
             let me = NodeId::new(*number).ok_or("no identity is 0")?;
             let (state, sends) = Peterson.start(alloc, me);
+            let first = sends.right.ok_or("nothing was sent")?;
             let mut link = VecDeque::new(alloc);
-            link.push_back(sends.right.ok_or("nothing was sent")?)?;
-            ring.push(Member { me, state, link })?;
+            link.push_back(first)?;
+            let mut sent = Vec::new(alloc);
+            sent.push(first.get())?;
+            let mut held = Vec::new(alloc);
+            held.push(me.get())?;
+            ring.push(Member {
+                me,
+                state,
+                link,
+                sent,
+                held,
+            })?;
         }
         Ok(ring)
     }
@@ -197,9 +213,14 @@ mod tests {
             return Ok(false);
         };
         let member = ring.get_mut(position).ok_or("no such position")?;
+        let third = member.state.uid2.is_some();
         let sends = Peterson.receive(&mut member.state, Side::Left, message)?;
         if let Some(answer) = sends.right {
             member.link.push_back(answer)?;
+            member.sent.push(answer.get())?;
+        }
+        if third && member.state.mode == Mode::Active {
+            member.held.push(member.state.uid1.get())?;
         }
         Ok(true)
     }
@@ -242,6 +263,30 @@ mod tests {
                 };
                 assert_eq!(rt; Peterson.decision(&member.state), chosen);
             }
+        }
+        Ok(())
+    }
+
+    #[test]
+    fn holds_and_sends_the_values_of_the_rounds(rt: HostRuntime) -> Result<(), Fail> {
+        let positions: [(&[u32], usize, &[u32], &[u32]); 10] = [
+            (&[3, 1, 2], 0, &[3], &[3, 2, 3, 3]),
+            (&[3, 1, 2], 1, &[1, 3], &[1, 3, 3, 3]),
+            (&[3, 1, 2], 2, &[2], &[2, 1, 3, 3]),
+            (&[4, 1, 3, 2], 0, &[4], &[4, 2, 3, 4, 4, 4]),
+            (&[4, 1, 3, 2], 1, &[1, 4], &[1, 4, 4, 3, 4, 4]),
+            (&[4, 1, 3, 2], 2, &[3], &[3, 1, 4, 3, 4, 4]),
+            (&[4, 1, 3, 2], 3, &[2, 3, 4], &[2, 3, 3, 4, 4, 4]),
+            (&[5, 9], 0, &[5, 9], &[5, 9, 9, 9]),
+            (&[5, 9], 1, &[9], &[9, 5, 9, 9]),
+            (&[7], 0, &[7], &[7, 7]),
+        ];
+        for (numbers, position, held, sent) in positions {
+            let mut ring = started(rt.alloc(), numbers)?;
+            settled(&mut ring)?;
+            let member = ring.get(position).ok_or("no such position")?;
+            assert_eq!(rt; member.held.as_slice(), held, "{numbers:?} {position}");
+            assert_eq!(rt; member.sent.as_slice(), sent, "{numbers:?} {position}");
         }
         Ok(())
     }

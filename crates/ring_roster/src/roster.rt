@@ -123,3 +123,61 @@ fn is_among(node: NodeId, members: &[NodeId]) -> bool
 {
     members.iter().any(|member| member.get() == node.get())
 }
+
+#[cfg(test)]
+mod tests {
+    use super::*;
+    use std::test::Fail;
+
+    /// The identities with these numbers.
+    fn identities(alloc: Global, numbers: &[u32]) -> Result<Vec<NodeId>, Fail> {
+        let mut members = Vec::new(alloc);
+        for number in numbers {
+            members.push(NodeId::new(*number).ok_or("no identity is 0")?)?;
+        }
+        Ok(members)
+    }
+
+    /// The ring of these numbers.
+    fn ring_of(alloc: Global, numbers: &[u32]) -> Result<Roster, Fail> {
+        let members = identities(alloc, numbers)?;
+        Roster::from_members(alloc, &members).map_err(|_| Fail::from("no ring"))
+    }
+
+    #[test]
+    fn refuses_the_first_that_holds(rt: HostRuntime) -> Result<(), Fail> {
+        let alloc = rt.alloc();
+        let many: Vec<u32> = (1..258).collect(alloc)?;
+        let mut repeating: Vec<u32> = (1..257).collect(alloc)?;
+        assert_eq!(rt; ring_of(alloc, &repeating)?.len(), Roster::MOST);
+        repeating.push(1)?;
+        let refused: [(&[u32], Refusal); 4] = [
+            (&[], Refusal::Empty),
+            (&[3, 1, 3], Refusal::Member),
+            (&many, Refusal::RingFull),
+            (&repeating, Refusal::RingFull),
+        ];
+        for (numbers, refusal) in refused {
+            let members = identities(alloc, numbers)?;
+            let answer = Roster::from_members(alloc, &members).err();
+            assert_eq!(rt; answer, Some(refusal));
+        }
+        Ok(())
+    }
+
+    #[test]
+    fn shows_its_members_and_neighbours(rt: HostRuntime) -> Result<(), Fail> {
+        let alloc = rt.alloc();
+        let ring = ring_of(alloc, &[3, 1, 2])?;
+        assert!(rt; ring.len() == 3);
+        assert_eq!(rt; ring.at(2), NodeId::new(2));
+        assert_eq!(rt; ring.at(3), None);
+        assert_eq!(rt; NodeId::new(1).and_then(|node| ring.position(node)), Some(1));
+        assert_eq!(rt; NodeId::new(4).and_then(|node| ring.position(node)), None);
+        assert_eq!(rt; ring.neighbour(2, Side::Right), 0);
+        assert_eq!(rt; ring.neighbour(0, Side::Left), 2);
+        assert!(rt; ring.same(&ring_of(alloc, &[3, 1, 2])?));
+        assert!(rt; !ring.same(&ring_of(alloc, &[1, 2, 3])?));
+        Ok(())
+    }
+}
