@@ -37,7 +37,7 @@ same_side-refl : (side : Side) → same_side side side ≡ true
 same_side-refl Left = refl
 same_side-refl Right = refl
 
-same_side-same : (a b : Side) → same_side a b ≡ true → a ≡ b
+pub same_side-same : (a b : Side) → same_side a b ≡ true → a ≡ b
 same_side-same Left Left h = refl
 same_side-same Left Right h = cc
 same_side-same Right Left h = cc
@@ -55,7 +55,7 @@ module _ {E S M : Type 0} (t : E → Table S M) (world : Running E M) (i : ℕ) 
       ap (λ (journal : List (Side × Packet M)). record { charter = world.charter; position = j; journal = journal })
       (get_or-set_other world.journals i j ((receiving (node_at world i) side p).journal) [] differ)
 
-  receiver_sent : (to : Side) → (extra : List (Packet M)) × (sent_of t (node_at (after_receipt world i side p) i) to ≡ sent_of t (node_at world i) to ++ extra)
+  pub receiver_sent : (to : Side) → (extra : List (Packet M)) × (sent_of t (node_at (after_receipt world i side p) i) to ≡ sent_of t (node_at world i) to ++ extra)
   receiver_sent to = (
     _,
     ap (λ (node : Seated E M). sent_of t node to) receiver_after
@@ -71,13 +71,13 @@ module _ {E S M : Type 0} (t : E → Table S M) (world : Running E M) (i : ℕ) 
       ]
 
   -- what was taken by the receiver from a side
-  taken_by : (from : Side) → taken_at t (after_receipt world i side p) i from ≡ taken_at t world i from ++ cond (same_side from side) (p ∷ []) []
+  pub taken_by : (from : Side) → taken_at t (after_receipt world i side p) i from ≡ taken_at t world i from ++ cond (same_side from side) (p ∷ []) []
   taken_by from = ap (λ (node : Seated E M). taken_of node from) receiver_after ∙ taken_from-snoc from side p ((node_at world i).journal)
 
   taken_here : taken_at t (after_receipt world i side p) i side ≡ taken_at t world i side ++ p ∷ []
   taken_here = taken_by side ∙ ap (λ (b : Bool). taken_at t world i side ++ cond b (p ∷ []) []) (same_side-refl side)
 
-  taken_from_other_side : (from : Side) → same_side from side ≡ false → taken_at t (after_receipt world i side p) i from ≡ taken_at t world i from
+  pub taken_from_other_side : (from : Side) → same_side from side ≡ false → taken_at t (after_receipt world i side p) i from ≡ taken_at t world i from
   taken_from_other_side from differ = taken_by from ∙ ap (λ (b : Bool). taken_at t world i from ++ cond b (p ∷ []) []) differ ∙ append-nil _
 
   -- the link of the packet, another link into the same position, and a link into another one

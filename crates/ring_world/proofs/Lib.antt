@@ -1,7 +1,9 @@
 pub mod Announcements
 pub mod Beginnings
+pub mod Bits
 pub mod Deliveries
 pub mod Links
 pub mod Quiet
 pub mod Settlements
+pub mod Tallies
 pub mod Work

@@ -1,4 +1,6 @@
 pub mod Quiet
+pub mod ReadySets
 pub mod Settlements
 pub mod Sorts
+pub mod Tallies
 pub mod Worlds

@@ -5,12 +5,17 @@
 //! front packet of one link. At every moment the journals are a sound family that fits, and whatever a
 //! node knows is the winner.
 //!
+//! Beside its nodes a world keeps how many packets are in flight and, with one bit for each link, where.
+//! A delivery brings both up to date, and looks at the receiver and its neighbours alone.
+//!
 //! Quiet means known: where nothing is in flight every node knows the leader, and `settle` finds the
 //! same of nodes that come back from elsewhere. Work is bounded: a world takes at most as many packets
 //! as the algorithm's bound allows messages, and one announcement for each position.
 #![tactic(auto)]
 
+mod circle;
 mod delivery;
+mod ready_set;
 mod settlement;
 mod sort;
 mod world;

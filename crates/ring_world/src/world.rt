@@ -1,13 +1,14 @@
-ghost use Rattle.std.specs.Prelude.{◌≡◌, ◌<◌, ◌≤◌, ◌↔◌, ◌&&◌, not, [], IfNone, IfOk, IfSome, OnErr, OnOk, length, replicate, slice_get};
-ghost use Rattle.ring_id.specs.declared.side.Side.TheVariants.{Right};
-ghost use Rattle.ring_id.specs.Sides.{other, same_side};
+ghost use Rattle.std.specs.Prelude.{◌≡◌, ◌<◌, ◌≤◌, ◌↔◌, [], IfNone, IfOk, OnErr, OnOk, length, replicate, slice_get};
+ghost use Rattle.ring_id.specs.Sides.{other};
 ghost use Rattle.ring_roster.specs.Ring.{neighbour};
 ghost use Rattle.ring_node.specs.Envelopes.{IsProper};
 ghost use Rattle.ring_node.specs.Nodes.{next_index, told_of};
 ghost use Rattle.ring_world.specs.Quiet.{AllKnow, IsQuiet};
 ghost use Rattle.ring_world.specs.Worlds.{Delivers, IsReady, IsSoundWorld, after_receipt, delivered_of, in_flight, most_deliveries, node_at, nodes_of, pending_of};
 
+use crate::circle::Circle;
 use crate::delivery::Delivery;
+use crate::ready_set::{ReadySet, link_at};
 use ring_election::RingElection;
 use ring_id::{NoMemory, Refusal, Side};
 use ring_node::{Charter, Node, Packet, Report};
@@ -15,21 +16,23 @@ use std::alloc::Global;
 use std::marker::Model;
 use std::sync::Arc;
 
-/// All nodes of one term.
+/// All nodes of one term, with how many packets are in flight and on which links.
 #[derive(Drop)]
 pub struct World<E: RingElection> {
-    charter: Arc<Charter<E>>,
-    nodes: Vec<Node<E>>,
+    circle: Circle<E>,
+    pending: u128,
+    ready: ReadySet,
 }
 
 impl<E: RingElection> Model for World<E> {
-    ghost use Rattle.ring_world.specs.Worlds.{IsWorld, Running, journals_of};
+    ghost use Rattle.ring_world.specs.Tallies.{IsTallied};
+    ghost use Rattle.ring_world.specs.Worlds.{Running};
 
     ghost Value = { Running E E.Msg };
 
-    ghost view = { λ a. record { charter = a.charter.value; journals = journals_of a.nodes.items } };
+    ghost view = { λ a. a.circle };
 
-    ghost invariant = { λ a. IsWorld E.table E.fits E.winner a.charter.value a.nodes.items };
+    ghost invariant = { λ a. IsTallied E.table a.circle E.fits E.winner a.pending a.ready.words };
 }
 
 impl<E: RingElection> World<E> {
@@ -38,17 +41,21 @@ impl<E: RingElection> World<E> {
         ensures started { IfOk result (λ world. world ≡ record { charter = charter.value; journals = replicate (length charter.value.roster) [] }) }
         ensures sound { IfOk result (λ world. IsSoundWorld E.table E.fits E.winner world) }
     {
-        let size = charter.roster().len();
-        let Ok(mut nodes) = Vec::with_capacity(alloc, size) else {
-            return Err(NoMemory);
-        };
-        for position in 0..size {
-            let Ok(copy) = Arc::try_clone(&charter) else {
-                return Err(NoMemory);
-            };
-            nodes.push_reserved(Node::seat(alloc, copy, position)?);
+        let circle = Circle::begin(alloc, charter)?;
+        let mut ready = ReadySet::empty();
+        let mut pending = 0;
+        for position in 0..circle.size() {
+            circle.mark(&mut ready, position, Side::Left);
+            circle.mark(&mut ready, position, Side::Right);
+            let left = circle.waiting(position, Side::Left);
+            let right = circle.waiting(position, Side::Right);
+            pending += left as u128 + right as u128;
         }
-        Ok(World { charter, nodes })
+        Ok(World {
+            circle,
+            pending,
+            ready,
+        })
     }
 
     /// The charter of this term. Takes no memory, like the other readers.
@@ -56,14 +63,14 @@ impl<E: RingElection> World<E> {
         ensures value { result.now.value ≡ self.now.charter }
         ensures sound { IsSoundWorld E.table E.fits E.winner self.now }
     {
-        &self.charter
+        self.circle.charter()
     }
 
     /// The node of each position, in order.
     pub fn nodes(&self) -> &[Node<E>]
         ensures { result.now ≡ nodes_of self.now }
     {
-        &self.nodes
+        self.circle.nodes()
     }
 
     /// Delivers the front packet of the link into a position from a side. Refused `OneWay` where the
@@ -77,10 +84,10 @@ impl<E: RingElection> World<E> {
         ensures sound { IsSoundWorld E.table E.fits E.winner self.new }
         ensures bounded { delivered_of self.new ≤ most_deliveries E.bound self.new }
     {
-        if self.is_closed(side) {
+        if self.circle.is_closed(side) {
             return Delivery::Refused(Refusal::OneWay);
         }
-        let Some(packet) = self.front(position, side) else {
+        let Some(packet) = self.circle.front(position, side) else {
             return Delivery::Idle;
         };
         match self.hand_over(position, side, packet) {
@@ -96,13 +103,7 @@ impl<E: RingElection> World<E> {
         ensures idle { (result ≡ 0) ↔ IsQuiet E.table self.now }
         ensures quiet { result ≡ 0 → AllKnow E.table E.winner self.now }
     {
-        let mut pending = 0;
-        for position in 0..self.size() {
-            let left = self.waiting(position, Side::Left);
-            let right = self.waiting(position, Side::Right);
-            pending += left as u128 + right as u128;
-        }
-        pending
+        self.pending
     }
 
     /// How many packets were taken in all: at most the algorithm's bound and the length of the ring.
@@ -111,8 +112,8 @@ impl<E: RingElection> World<E> {
         ensures bounded { result ≤ most_deliveries E.bound self.now }
     {
         let mut delivered = 0;
-        for position in 0..self.size() {
-            let node = self.node(position);
+        for position in 0..self.circle.size() {
+            let node = self.circle.node(position);
             delivered += node.taken(Side::Left) as u128 + node.taken(Side::Right) as u128;
         }
         delivered
@@ -125,30 +126,15 @@ impl<E: RingElection> World<E> {
         ensures sound { IsSoundWorld E.table E.fits E.winner self.now }
         ensures quiet { IfNone result (AllKnow E.table E.winner self.now) }
     {
-        for position in 0..self.size() {
-            if self.waiting(position, Side::Left) > 0 {
-                return Some((position, Side::Left));
-            }
-            if self.waiting(position, Side::Right) > 0 {
-                return Some((position, Side::Right));
-            }
-        }
-        None
+        let Some(place) = self.ready.first() else {
+            return None;
+        };
+        Some(link_at(place))
     }
 
-    /// Whether nothing is ever sent on the links that arrive from this side.
-    fn is_closed(&self, side: Side) -> bool
-        ensures value { result ≡ (same_side side Right && not (E.is_two_way self.now.charter.algorithm)) }
-        ensures sound { IsSoundWorld E.table E.fits E.winner self.now }
-    {
-        let one_way = !self.charter().algorithm().two_way();
-        match side {
-            Side::Left => false,
-            Side::Right => one_way,
-        }
-    }
-
-    /// Gives the first packet in flight on a link to its receiver.
+    /// Gives the first packet in flight on a link to its receiver, and counts and marks what is in
+    /// flight then: the packet's link has one packet less, and on the links from the receiver stands
+    /// what it has sent because of it.
     fn hand_over(
         &mut self,
         position: usize,
@@ -163,50 +149,14 @@ impl<E: RingElection> World<E> {
         ensures err { OnErr result (self.new ≡ self.old) }
         ensures sound { IsSoundWorld E.table E.fits E.winner self.new }
     {
-        let Ok(copy) = Arc::try_clone(&self.charter) else {
-            return Err(NoMemory);
-        };
-        let node = &mut self.nodes[position];
-        let Some(_) = node.accept(side, packet)? else {
-            return Ok(None);
-        };
-        Ok(node.report(copy))
-    }
-
-    /// The first packet in flight on a link, which is proper there.
-    fn front(&self, position: usize, side: Side) -> Option<Packet<E::Msg>>
-        requires { position < length self.now.charter.roster }
-        ensures value { result ≡ slice_get (in_flight E.table self.now position side) 0 }
-        ensures proper { IfSome result (λ packet. IsProper (E.fits self.now.charter.algorithm) (E.winner self.now.charter.algorithm) self.now.charter.roster (neighbour (length self.now.charter.roster) position side) (other side) (next_index (node_at self.now position) side packet) packet) }
-    {
-        let sender = self.node(self.charter.roster().neighbour(position, side));
-        sender.packet(side.other(), self.node(position).taken(side))
-    }
-
-    /// How many packets are in flight on a link.
-    fn waiting(&self, position: usize, side: Side) -> usize
-        requires { position < length self.now.charter.roster }
-        ensures { result ≡ length (in_flight E.table self.now position side) }
-    {
-        let sender = self.node(self.charter.roster().neighbour(position, side));
-        sender.sent(side.other()) - self.node(position).taken(side)
-    }
-
-    /// The node at a position.
-    fn node(&self, position: usize) -> &Node<E>
-        requires { position < length self.now.charter.roster }
-        ensures node { result.now ≡ node_at self.now position }
-        ensures sound { IsSoundWorld E.table E.fits E.winner self.now }
-    {
-        &self.nodes[position]
-    }
-
-    /// The length of the ring.
-    fn size(&self) -> usize
-        ensures value { result ≡ length self.now.charter.roster }
-        ensures few { result ≤ 256 }
-        ensures sound { IsSoundWorld E.table E.fits E.winner self.now }
-    {
-        self.charter.roster().len()
+        let before = self.circle.sent_by(position);
+        let report = self.circle.hand_over(position, side, packet)?;
+        self.pending = self.pending + self.circle.sent_by(position) - before - 1;
+        let left = self.circle.neighbour(position, Side::Left);
+        let right = self.circle.neighbour(position, Side::Right);
+        self.circle.mark(&mut self.ready, position, side);
+        self.circle.mark(&mut self.ready, left, Side::Right);
+        self.circle.mark(&mut self.ready, right, Side::Left);
+        Ok(report)
     }
 }

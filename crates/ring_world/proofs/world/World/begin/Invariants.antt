@@ -1,13 +1,16 @@
-use Rattle.std.proofs.Common.{◌≡◌, ◌≤◌, ◌<◌, ℕ, [], replicate, vec_len, vec_capacity}
-use Rattle.ring_node.specs.Nodes.{IsFaithful}
-use Rattle.ring_world.specs.Worlds.{nodes_from}
+use Rattle.std.proofs.Common.{◌≡◌, ◌≤◌, ◌<◌, ◌*◌, ℕ}
+use Rattle.ring_id.specs.declared.side.Side.{Side}
+use Rattle.ring_world.specs.ReadySets.{bit_of}
+use Rattle.ring_world.specs.Tallies.{IsMarked}
+use Rattle.ring_world.specs.Worlds.{pending_below, size_of}
 use Rattle.ring_world.proofs.world.World.begin.Given as goal
 
--- the nodes of the positions that were passed have started, and there is room for the others
+-- the links into the positions that were passed are marked, and what is in flight there is counted;
+-- each link adds less than 2 ^ 64
 abbrev pub invariant-loop-position : goal.invariant-loop-position
 invariant-loop-position g l = record {
-  nodes : l.nodes.items ≡ nodes_from l.charter.value 0 (replicate l.position []);
-  count : vec_len l.nodes ≡ l.position;
-  room : l.size ≤ vec_capacity l.nodes;
-  faithful : (i : ℕ) → i < l.position → IsFaithful g.E.RingElection.table g.E.RingElection.fits g.E.RingElection.winner (record { charter = l.charter.value; position = i; journal = [] });
+  marked : (i : ℕ) (side : Side) → i < l.position → IsMarked g.E.RingElection.table l.circle l.ready.words i side;
+  beyond : (place : ℕ) → 2 * size_of l.circle ≤ place → bit_of l.ready.words place ≡ 0;
+  counted : l.pending ≡ pending_below g.E.RingElection.table l.circle l.position;
+  few : l.pending ≤ 36893488147419103232 * l.position;
 }

@@ -8,9 +8,11 @@ use Rattle.ring_world.proofs.world.World.delivered.Goals as goal
 
 pub loop-position-preserved : goal.loop-position-preserved
 loop-position-preserved g c =
-    let left = rw c.node-node.ensures.node at c.taken.ensures in
-    let right = rw c.node-node.ensures.node at c.taken-in-loop-position.ensures in
-    let more = receipts_in-take c.args.self.now.journals c.loop-position.position (omega (arith, c.node-node.ensures.sound.count, c.size-position-end.ensures.value)) in
+    let size = rw c.self.view_is at c.size-position-end.ensures in
+    let node = rw c.self.view_is at c.node-node.ensures.node in
+    let left = rw node at c.taken.ensures in
+    let right = rw node at c.taken-in-loop-position.ensures in
+    let more = receipts_in-take c.args.self.now.journals c.loop-position.position (omega (arith, size.sound.count, size.value)) in
     record {
       counted = omega (arith, left, right, more, length-both_sides ((node_at c.args.self.now c.loop-position.position).journal));
       few = omega (arith, c.taken.type_inv, c.taken-in-loop-position.type_inv);
@@ -18,13 +20,15 @@ loop-position-preserved g c =
 
 pub returns-clause-value : goal.returns-clause-value
 returns-clause-value g c =
+    let size = rw c.self.view_is at c.size-position-end.ensures in
     let journals = c.args.self.now.journals in
-    let all : take c.loop-position.position journals ≡ journals = take_all c.loop-position.position journals (omega (arith, c.size-position-end.ensures.sound.count, c.size-position-end.ensures.value)) in
+    let all : take c.loop-position.position journals ≡ journals = take_all c.loop-position.position journals (omega (arith, size.sound.count, size.value)) in
     c.loop-position.invariant.counted ∙ ap receipts_in all
 
 pub returns-clause-bounded : goal.returns-clause-bounded
 returns-clause-bounded g c =
+    let size = rw c.self.view_is at c.size-position-end.ensures in
     let world = c.args.self.now in
     rw (returns-clause-value g c)
-    (work_bounded g.E.RingElection.table g.E.RingElection.fits g.E.RingElection.winner world c.size-position-end.ensures.sound g.E.RingElection.bound
+    (work_bounded g.E.RingElection.table g.E.RingElection.fits g.E.RingElection.winner world size.sound g.E.RingElection.bound
     (g.met.E.RingElection.bounded world.charter.algorithm))

@@ -1,72 +1,32 @@
--- The receiver is the node at that place, and the world after its receipt is sound.
-use Rattle.std.proofs.Common.{◌<◌, length, sym, ◌∙◌, arith}
-use Rattle.ring_world.proofs.Deliveries.{node_there, place_within, report_after, silent_after, view_after, world_after}
+-- What is kept beside the nodes is brought up to what is in flight after the receipt.
+use Rattle.std.proofs.Common.{arith}
+use Rattle.ring_world.proofs.Tallies.{count_after, count_few, tally_after}
 use Rattle.ring_world.proofs.world.World.hand_over.Goals as goal
 
-pub index_mut-node-requires : goal.index_mut-node-requires
-index_mut-node-requires g c =
-    let nodes = c.self.inside.nodes in
-    let below : c.args.position < length nodes.items = place_within _ _ _ _ _ c.self.invariant c.args.position (rw (← c.self.view_is) at c.requires.inside) in
-    omega (arith, below, nodes.ok.0)
-
-pub accept-requires : goal.accept-requires
-accept-requires g c =
+pub overflow_add-self : goal.overflow_add-self
+overflow_add-self g c =
     let inside = rw (← c.self.view_is) at c.requires.inside in
-    rw (node_there _ _ _ _ _ c.self.invariant c.args.position inside _ c.index_mut-node.ensures.value) (rw (← c.self.view_is) at c.requires.proper)
+    let front = rw (← c.self.view_is) at c.requires.front in
+    let few = count_few _ _ _ _ _ _ c.self.invariant c.args.position inside c.args.side c.args.packet front _ c.in_ok-report.ensures.journals _ _ c.sent_by-before.ensures.value c.sent_by.ensures.value in
+    omega (arith, few, c.sent_by.ensures.few)
 
-pub report-requires : goal.report-requires
-report-requires g c =
+pub overflow_sub-self : goal.overflow_sub-self
+overflow_sub-self g c =
     let inside = rw (← c.self.view_is) at c.requires.inside in
-    let node = node_there _ _ _ _ _ c.self.invariant c.args.position inside _ c.index_mut-node.ensures.value in
-    rw (c.in_ok-accept.ensures.journal, node) c.in-Ok.ensures
+    let front = rw (← c.self.view_is) at c.requires.front in
+    let whole = count_after _ _ _ _ _ _ c.self.invariant c.args.position inside c.args.side c.args.packet front _ c.in_ok-report.ensures.journals _ _ c.sent_by-before.ensures.value c.sent_by.ensures.value in
+    omega (arith, whole)
 
-pub invariant_of-self-in_default-2 : goal.invariant_of-self-in_default-2
-invariant_of-self-in_default-2 g c =
+pub overflow_sub-self-2 : goal.overflow_sub-self-2
+overflow_sub-self-2 g c =
     let inside = rw (← c.self.view_is) at c.requires.inside in
-    let node = node_there _ _ _ _ _ c.self.invariant c.args.position inside _ c.index_mut-node.ensures.value in
-    world_after _ _ _ _ _ c.self.invariant c.args.position (place_within _ _ _ _ _ c.self.invariant c.args.position inside) c.args.side c.args.packet (rw (← c.self.view_is) at c.requires.front) _
-    (rw node at c.in_ok-accept.ensures.journal) c.in_ok-accept.ensures.faithful
+    let front = rw (← c.self.view_is) at c.requires.front in
+    let whole = count_after _ _ _ _ _ _ c.self.invariant c.args.position inside c.args.side c.args.packet front _ c.in_ok-report.ensures.journals _ _ c.sent_by-before.ensures.value c.sent_by.ensures.value in
+    omega (arith, whole)
 
 pub invariant_of-self-2 : goal.invariant_of-self-2
 invariant_of-self-2 g c =
     let inside = rw (← c.self.view_is) at c.requires.inside in
-    let node = node_there _ _ _ _ _ c.self.invariant c.args.position inside _ c.index_mut-node.ensures.value in
-    world_after _ _ _ _ _ c.self.invariant c.args.position (place_within _ _ _ _ _ c.self.invariant c.args.position inside) c.args.side c.args.packet (rw (← c.self.view_is) at c.requires.front) _
-    (rw node at c.in_ok-accept.ensures.journal) c.in_ok-accept.ensures.faithful
-
-pub returns-in_default-2-clause-journals : goal.returns-in_default-2-clause-journals
-returns-in_default-2-clause-journals g c =
-    let inside = rw (← c.self.view_is) at c.requires.inside in
-    let node = node_there _ _ _ _ _ c.self.invariant c.args.position inside _ c.index_mut-node.ensures.value in
-    rw (← c.self.view_is) (view_after _ _ _ _ _ c.self.invariant c.args.position inside c.args.side c.args.packet _ (rw node at c.in_ok-accept.ensures.journal))
-
-pub returns-clause-journals : goal.returns-clause-journals
-returns-clause-journals g c =
-    let inside = rw (← c.self.view_is) at c.requires.inside in
-    let node = node_there _ _ _ _ _ c.self.invariant c.args.position inside _ c.index_mut-node.ensures.value in
-    rw (← c.self.view_is) (view_after _ _ _ _ _ c.self.invariant c.args.position inside c.args.side c.args.packet _ (rw node at c.in_ok-accept.ensures.journal))
-
-pub returns-in_default-2-clause-report : goal.returns-in_default-2-clause-report
-returns-in_default-2-clause-report g c =
-    let inside = rw (← c.self.view_is) at c.requires.inside in
-    let node = node_there _ _ _ _ _ c.self.invariant c.args.position inside _ c.index_mut-node.ensures.value in
-    let gained = rw node at c.in_ok-accept.ensures.journal in
-    let news = rw (node, gained) at c.in_ok-accept.ensures.news in
-    rw (← c.self.view_is)
-    (silent_after _ _ _ _ _ c.self.invariant c.args.position inside c.args.side c.args.packet _ gained (sym news ∙ c.in_default-2.is))
-
-pub returns-clause-report : goal.returns-clause-report
-returns-clause-report g c =
-    let inside = rw (← c.self.view_is) at c.requires.inside in
-    let node = node_there _ _ _ _ _ c.self.invariant c.args.position inside _ c.index_mut-node.ensures.value in
-    let gained = rw node at c.in_ok-accept.ensures.journal in
-    let news = rw (node, gained) at c.in_ok-accept.ensures.news in
-    let report = rw gained at c.report.ensures in
-    rw (← c.self.view_is)
-    (report ∙ report_after _ _ _ _ _ c.self.invariant c.args.position inside c.args.side c.args.packet _ gained _ (sym news ∙ c.in-Some.is))
-
-pub returns-in_default-2-clause-sound : goal.returns-in_default-2-clause-sound
-returns-in_default-2-clause-sound g c = (invariant_of-self-in_default-2 g c).sound
-
-pub returns-clause-sound : goal.returns-clause-sound
-returns-clause-sound g c = (invariant_of-self-2 g c).sound
+    let front = rw (← c.self.view_is) at c.requires.front in
+    tally_after _ _ _ _ _ _ c.self.invariant c.args.position inside c.args.side c.args.packet front _ c.in_ok-report.ensures.journals _ _ c.sent_by-before.ensures.value c.sent_by.ensures.value
+    c.in_ok-report.ensures.sound _ _ c.neighbour-left.ensures.value c.neighbour-right.ensures.value _ _ _ c.mark.ensures c.mark-2.ensures c.mark-3.ensures

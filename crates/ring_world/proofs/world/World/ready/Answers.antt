@@ -1,22 +1,29 @@
--- Nothing is in flight into one position more; where that is so of every position, every node knows.
-use Rattle.std.proofs.Common.{◌≡◌, ◌≤◌, [], arith}
-use Rattle.ring_world.specs.Worlds.{in_flight, size_of}
-use Rattle.ring_world.proofs.Links.{each_side_below, no_length}
+-- The first bit is the first link's; where there is none the world is quiet, and so every node knows.
+use Rattle.std.proofs.Common.{ℕ, Some, sym, subst}
+use Rattle.ring_world.specs.ReadySets.{IsFirst}
 use Rattle.ring_world.proofs.Quiet.{quiet_knows}
+use Rattle.ring_world.proofs.Tallies.{first_link, no_link}
 use Rattle.ring_world.proofs.world.World.ready.Goals as goal
 
-pub loop-position-preserved : goal.loop-position-preserved
-loop-position-preserved g c =
-    each_side_below (λ i side. in_flight g.E.RingElection.table c.args.self.now i side ≡ []) c.loop-position.position c.loop-position.invariant
-    (no_length _ (omega (arith, c.waiting.ensures, c.waiting-in-loop-position.ensures)))
-    (no_length _ (omega (arith, c.waiting.ensures, c.waiting-in-loop-position.ensures)))
+pub returns : goal.returns
+returns g c =
+    let kept = rw c.self.view_is at c.self.invariant in
+    let words = c.self.inside.ready.words in
+    let first = subst (λ (place : ℕ). IsFirst words (Some place)) (sym c.link_at.ensures) c.in-Some.ensures in
+    record { first = first_link g.E.RingElection.table c.args.self.now words kept.marked c.link_at.result.0 c.link_at.result.1 first; sound = kept.sound; quiet = tt }
 
-pub returns-clause-quiet : goal.returns-clause-quiet
-returns-clause-quiet g c =
+pub returns-in_default : goal.returns-in_default
+returns-in_default g c =
+    let kept = rw c.self.view_is at c.self.invariant in
     let world = c.args.self.now in
-    let all : size_of world ≤ c.loop-position.position = omega (arith, c.size-position-end.ensures.value) in
-    quiet_knows g.E.RingElection.table g.E.RingElection.fits g.E.RingElection.winner world
-    (g.met.E.RingElection.deciding world.charter.algorithm)
-    (g.met.E.RingElection.lawful world.charter.algorithm).start_undecided
-    c.size-position-end.ensures.sound
-    (record { idle = λ i side below. c.loop-position.invariant i side (omega arith) })
+    let idle = no_link g.E.RingElection.table world c.self.inside.ready.words kept.marked c.in_default.ensures in
+    record {
+      first = idle;
+      sound = kept.sound;
+      quiet =
+          quiet_knows g.E.RingElection.table g.E.RingElection.fits g.E.RingElection.winner world
+          (g.met.E.RingElection.deciding world.charter.algorithm)
+          (g.met.E.RingElection.lawful world.charter.algorithm).start_undecided
+          kept.sound
+          (record { idle = idle });
+    }

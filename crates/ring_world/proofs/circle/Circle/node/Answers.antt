@@ -1,7 +1,7 @@
 -- The nodes stand in the order of their positions.
 use Rattle.std.proofs.Common.{◌<◌, length, ◌∙◌, arith}
 use Rattle.ring_world.proofs.Links.{length-journals_of, node_of_world}
-use Rattle.ring_world.proofs.world.World.node.Goals as goal
+use Rattle.ring_world.proofs.circle.Circle.node.Goals as goal
 
 pub index-requires : goal.index-requires
 index-requires g c =

@@ -1,0 +1,299 @@
+-- What is in flight after a receipt: on the packet's link one packet less, on the links from the
+-- receiver what it has sent because of it, and on every other link what was there.
+use Rattle.std.proofs.Common.{◌≡◌, ◌≢◌, ◌+◌, ◌-◌, ◌*◌, ◌<◌, ◌≤◌, ◌==◌, ℕ, zero, suc, Bool, true, false, cond, nat_lt, List, [], ◌∷◌, ◌++◌, length, drop, Some, None, slice_get, refl, sym, ap, ap₂, ◌∙◌, arith, inl, inr}
+use Rattle.std.proofs.lemmas.Bool.{cases_lt}
+use Rattle.std.proofs.lemmas.Bool.Decides.{nat_tests}
+use Rattle.std.proofs.lemmas.List.{length-append}
+use Rattle.ring_id.specs.declared.side.Side.{Side}
+use Rattle.ring_id.specs.declared.side.Side.TheVariants.{Left, Right}
+use Rattle.ring_id.specs.Sides.{other, same_side}
+use Rattle.ring_roster.specs.Ring.{left_of, neighbour, right_of}
+use Rattle.ring_election.specs.Tables.{Table}
+use Rattle.ring_election.proofs.Rings.{neighbour-below, neighbour-neighbour}
+use Rattle.ring_node.specs.declared.packet.Packet.{Packet}
+use Rattle.ring_node.specs.Nodes.{Seated, sent_of, taken_of}
+use Rattle.ring_world.specs.ReadySets.{IsFirst, bit_of, link_place}
+use Rattle.ring_world.specs.Tallies.{HasMarked, IsMarked, IsMarkedAll, IsTallied, some_or_none}
+use Rattle.ring_world.specs.Worlds.{IsBefore, IsReady, IsSoundLinks, IsSoundWorld, Running, after_receipt, in_flight, node_at, pending_below, pending_of, sent_into, size_of, taken_at}
+use Rattle.ring_world.proofs.Deliveries.{links_after, others_after, receiver_sent, same_side-same, taken_by, taken_from_other_side}
+use Rattle.ring_world.proofs.Links.{same_or_not}
+
+-- ---- One position that counts
+
+counts : (j i x : ℕ) → j ≡ i → cond (j == i) x 0 ≡ x
+counts j i x e = grind (arith, nat_tests)
+
+counts_not : (j i x : ℕ) → j ≢ i → cond (j == i) x 0 ≡ 0
+counts_not j i x differ = grind (arith, nat_tests)
+
+-- in a sum over positions
+counts_next : (m a x : ℕ) → cond (nat_lt a (suc m)) x 0 ≡ cond (nat_lt a m) x 0 + cond (m == a) x 0
+counts_next m a x = grind (arith, nat_tests)
+
+counts_below : (n a x : ℕ) → a < n → cond (nat_lt a n) x 0 ≡ x
+counts_below n a x below = grind (arith, nat_tests)
+
+counts_nowhere : (a x : ℕ) → cond (nat_lt a 0) x 0 ≡ 0
+counts_nowhere a x = grind (arith, nat_tests)
+
+from_other : (n i : ℕ) (side : Side) → i < n → neighbour n (neighbour n i (other side)) side ≡ i
+from_other n i Left below = neighbour-neighbour n i Right below
+from_other n i Right below = neighbour-neighbour n i Left below
+
+one_if : {A : Type 0} (p : A) (b : Bool) → length (cond b (p ∷ []) []) ≡ cond b 1 0
+one_if p true = refl
+one_if p false = refl
+
+-- a position is the neighbour of another where the other is its neighbour
+counts_link : (n m i : ℕ) (side : Side) (x : ℕ) → m < n → i < n → cond (neighbour n m side == i) x 0 ≡ cond (m == neighbour n i (other side)) x 0
+counts_link n m i side x here there =
+    elim (same_or_not (neighbour n m side) i) [
+      | inl same ↦
+          let back : m ≡ neighbour n i (other side) = sym (neighbour-neighbour n m side here) ∙ ap (λ k. neighbour n k (other side)) same in
+          counts (neighbour n m side) i x same ∙ sym (counts m (neighbour n i (other side)) x back)
+      | inr differ ↦
+          let apart : m ≢ neighbour n i (other side) = λ e. differ (ap (λ k. neighbour n k side) e ∙ from_other n i side there) in
+          counts_not (neighbour n m side) i x differ ∙ sym (counts_not m (neighbour n i (other side)) x apart)
+    ]
+
+-- a receipt is from one side or the other
+counts_side : (j i : ℕ) (side : Side) → cond (j == i) (cond (same_side Left side) 1 0) 0 + cond (j == i) (cond (same_side Right side) 1 0) 0 ≡ cond (j == i) 1 0
+counts_side j i Left = grind (arith, nat_tests)
+counts_side j i Right = grind (arith, nat_tests)
+
+-- ---- Lengths
+
+-- what is in flight on a link is what was sent there and not taken
+flight_is_rest : {M : Type 0} (taken flight sent : List (Packet M)) → taken ++ flight ≡ sent → length taken + length flight ≡ length sent
+flight_is_rest taken flight sent whole = sym (length-append taken flight) ∙ ap length whole
+
+module _ {E S M : Type 0} (t : E → Table S M) (world : Running E M) (i : ℕ) (within : i < length world.journals) (side : Side) (p : Packet M) where
+  -- how much more the receiver has sent to a side
+  more : Side → ℕ
+  more to = length ((receiver_sent t world i within side p to).0)
+
+  more_sent_by : (to : Side) → length (sent_of t (node_at (after_receipt world i side p) i) to) ≡ length (sent_of t (node_at world i) to) + more to
+  unfolding more
+  more_sent_by to = let grown = receiver_sent t world i within side p to in ap length grown.1 ∙ length-append (sent_of t (node_at world i) to) grown.0
+
+  sent_after : (j : ℕ) (to : Side) → length (sent_of t (node_at (after_receipt world i side p) j) to) ≡ length (sent_of t (node_at world j) to) + cond (j == i) (more to) 0
+  sent_after j to =
+      elim (same_or_not j i) [
+        | inl here ↦ rw (here, counts i i (more to) refl) (more_sent_by to)
+        | inr differ ↦
+            let same = ap (λ (node : Seated E M). length (sent_of t node to)) (others_after t world i within side p j differ) in
+            omega (arith, same, counts_not j i (more to) differ)
+      ]
+
+  taken_after : (j : ℕ) (from : Side) → length (taken_at t (after_receipt world i side p) j from) ≡ length (taken_at t world j from) + cond (j == i) (cond (same_side from side) 1 0) 0
+  taken_after j from =
+      elim (same_or_not j i) [
+        | inl here ↦
+            rw (here, counts i i (cond (same_side from side) 1 0) refl)
+            (ap length (taken_by t world i within side p from) ∙ length-append (taken_at t world i from) (cond (same_side from side) (p ∷ []) []) ∙ ap (λ n. length (taken_at t world i from) + n) (one_if p (same_side from side)))
+        | inr differ ↦
+            let same = ap (λ (node : Seated E M). length (taken_of node from)) (others_after t world i within side p j differ) in
+            omega (arith, same, counts_not j i (cond (same_side from side) 1 0) differ)
+      ]
+
+  module _ (sound : IsSoundLinks t world) (front : slice_get (in_flight t world i side) 0 ≡ Some p) (inside : i < size_of world) where
+    -- what is in flight on a link afterwards
+    flight_after : (j : ℕ) (from : Side) → j < size_of world → length (in_flight t (after_receipt world i side p) j from) + cond (j == i) (cond (same_side from side) 1 0) 0
+        ≡ length (in_flight t world j from) + cond (j == neighbour (size_of world) i (other from)) (more (other from)) 0
+    flight_after j from below =
+        let before = flight_is_rest (taken_at t world j from) (in_flight t world j from) (sent_into t world j from) (sound.taken_first j from below) in
+        let new = after_receipt world i side p in
+        let after = flight_is_rest (taken_at t new j from) (in_flight t new j from) (sent_into t new j from) ((links_after t world i within side p sound front inside).taken_first j from below) in
+        let taken = taken_after j from in
+        let sent = sent_after (neighbour (size_of world) j from) (other from) in
+        let link = counts_link (size_of world) j i from (more (other from)) below inside in
+        omega (arith, before, after, taken, sent, link)
+
+    pending_below_after : (m : ℕ) → m ≤ size_of world → pending_below t (after_receipt world i side p) m + cond (nat_lt i m) 1 0
+        ≡ pending_below t world m + (cond (nat_lt (right_of (size_of world) i) m) (more Right) 0 + cond (nat_lt (left_of (size_of world) i) m) (more Left) 0)
+    pending_below_after zero low =
+        omega (arith, counts_nowhere i 1, counts_nowhere (right_of (size_of world) i) (more Right), counts_nowhere (left_of (size_of world) i) (more Left))
+    pending_below_after (suc m) low =
+        let n : ℕ = size_of world in
+        let rest = pending_below_after m (omega arith) in
+        let left = flight_after m Left (omega arith) in
+        let right = flight_after m Right (omega arith) in
+        omega (arith, rest, left, right, counts_side m i side, counts_next m i 1, counts_next m (right_of n i) (more Right), counts_next m (left_of n i) (more Left))
+
+    -- the number of packets in flight: one less, and what the receiver has sent
+    pub pending_after :
+        (pending_of t (after_receipt world i side p) + 1) + (length (sent_of t (node_at world i) Left) + length (sent_of t (node_at world i) Right))
+        ≡ pending_of t world + (length (sent_of t (node_at (after_receipt world i side p) i) Left) + length (sent_of t (node_at (after_receipt world i side p) i) Right))
+    pending_after =
+        let n : ℕ = size_of world in
+        let all = pending_below_after n (omega arith) in
+        omega
+        (arith, all, counts_below n i 1 inside, counts_below n (right_of n i) (more Right) (neighbour-below n i Right inside), counts_below n (left_of n i) (more Left) (neighbour-below n i Left inside), more_sent_by Left, more_sent_by Right)
+
+  -- ---- The bits of the links
+
+  -- what is in flight on a link that the receipt doesn't touch
+  flight_kept : (j : ℕ) (from : Side) → (j ≡ i → same_side from side ≡ false) → neighbour (size_of world) j from ≢ i → in_flight t (after_receipt world i side p) j from ≡ in_flight t world j from
+  flight_kept j from away apart =
+      ap₂ (λ (taken sent : List (Packet M)). drop (length taken) sent)
+      (elim (same_or_not j i) [
+        | inl here ↦ rw here (taken_from_other_side t world i within side p from (away here))
+        | inr differ ↦ ap (λ (node : Seated E M). taken_of node from) (others_after t world i within side p j differ)
+      ])
+      (ap (λ (node : Seated E M). sent_of t node (other from)) (others_after t world i within side p (neighbour (size_of world) j from) apart))
+
+  module _ (words first second third : List ℕ) (marked : IsMarkedAll t world words) (here : HasMarked t (after_receipt world i side p) words i side first)
+      (left : HasMarked t (after_receipt world i side p) first (left_of (size_of world) i) Right second) (right : HasMarked t (after_receipt world i side p) second (right_of (size_of world) i) Left third)
+      (inside : i < size_of world) where
+    -- a mark stays
+    stays : (j : ℕ) (from : Side) → IsMarked t (after_receipt world i side p) words j from → IsMarked t (after_receipt world i side p) third j from
+    stays j from is = right.kept j from (left.kept j from (here.kept j from is))
+
+    -- the link to a neighbour, from the receiver
+    from_receiver : (j : ℕ) (from : Side) → j ≡ neighbour (size_of world) i (other from) → IsMarked t (after_receipt world i side p) third j from
+    from_receiver j Left is = rw is right.marked
+    from_receiver j Right is = rw is (right.kept (left_of (size_of world) i) Right left.marked)
+
+    -- a link that doesn't come from the receiver
+    from_others : (j : ℕ) (from : Side) → j < size_of world → neighbour (size_of world) j from ≢ i → IsMarked t (after_receipt world i side p) third j from
+    from_others j from below apart =
+        let old = marked.each j from below in
+        let kept : (j ≡ i → same_side from side ≡ false) → IsMarked t (after_receipt world i side p) third j from =
+        λ away. let same = flight_kept j from away apart in stays j from (record { bit = rw same old.bit; few = rw same old.few }) in
+        elim (same_side from side) as (λ b. same_side from side ≡ b → IsMarked t (after_receipt world i side p) third j from) [
+          | false ↦ λ e. kept (λ _. e)
+          | true ↦ λ e.
+              elim (same_or_not j i) [
+                | inl at ↦ rw (at, same_side-same from side e) (right.kept i side (left.kept i side here.marked))
+                | inr differ ↦ kept (λ at. absurd (differ at))
+              ]
+        ] refl
+
+    -- all links are marked once those are that the receipt touches
+    pub marks_after : IsMarkedAll t (after_receipt world i side p) third
+    marks_after = record {
+      each = λ j from below.
+          elim (same_or_not (neighbour (size_of world) j from) i) [
+            | inl at ↦ from_receiver j from (sym (neighbour-neighbour (size_of world) j from below) ∙ ap (λ k. neighbour (size_of world) k (other from)) at)
+            | inr apart ↦ from_others j from below apart
+          ];
+      beyond = λ place past. right.beyond place past ∙ left.beyond place past ∙ here.beyond place past ∙ marked.beyond place past;
+    }
+
+-- ---- One link is marked
+
+same_place : (j i : ℕ) (from side : Side) → link_place j from ≡ link_place i side → (j ≡ i) × (from ≡ side)
+same_place j i Left Left e = (omega arith, refl)
+same_place j i Left Right e = absurd (omega arith)
+same_place j i Right Left e = absurd (omega arith)
+same_place j i Right Right e = (omega arith, refl)
+
+place_below : (n i : ℕ) (side : Side) → i < n → link_place i side < 2 * n
+place_below n i Left below = omega arith
+place_below n i Right below = omega arith
+
+place_past : (n i : ℕ) (side : Side) → n ≤ i → 2 * n ≤ link_place i side
+place_past n i Left past = omega arith
+place_past n i Right past = omega arith
+
+-- a list that has a length has something
+pub some_by_length : {A : Type 0} (xs : List A) → cond (nat_lt 0 (length xs)) 1 0 ≡ some_or_none xs
+some_by_length [] = grind (arith, nat_tests)
+some_by_length (x ∷ xs) = grind (arith, nat_tests)
+
+-- where one bit is put as its link is, the link is marked and the other marks stay
+pub one_marked : {E S M : Type 0} (t : E → Table S M) (world : Running E M) (old new : List ℕ) (i : ℕ) (side : Side) → i < size_of world → IsMarked t world new i side
+    → ((place : ℕ) → place ≢ link_place i side → bit_of new place ≡ bit_of old place)
+    → HasMarked t world old i side new
+one_marked t world old new i side inside marked others = record {
+  marked = marked;
+  kept = λ j from before.
+      elim (same_or_not (link_place j from) (link_place i side)) [
+        | inl here ↦ let link = same_place j i from side here in rw (link.0, link.1) marked
+        | inr differ ↦ record { bit = others (link_place j from) differ ∙ before.bit; few = before.few }
+      ];
+  beyond = λ place past. let below = place_below (size_of world) i side inside in others place (omega arith);
+}
+
+-- ---- What the marks tell
+
+none_of_0 : {A : Type 0} (xs : List A) → some_or_none xs ≡ 0 → xs ≡ []
+none_of_0 [] e = refl
+none_of_0 (x ∷ xs) e = absurd (omega arith)
+
+some_of_1 : {A : Type 0} (xs : List A) → some_or_none xs ≡ 1 → 0 < length xs
+some_of_1 [] e = absurd (omega arith)
+some_of_1 (x ∷ xs) e = omega arith
+
+-- links that come before have a lesser place
+record ComesBefore (j : ℕ) (from : Side) (i : ℕ) (side : Side) : Type 0 where
+  place : link_place j from < link_place i side
+  position : j ≤ i
+
+comes_before : {E S M : Type 0} (t : E → Table S M) (j i : ℕ) (from side : Side) → IsBefore t j from i side → ComesBefore j from i side
+comes_before t j i Left Left (inl less) = record { place = omega arith; position = omega arith }
+comes_before t j i Left Right (inl less) = record { place = omega arith; position = omega arith }
+comes_before t j i Right Left (inl less) = record { place = omega arith; position = omega arith }
+comes_before t j i Right Right (inl less) = record { place = omega arith; position = omega arith }
+comes_before t j i from side (inr beside) = rw (beside.0, beside.1, beside.2) (record { place = omega arith; position = omega arith })
+
+module _ {E S M : Type 0} (t : E → Table S M) (world : Running E M) (words : List ℕ) (marked : IsMarkedAll t world words) where
+  -- without a bit nothing is in flight
+  pub no_link : IsFirst words None → IsReady t world None
+  no_link none = λ i side below. none_of_0 (in_flight t world i side) (sym (marked.each i side below).bit ∙ none (link_place i side))
+
+  -- the first bit is that of the first link
+  pub first_link : (i : ℕ) (side : Side) → IsFirst words (Some (link_place i side)) → IsReady t world (Some (i, side))
+  first_link i side first =
+      elim (cases_lt i (size_of world)) [
+        | inr past ↦ let none = marked.beyond (link_place i side) (place_past (size_of world) i side past) in absurd (omega (arith, none, first.0))
+        | inl inside ↦ record {
+          inside = inside;
+          waits = some_of_1 (in_flight t world i side) (sym (marked.each i side inside).bit ∙ first.0);
+          least = λ j from before.
+              let less = comes_before t j i from side before in
+              none_of_0 (in_flight t world j from) (sym (marked.each j from (let low = less.position in omega arith)).bit ∙ first.1 (link_place j from) less.place);
+        }
+      ]
+
+-- where each link has less than 2 ^ 64 packets, there are not too many to count
+pub pending_few : {E S M : Type 0} (t : E → Table S M) (world : Running E M) (words : List ℕ) → IsMarkedAll t world words → (n : ℕ) → n ≤ size_of world → pending_below t world n ≤ 36893488147419103232 * n
+pending_few t world words marked zero low = omega arith
+pending_few t world words marked (suc n) low =
+    omega (arith, pending_few t world words marked n (omega arith), (marked.each n Left (omega arith)).few, (marked.each n Right (omega arith)).few)
+
+-- ---- A world after a receipt
+
+module _ {E S M : Type 0} (t : E → Table S M) (fits : E → List ℕ → ℕ → Side → ℕ → M → Type 0) (winner : E → List ℕ → ℕ) (world : Running E M) (pending : ℕ) (words : List ℕ)
+    (tallied : IsTallied t world fits winner pending words) (i : ℕ) (inside : i < size_of world) (side : Side) (p : Packet M) (front : slice_get (in_flight t world i side) 0 ≡ Some p)
+    (new : Running E M) (moved : new ≡ after_receipt world i side p) (before after : ℕ)
+    (sent_before : before ≡ length (sent_of t (node_at world i) Left) + length (sent_of t (node_at world i) Right))
+    (sent_after : after ≡ length (sent_of t (node_at new i) Left) + length (sent_of t (node_at new i) Right)) where
+  place_within : i < length world.journals
+  place_within = rw tallied.sound.count inside
+
+  -- the number that is kept, and what the receiver has sent, give the number afterwards
+  pub count_after : (pending_of t new + 1) + before ≡ pending + after
+  count_after =
+      let whole = pending_after t world i place_within side p tallied.sound.links front inside in
+      let counted = tallied.counted in
+      rw moved (omega (arith, whole, counted, sent_before, rw moved at sent_after))
+
+  -- and it is far below the limit of the number
+  pub count_few : pending ≤ 9444732965739290427392
+  count_few =
+      let few = pending_few t world words tallied.marked (size_of world) (omega arith) in
+      let short = tallied.sound.is_ring.short in
+      let counted = tallied.counted in
+      omega (arith, few, short, counted)
+
+  pub tally_after : IsSoundWorld t fits winner new → (left right : ℕ) → left ≡ neighbour (size_of new) i Left → right ≡ neighbour (size_of new) i Right
+      → (first second third : List ℕ) → HasMarked t new words i side first → HasMarked t new first left Right second → HasMarked t new second right Left third
+      → IsTallied t new fits winner (((pending + after) - before) - 1) third
+  tally_after sound left right left_is right_is first second third here there beyond = record {
+    sound = sound;
+    counted = let whole = count_after in omega arith;
+    marked =
+        rw moved
+        (marks_after t world i place_within side p words first second third tallied.marked (rw moved at here) (rw (left_is, moved) at there) (rw (right_is, moved) at beyond) inside);
+  }

@@ -1,0 +1,172 @@
+ghost use Rattle.std.specs.Prelude.{◌≡◌, ◌+◌, ◌*◌, ◌^◌, ◌<◌, ◌≤◌, ◌&&◌, not, [], IfOk, IfSome, OnErr, OnOk, length, replicate, slice_get};
+ghost use Rattle.ring_id.specs.declared.side.Side.TheVariants.{Left, Right};
+ghost use Rattle.ring_id.specs.Sides.{other, same_side};
+ghost use Rattle.ring_roster.specs.Ring.{neighbour};
+ghost use Rattle.ring_node.specs.Envelopes.{IsProper};
+ghost use Rattle.ring_node.specs.Nodes.{next_index, sent_of, told_of};
+ghost use Rattle.ring_world.specs.Tallies.{HasMarked};
+ghost use Rattle.ring_world.specs.Worlds.{IsSoundWorld, after_receipt, in_flight, node_at, nodes_of};
+
+use crate::ready_set::{ReadySet, place_of};
+use ring_election::RingElection;
+use ring_id::{NoMemory, Side};
+use ring_node::{Charter, Node, Packet, Report};
+use std::alloc::Global;
+use std::marker::Model;
+use std::sync::Arc;
+
+/// The nodes of one term in the order of their ring, with nothing beside them.
+///
+/// What is in flight between them follows from what each has sent and taken.
+#[derive(Drop)]
+pub struct Circle<E: RingElection> {
+    charter: Arc<Charter<E>>,
+    nodes: Vec<Node<E>>,
+}
+
+impl<E: RingElection> Model for Circle<E> {
+    ghost use Rattle.ring_world.specs.Worlds.{IsWorld, Running, journals_of};
+
+    ghost Value = { Running E E.Msg };
+
+    ghost view = { λ a. record { charter = a.charter.value; journals = journals_of a.nodes.items } };
+
+    ghost invariant = { λ a. IsWorld E.table E.fits E.winner a.charter.value a.nodes.items };
+}
+
+impl<E: RingElection> Circle<E> {
+    /// The nodes of this charter, which have started. Refused for want of memory alone.
+    pub fn begin(alloc: Global, charter: Arc<Charter<E>>) -> Result<Circle<E>, NoMemory>
+        ensures { IfOk result (λ circle. circle ≡ record { charter = charter.value; journals = replicate (length charter.value.roster) [] }) }
+    {
+        let size = charter.roster().len();
+        let Ok(mut nodes) = Vec::with_capacity(alloc, size) else {
+            return Err(NoMemory);
+        };
+        for position in 0..size {
+            let Ok(copy) = Arc::try_clone(&charter) else {
+                return Err(NoMemory);
+            };
+            nodes.push_reserved(Node::seat(alloc, copy, position)?);
+        }
+        Ok(Circle { charter, nodes })
+    }
+
+    /// The charter of this term. Takes no memory, like the other readers.
+    pub fn charter(&self) -> &Arc<Charter<E>>
+        ensures value { result.now.value ≡ self.now.charter }
+        ensures sound { IsSoundWorld E.table E.fits E.winner self.now }
+    {
+        &self.charter
+    }
+
+    /// The node of each position, in order.
+    pub fn nodes(&self) -> &[Node<E>]
+        ensures { result.now ≡ nodes_of self.now }
+    {
+        &self.nodes
+    }
+
+    /// The node at a position.
+    pub fn node(&self, position: usize) -> &Node<E>
+        requires { position < length self.now.charter.roster }
+        ensures node { result.now ≡ node_at self.now position }
+        ensures sound { IsSoundWorld E.table E.fits E.winner self.now }
+    {
+        &self.nodes[position]
+    }
+
+    /// The length of the ring.
+    pub fn size(&self) -> usize
+        ensures value { result ≡ length self.now.charter.roster }
+        ensures few { result ≤ 256 }
+        ensures sound { IsSoundWorld E.table E.fits E.winner self.now }
+    {
+        self.charter().roster().len()
+    }
+
+    /// The position next to this one at a side.
+    pub fn neighbour(&self, position: usize, side: Side) -> usize
+        requires { position < length self.now.charter.roster }
+        ensures value { result ≡ neighbour (length self.now.charter.roster) position side }
+        ensures inside { result < length self.now.charter.roster }
+    {
+        self.charter.roster().neighbour(position, side)
+    }
+
+    /// Whether nothing is ever sent on the links that arrive from this side.
+    pub fn is_closed(&self, side: Side) -> bool
+        ensures value { result ≡ (same_side side Right && not (E.is_two_way self.now.charter.algorithm)) }
+        ensures sound { IsSoundWorld E.table E.fits E.winner self.now }
+    {
+        let one_way = !self.charter().algorithm().two_way();
+        match side {
+            Side::Left => false,
+            Side::Right => one_way,
+        }
+    }
+
+    /// Gives the first packet in flight on a link to its receiver.
+    pub fn hand_over(
+        &mut self,
+        position: usize,
+        side: Side,
+        packet: Packet<E::Msg>,
+    ) -> Result<Option<Report<E>>, NoMemory>
+        requires inside { position < length self.old.charter.roster }
+        requires front { slice_get (in_flight E.table self.old position side) 0 ≡ Some packet }
+        requires proper { IsProper (E.fits self.old.charter.algorithm) (E.winner self.old.charter.algorithm) self.old.charter.roster (neighbour (length self.old.charter.roster) position side) (other side) (next_index (node_at self.old position) side packet) packet }
+        ensures journals { OnOk result (self.new ≡ after_receipt self.old position side packet) }
+        ensures report { IfOk result (λ report. report ≡ told_of E.table (node_at self.old position) (node_at self.new position)) }
+        ensures err { OnErr result (self.new ≡ self.old) }
+        ensures sound { IsSoundWorld E.table E.fits E.winner self.new }
+    {
+        let Ok(copy) = Arc::try_clone(&self.charter) else {
+            return Err(NoMemory);
+        };
+        let node = &mut self.nodes[position];
+        let Some(_) = node.accept(side, packet)? else {
+            return Ok(None);
+        };
+        Ok(node.report(copy))
+    }
+
+    /// The first packet in flight on a link, which is proper there.
+    pub fn front(&self, position: usize, side: Side) -> Option<Packet<E::Msg>>
+        requires { position < length self.now.charter.roster }
+        ensures value { result ≡ slice_get (in_flight E.table self.now position side) 0 }
+        ensures proper { IfSome result (λ packet. IsProper (E.fits self.now.charter.algorithm) (E.winner self.now.charter.algorithm) self.now.charter.roster (neighbour (length self.now.charter.roster) position side) (other side) (next_index (node_at self.now position) side packet) packet) }
+    {
+        let sender = self.node(self.neighbour(position, side));
+        sender.packet(side.other(), self.node(position).taken(side))
+    }
+
+    /// How many packets are in flight on a link.
+    pub fn waiting(&self, position: usize, side: Side) -> usize
+        requires { position < length self.now.charter.roster }
+        ensures value { result ≡ length (in_flight E.table self.now position side) }
+        ensures inside { position < 256 }
+    {
+        let sender = self.node(self.neighbour(position, side));
+        sender.sent(side.other()) - self.node(position).taken(side)
+    }
+
+    /// How many packets the node at a position has sent.
+    pub fn sent_by(&self, position: usize) -> u128
+        requires { position < length self.now.charter.roster }
+        ensures value { result ≡ length (sent_of E.table (node_at self.now position) Left) + length (sent_of E.table (node_at self.now position) Right) }
+        ensures few { result < 2 * 2 ^ 64 }
+    {
+        let node = self.node(position);
+        node.sent(Side::Left) as u128 + node.sent(Side::Right) as u128
+    }
+
+    /// Marks in a set whether something is in flight on a link. No other link's mark changes.
+    pub fn mark(&self, ready: &mut ReadySet, position: usize, side: Side)
+        requires { position < length self.now.charter.roster }
+        ensures { HasMarked E.table self.now ready.old.words position side ready.new.words }
+    {
+        let here = self.waiting(position, side) > 0;
+        ready.put(place_of(position, side), here);
+    }
+}

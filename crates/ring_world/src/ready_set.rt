@@ -1,0 +1,81 @@
+ghost use Rattle.std.specs.Prelude.{◌≡◌, ◌≢◌, ◌<◌, ℕ, cond};
+ghost use Rattle.std.specs.Int.{bit_at};
+ghost use Rattle.ring_world.specs.ReadySets.{IsFirst, bit_of, link_place};
+
+use ring_id::Side;
+
+/// A set of links of one ring: 512 bits in eight words.
+///
+/// A link's bit stands at twice its receiver's position, or one after it for the right side. So the
+/// order of places is the order of links: the least receiver first, left before right.
+#[derive(Clone, Copy, Debug)]
+pub struct ReadySet {
+    words: [u64; 8],
+}
+
+impl ReadySet {
+    /// The set without links.
+    pub fn empty() -> ReadySet
+        ensures { (place : ℕ) → bit_of result.words place ≡ 0 }
+    {
+        ReadySet { words: [0; 8] }
+    }
+
+    /// Puts the link at a place into the set, or takes it out.
+    pub fn put(&mut self, place: usize, here: bool)
+        requires { place < 512 }
+        ensures here { bit_of self.new.words place ≡ cond here 1 0 }
+        ensures others { (other : ℕ) → other ≢ place → bit_of self.new.words other ≡ bit_of self.old.words other }
+    {
+        self.words[place / 64] = with_bit(self.words[place / 64], place % 64, here);
+    }
+
+    /// The place of the first link in the set.
+    pub fn first(&self) -> Option<usize>
+        ensures { IsFirst self.now.words result }
+    {
+        for (index, word) in self.words.iter().enumerate() {
+            if *word != 0 {
+                return Some(64 * index + word.trailing_zeros() as usize);
+            }
+        }
+        None
+    }
+}
+
+/// The word with its bit at a place set, or cleared.
+fn with_bit(word: u64, place: usize, here: bool) -> u64
+    requires { place < 64 }
+    ensures here { bit_at result place ≡ cond here 1 0 }
+    ensures others { (other : ℕ) → other < 64 → other ≢ place → bit_at result other ≡ bit_at word other }
+{
+    if here {
+        word | 1u64 << place
+    } else {
+        word & !(1u64 << place)
+    }
+}
+
+/// The place of a link in the order of links.
+pub fn place_of(position: usize, side: Side) -> usize
+    requires { position < 256 }
+    ensures value { result ≡ link_place position side }
+    ensures inside { result < 512 }
+{
+    match side {
+        Side::Left => 2 * position,
+        Side::Right => 2 * position + 1,
+    }
+}
+
+/// The link at a place: its receiver's position, and the side from which it takes.
+pub fn link_at(place: usize) -> (usize, Side)
+    ensures { link_place result.0 result.1 ≡ place }
+{
+    let side = if place % 2 == 0 {
+        Side::Left
+    } else {
+        Side::Right
+    };
+    (place / 2, side)
+}
