@@ -1,0 +1,16 @@
+//! Worked rows that cross crates: each is a scenario with the values that it must come to.
+//!
+//! The crate has tests alone. A module is one subject: a node, a world, its worked schedules, the
+//! settlement of nodes, groups at once, reports, a replay over memory, and how much work rings take.
+#![tactic(auto)]
+
+#[cfg(test)]
+mod node_rows;
+#[cfg(test)]
+mod rings;
+#[cfg(test)]
+mod settle_rows;
+#[cfg(test)]
+mod world_rows;
+#[cfg(test)]
+mod worlds;

@@ -1,0 +1,68 @@
+//! Worlds of the rows, and deliveries in them.
+
+use crate::rings::charter;
+use ring_election::RingElection;
+use ring_id::{Refusal, Side};
+use ring_world::{Delivery, World};
+use std::alloc::Global;
+use std::test::Fail;
+
+/// What a delivery did.
+#[derive(Clone, Copy, Debug, PartialEq, Eq)]
+pub enum Did {
+    /// A packet was taken, and its receiver told nothing.
+    Moved,
+    /// A packet was taken, and its receiver told that this is the leader.
+    Told(u32),
+    /// Nothing was in flight.
+    Idle,
+    /// It was refused.
+    Refused(Refusal),
+}
+
+/// The world of a first term on the ring of these numbers.
+pub fn begun<E: RingElection>(
+    alloc: Global,
+    algorithm: E,
+    numbers: &[u32],
+) -> Result<World<E>, Fail> {
+    let charter = charter(alloc, 1, algorithm, numbers)?;
+    Ok(World::begin(alloc, charter)?)
+}
+
+/// Delivers on the link into this position from a side.
+pub fn deliver<E: RingElection>(
+    world: &mut World<E>,
+    position: usize,
+    side: Side,
+) -> Result<Did, Fail> {
+    if position >= world.charter().roster().len() {
+        return Err("no such position".into());
+    }
+    Ok(match world.deliver(position, side) {
+        Delivery::Moved(None) => Did::Moved,
+        Delivery::Moved(Some(report)) => Did::Told(report.leader().get()),
+        Delivery::Idle => Did::Idle,
+        Delivery::Refused(refusal) => Did::Refused(refusal),
+    })
+}
+
+/// Delivers on the least ready link until nothing is ready or so many are made; how many were.
+pub fn drain<E: RingElection>(world: &mut World<E>, most: u32) -> Result<u32, Fail> {
+    for done in 0..most {
+        let Some((position, side)) = world.ready() else {
+            return Ok(done);
+        };
+        match deliver(world, position, side)? {
+            Did::Moved | Did::Told(_) => {}
+            Did::Idle | Did::Refused(_) => return Err("the ready link gave nothing".into()),
+        }
+    }
+    Ok(most)
+}
+
+/// The number of the leader that the node at this position knows, if it knows one.
+pub fn known<E: RingElection>(world: &World<E>, position: usize) -> Option<u32> {
+    let leader = world.nodes().get(position)?.known()?;
+    Some(leader.get())
+}
