@@ -1,0 +1,3 @@
+pub mod Chartering
+pub mod Following
+pub mod Showing

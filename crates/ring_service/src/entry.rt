@@ -1,0 +1,51 @@
+ghost use Rattle.std.specs.Prelude.{◌≡◌};
+ghost use Rattle.ring_service.specs.Tables.{filed_of};
+
+use ring_id::{GroupName, NodeId, Refusal, TermNo};
+use ring_mux::{Command, Reply};
+use ring_terms::Noting;
+
+/// One line of a history.
+#[derive(Debug, Drop)]
+pub enum Entry<E> {
+    /// A session's command and the reply that it got.
+    Call {
+        session: u32,
+        command: Command<E>,
+        reply: Reply,
+    },
+    /// A report that this member knows this leader of this term, and what became of it.
+    Filing {
+        group: GroupName,
+        term: TermNo,
+        member: NodeId,
+        leader: NodeId,
+        noting: Noting,
+    },
+}
+
+/// What became of a report that was handed to a table.
+#[derive(Clone, Copy, Debug, PartialEq, Eq)]
+pub enum Filed {
+    /// The member was not informed, and now is.
+    Noted,
+    /// The member was informed already.
+    Known,
+    /// The report is of no term that is the last of its group here.
+    Stale,
+    /// Refused, and nothing has changed.
+    Refused(Refusal),
+}
+
+impl Filed {
+    /// The answer for a report that was noted so.
+    pub(crate) fn from_noting(noting: Noting) -> Filed
+        ensures { result ≡ filed_of noting }
+    {
+        match noting {
+            Noting::Noted => Filed::Noted,
+            Noting::Known => Filed::Known,
+            Noting::Stale => Filed::Stale,
+        }
+    }
+}
