@@ -102,7 +102,7 @@ join nobody 1 => no no-group
 # Bytes that are no text.
 \xff\xfe => no bad-line
 gr\x00ups => no bad-line
-\\ => no bad-line
+\x5c => no bad-line
 
 # Nothing of all this changed anything.
 groups => groups a abcdefghijklmnop - 0 a-1

@@ -1,0 +1,21 @@
+# A session of deliveries, as docs/PROTOCOL.md tells it: Chang-Roberts on 3 1 2, message by message.
+create a chang => ok
+join a 3 => ok
+join a 1 => ok
+join a 2 => ok
+start a => term 1
+pending a => pending 3
+deliver a 2 right => no one-way
+deliver a 1 left => moved
+deliver a 1 left => idle
+deliver a 2 left => moved
+deliver a 2 left => moved
+drain a 1 => drained 1 left 1
+who a 3 => undecided 1
+deliver a 3 left => moved
+who a 3 => leader 1 3
+who a 1 => undecided 1
+terms a => terms 1:3
+drain a 100 => drained 3 left 0
+who a 1 => leader 1 3
+drain a 100 => drained 0 left 0
