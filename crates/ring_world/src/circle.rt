@@ -7,6 +7,7 @@ ghost use Rattle.ring_node.specs.Nodes.{next_index, sent_of, told_of};
 ghost use Rattle.ring_world.specs.Tallies.{HasMarked};
 ghost use Rattle.ring_world.specs.Worlds.{IsSoundWorld, after_receipt, in_flight, node_at, nodes_of};
 
+use crate::owners::Owners;
 use crate::ready_set::{ReadySet, place_of};
 use ring_election::RingElection;
 use ring_id::{NoMemory, Side};
@@ -20,7 +21,7 @@ use std::sync::Arc;
 /// What is in flight between them follows from what each has sent and taken.
 #[derive(Drop)]
 pub struct Circle<E: RingElection> {
-    charter: Arc<Charter<E>>,
+    owners: Owners<E>,
     nodes: Vec<Node<E>>,
 }
 
@@ -29,9 +30,9 @@ impl<E: RingElection> Model for Circle<E> {
 
     ghost Value = { Running E E.Msg };
 
-    ghost view = { λ a. record { charter = a.charter.value; journals = journals_of a.nodes.items } };
+    ghost view = { λ a. record { charter = a.owners; journals = journals_of a.nodes.items } };
 
-    ghost invariant = { λ a. IsWorld E.table E.fits E.winner a.charter.value a.nodes.items };
+    ghost invariant = { λ a. IsWorld E.table E.fits E.winner a.owners a.nodes.items };
 }
 
 impl<E: RingElection> Circle<E> {
@@ -49,7 +50,10 @@ impl<E: RingElection> Circle<E> {
             };
             nodes.push_reserved(Node::seat(alloc, copy, position)?);
         }
-        Ok(Circle { charter, nodes })
+        Ok(Circle {
+            owners: Owners::of(charter),
+            nodes,
+        })
     }
 
     /// The charter of this term. Takes no memory, like the other readers.
@@ -57,7 +61,7 @@ impl<E: RingElection> Circle<E> {
         ensures value { result.now.value ≡ self.now.charter }
         ensures sound { IsSoundWorld E.table E.fits E.winner self.now }
     {
-        &self.charter
+        self.owners.charter()
     }
 
     /// The node of each position, in order.
@@ -91,7 +95,7 @@ impl<E: RingElection> Circle<E> {
         ensures value { result ≡ neighbour (length self.now.charter.roster) position side }
         ensures inside { result < length self.now.charter.roster }
     {
-        self.charter.roster().neighbour(position, side)
+        self.charter().roster().neighbour(position, side)
     }
 
     /// Whether nothing is ever sent on the links that arrive from this side.
@@ -121,11 +125,10 @@ impl<E: RingElection> Circle<E> {
         ensures err { OnErr result (self.new ≡ self.old) }
         ensures sound { IsSoundWorld E.table E.fits E.winner self.new }
     {
-        let Ok(copy) = Arc::try_clone(&self.charter) else {
-            return Err(NoMemory);
-        };
+        let copy = self.owners.take()?;
         let node = &mut self.nodes[position];
         let Some(_) = node.accept(side, packet)? else {
+            self.owners.give_back(copy);
             return Ok(None);
         };
         Ok(node.report(copy))

@@ -15,6 +15,7 @@
 
 mod circle;
 mod delivery;
+mod owners;
 mod ready_set;
 mod settlement;
 mod sort;

@@ -18,42 +18,44 @@ pub report-requires : goal.report-requires
 report-requires g c =
     let inside = rw (← c.self.view_is) at c.requires.inside in
     let node = node_there _ _ _ _ _ c.self.invariant c.args.position inside _ c.index_mut-node.ensures.value in
-    rw (c.in_ok-accept.ensures.journal, node) c.in-Ok.ensures
+    rw (c.in_ok-accept.ensures.journal, node) c.in_ok-copy.ensures.owner
 
-pub invariant_of-self-in_default-2 : goal.invariant_of-self-in_default-2
-invariant_of-self-in_default-2 g c =
+pub invariant_of-self-in_default : goal.invariant_of-self-in_default
+invariant_of-self-in_default g c =
     let inside = rw (← c.self.view_is) at c.requires.inside in
     let node = node_there _ _ _ _ _ c.self.invariant c.args.position inside _ c.index_mut-node.ensures.value in
-    world_after _ _ _ _ _ c.self.invariant c.args.position (place_within _ _ _ _ _ c.self.invariant c.args.position inside) c.args.side c.args.packet (rw (← c.self.view_is) at c.requires.front) _
-    (rw node at c.in_ok-accept.ensures.journal) c.in_ok-accept.ensures.faithful
+    rw (c.give_back.ensures, c.take.ensures.same)
+    (world_after _ _ _ _ _ c.self.invariant c.args.position (place_within _ _ _ _ _ c.self.invariant c.args.position inside) c.args.side c.args.packet (rw (← c.self.view_is) at c.requires.front) _
+    (rw node at c.in_ok-accept.ensures.journal) c.in_ok-accept.ensures.faithful)
 
 pub invariant_of-self-2 : goal.invariant_of-self-2
 invariant_of-self-2 g c =
     let inside = rw (← c.self.view_is) at c.requires.inside in
     let node = node_there _ _ _ _ _ c.self.invariant c.args.position inside _ c.index_mut-node.ensures.value in
-    world_after _ _ _ _ _ c.self.invariant c.args.position (place_within _ _ _ _ _ c.self.invariant c.args.position inside) c.args.side c.args.packet (rw (← c.self.view_is) at c.requires.front) _
-    (rw node at c.in_ok-accept.ensures.journal) c.in_ok-accept.ensures.faithful
+    rw c.take.ensures.same
+    (world_after _ _ _ _ _ c.self.invariant c.args.position (place_within _ _ _ _ _ c.self.invariant c.args.position inside) c.args.side c.args.packet (rw (← c.self.view_is) at c.requires.front) _
+    (rw node at c.in_ok-accept.ensures.journal) c.in_ok-accept.ensures.faithful)
 
-pub returns-in_default-2-clause-journals : goal.returns-in_default-2-clause-journals
-returns-in_default-2-clause-journals g c =
+pub returns-in_default-clause-journals : goal.returns-in_default-clause-journals
+returns-in_default-clause-journals g c =
     let inside = rw (← c.self.view_is) at c.requires.inside in
     let node = node_there _ _ _ _ _ c.self.invariant c.args.position inside _ c.index_mut-node.ensures.value in
-    rw (← c.self.view_is) (view_after _ _ _ _ _ c.self.invariant c.args.position inside c.args.side c.args.packet _ (rw node at c.in_ok-accept.ensures.journal))
+    rw (← c.self.view_is, c.give_back.ensures, c.take.ensures.same) (view_after _ _ _ _ _ c.self.invariant c.args.position inside c.args.side c.args.packet _ (rw node at c.in_ok-accept.ensures.journal))
 
 pub returns-clause-journals : goal.returns-clause-journals
 returns-clause-journals g c =
     let inside = rw (← c.self.view_is) at c.requires.inside in
     let node = node_there _ _ _ _ _ c.self.invariant c.args.position inside _ c.index_mut-node.ensures.value in
-    rw (← c.self.view_is) (view_after _ _ _ _ _ c.self.invariant c.args.position inside c.args.side c.args.packet _ (rw node at c.in_ok-accept.ensures.journal))
+    rw (← c.self.view_is, c.take.ensures.same) (view_after _ _ _ _ _ c.self.invariant c.args.position inside c.args.side c.args.packet _ (rw node at c.in_ok-accept.ensures.journal))
 
-pub returns-in_default-2-clause-report : goal.returns-in_default-2-clause-report
-returns-in_default-2-clause-report g c =
+pub returns-in_default-clause-report : goal.returns-in_default-clause-report
+returns-in_default-clause-report g c =
     let inside = rw (← c.self.view_is) at c.requires.inside in
     let node = node_there _ _ _ _ _ c.self.invariant c.args.position inside _ c.index_mut-node.ensures.value in
     let gained = rw node at c.in_ok-accept.ensures.journal in
     let news = rw (node, gained) at c.in_ok-accept.ensures.news in
-    rw (← c.self.view_is)
-    (silent_after _ _ _ _ _ c.self.invariant c.args.position inside c.args.side c.args.packet _ gained (sym news ∙ c.in_default-2.is))
+    rw (← c.self.view_is, c.give_back.ensures, c.take.ensures.same)
+    (silent_after _ _ _ _ _ c.self.invariant c.args.position inside c.args.side c.args.packet _ gained (sym news ∙ c.in_default.is))
 
 pub returns-clause-report : goal.returns-clause-report
 returns-clause-report g c =
@@ -62,11 +64,11 @@ returns-clause-report g c =
     let gained = rw node at c.in_ok-accept.ensures.journal in
     let news = rw (node, gained) at c.in_ok-accept.ensures.news in
     let report = rw gained at c.report.ensures in
-    rw (← c.self.view_is)
+    rw (← c.self.view_is, c.take.ensures.same)
     (report ∙ report_after _ _ _ _ _ c.self.invariant c.args.position inside c.args.side c.args.packet _ gained _ (sym news ∙ c.in-Some.is))
 
-pub returns-in_default-2-clause-sound : goal.returns-in_default-2-clause-sound
-returns-in_default-2-clause-sound g c = (invariant_of-self-in_default-2 g c).sound
+pub returns-in_default-clause-sound : goal.returns-in_default-clause-sound
+returns-in_default-clause-sound g c = (invariant_of-self-in_default g c).sound
 
 pub returns-clause-sound : goal.returns-clause-sound
 returns-clause-sound g c = (invariant_of-self-2 g c).sound

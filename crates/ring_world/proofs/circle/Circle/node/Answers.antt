@@ -15,4 +15,4 @@ returns-clause-node g c =
     let within = rw (← c.self.view_is) at c.requires in
     let inside : c.args.position < length nodes.items = omega (arith, within, c.self.invariant.sound.count, length-journals_of nodes.items) in
     rw (← c.self.view_is)
-    (c.index.ensures ∙ node_of_world c.self.inside.charter.value nodes.items c.self.invariant.nodes_are c.args.position c.index.result.now inside)
+    (c.index.ensures ∙ node_of_world c.self.inside.owners nodes.items c.self.invariant.nodes_are c.args.position c.index.result.now inside)
