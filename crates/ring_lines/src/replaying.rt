@@ -118,3 +118,6 @@ fn close<W: Outlet>(
         Err(_) => Err(LineFault::Write),
     }
 }
+
+#[cfg(test)]
+mod tests;

@@ -20,6 +20,11 @@ pub enum ProgramFault {
 }
 
 impl From<LineFault> for ProgramFault {
+    ghost use Rattle.std.specs.Prelude.{◌≡◌};
+    ghost use Rattle.ringd.specs.Faults.{told_as};
+
+    ghost from_gives = { λ fault told. told ≡ told_as fault };
+
     fn from(fault: LineFault) -> ProgramFault {
         match fault {
             LineFault::Read => ProgramFault::Read,

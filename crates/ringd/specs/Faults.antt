@@ -1,0 +1,12 @@
+-- What the program tells of the faults that end its lines.
+use Rattle.ring_lines.specs.declared.answers.LineFault.{LineFault}
+use Rattle.ring_lines.specs.declared.answers.LineFault.TheVariants as line
+use Rattle.ringd.specs.declared.fault.ProgramFault.{ProgramFault}
+use Rattle.ringd.specs.declared.fault.ProgramFault.TheVariants as program
+
+-- each fault of the lines is told as the program's fault of that kind
+abbrev pub told_as : LineFault → ProgramFault
+told_as line.Read = program.Read
+told_as line.Endless = program.Endless
+told_as line.Write = program.Write
+told_as line.NoMemory = program.NoMemory
