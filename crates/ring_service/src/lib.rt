@@ -2,12 +2,17 @@
 //!
 //! A `Table` is a book of groups and terms, and the list of all that was asked of it. Each call and
 //! each filed report adds one entry, or is refused memory and changes nothing; the history, replayed
-//! from no groups at all, gives the book and every reply.
+//! from no groups at all, gives the book and every reply. A `Service` has one table under a lock, and
+//! its `Front` serves sessions over any reader and writer, in as many threads as there are sessions.
 #![tactic(auto)]
 
 mod answer;
 mod entry;
+mod front;
+mod service;
 mod table;
 
 pub use entry::{Entry, Filed};
+pub use front::Front;
+pub use service::{Closing, Service, StartFault};
 pub use table::Table;
