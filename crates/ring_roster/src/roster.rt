@@ -172,8 +172,10 @@ mod tests {
         assert!(rt; ring.len() == 3);
         assert_eq!(rt; ring.at(2), NodeId::new(2));
         assert_eq!(rt; ring.at(3), None);
-        assert_eq!(rt; NodeId::new(1).and_then(|node| ring.position(node)), Some(1));
-        assert_eq!(rt; NodeId::new(4).and_then(|node| ring.position(node)), None);
+        let one = NodeId::new(1).ok_or("no identity is 0")?;
+        let four = NodeId::new(4).ok_or("no identity is 0")?;
+        assert_eq!(rt; ring.position(one), Some(1));
+        assert_eq!(rt; ring.position(four), None);
         assert_eq!(rt; ring.neighbour(2, Side::Right), 0);
         assert_eq!(rt; ring.neighbour(0, Side::Left), 2);
         assert!(rt; ring.same(&ring_of(alloc, &[3, 1, 2])?));
