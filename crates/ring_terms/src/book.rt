@@ -21,7 +21,7 @@ use std::sync::Arc;
 const MOST_GROUPS: usize = 256;
 
 /// All groups and their terms. Each term is one election of a leader on a ring (Lynch, Distributed
-/// Algorithms, 3.2).
+/// Algorithms, 3.1).
 ///
 /// Contracts see a book as the election object: groups in order of creation. Its type keeps the
 /// limits of 256 groups, 256 members of a group with different numbers and 1000 terms, and that a

@@ -18,7 +18,7 @@ pub enum Settlement {
     Incomplete,
 }
 
-/// Whether a term has come to rest, by its nodes alone (Lynch, Distributed Algorithms, 3.2).
+/// Whether a term has come to rest, by its nodes alone (Lynch, Distributed Algorithms, 3.1).
 ///
 /// Among these nodes it looks at those of this charter. `Settled` exactly where each position of the
 /// ring occurs once, and on each link the messages of the algorithm that were taken are those that

@@ -77,7 +77,7 @@ impl<E: RingElection> World<E> {
     /// algorithm sends nothing that arrives from there; `Idle` where nothing is in flight on the link;
     /// refused `NoMemory` where a growth was. Nothing has changed then. A world takes no more
     /// packets than the algorithm's bound and the length of its ring together (Lynch, Distributed
-    /// Algorithms, 2.2: communication complexity).
+    /// Algorithms, 2.6: communication complexity).
     pub fn deliver(&mut self, position: usize, side: Side) -> Delivery<E>
         requires { position < length self.old.charter.roster }
         ensures delivers { Delivers E.table (E.is_two_way self.old.charter.algorithm) self.old position side result self.new }
@@ -97,7 +97,7 @@ impl<E: RingElection> World<E> {
     }
 
     /// How many packets were sent and not yet taken. Where there are none, every node knows the
-    /// leader (Lynch, Distributed Algorithms, 3.2 and 15.1).
+    /// leader (Lynch, Distributed Algorithms, 3.1 and 15.1).
     pub fn pending(&self) -> u128
         ensures value { result ≡ pending_of E.table self.now }
         ensures idle { (result ≡ 0) ↔ IsQuiet E.table self.now }
