@@ -5,11 +5,21 @@
 #![tactic(auto)]
 
 #[cfg(test)]
+mod mux_rows;
+#[cfg(test)]
 mod node_rows;
+#[cfg(test)]
+mod note_rows;
+#[cfg(test)]
+mod replay_rows;
 #[cfg(test)]
 mod rings;
 #[cfg(test)]
+mod schedules;
+#[cfg(test)]
 mod settle_rows;
+#[cfg(test)]
+mod work_rows;
 #[cfg(test)]
 mod world_rows;
 #[cfg(test)]
