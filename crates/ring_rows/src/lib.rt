@@ -1,9 +1,11 @@
 //! Worked rows that cross crates: each is a scenario with the values that it must come to.
 //!
-//! The crate has tests alone. A module is one subject: a node, a world, its worked schedules, the
-//! settlement of nodes, groups at once, reports, a replay over memory, and how much work rings take.
+//! All but `drain`, which rows call to bring a world to rest, is tests. A module of rows is one
+//! subject: a node, a world, its worked schedules, the settlement of nodes, groups at once, reports,
+//! replays over memory, and how much work rings take.
 #![tactic(auto)]
 
+mod drains;
 #[cfg(test)]
 mod mux_rows;
 #[cfg(test)]
@@ -24,3 +26,5 @@ mod work_rows;
 mod world_rows;
 #[cfg(test)]
 mod worlds;
+
+pub use drains::drain;

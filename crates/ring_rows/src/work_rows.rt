@@ -1,7 +1,8 @@
 //! How much work a ring takes: every ring becomes quiet, with a leader that all know, within the
 //! bound on messages of its algorithm and one announcement for each position.
 
-use crate::worlds::{begun, drain, known};
+use crate::drain;
+use crate::worlds::{begun, known};
 use ring_any::Any;
 use ring_world::World;
 use std::alloc::Global;
