@@ -1,16 +1,30 @@
 //! Worked rows that cross crates: each is a scenario with the values that it must come to.
 //!
-//! The crate has tests alone. A module is one subject: a node, a world, its worked schedules, the
-//! settlement of nodes, groups at once, reports, a replay over memory, and how much work rings take.
+//! All but `drain`, which rows call to bring a world to rest, is tests. A module of rows is one
+//! subject: a node, a world, its worked schedules, the settlement of nodes, groups at once, reports,
+//! replays over memory, and how much work rings take.
 #![tactic(auto)]
 
+mod drains;
+#[cfg(test)]
+mod mux_rows;
 #[cfg(test)]
 mod node_rows;
 #[cfg(test)]
+mod note_rows;
+#[cfg(test)]
+mod replay_rows;
+#[cfg(test)]
 mod rings;
 #[cfg(test)]
+mod schedules;
+#[cfg(test)]
 mod settle_rows;
+#[cfg(test)]
+mod work_rows;
 #[cfg(test)]
 mod world_rows;
 #[cfg(test)]
 mod worlds;
+
+pub use drains::drain;

@@ -1,7 +1,8 @@
 //! When nodes of the election of Chang and Roberts on 3, 1, 2 have settled.
 
+use crate::drain;
 use crate::rings::{charter, seated};
-use crate::worlds::{begun, drain};
+use crate::worlds::begun;
 use ring_chang::Chang;
 use ring_id::Side;
 use ring_node::{Charter, Node};

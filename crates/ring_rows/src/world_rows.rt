@@ -1,6 +1,7 @@
 //! A world of the election of Chang and Roberts on 3, 1, 2, by its calls alone.
 
-use crate::worlds::{Did, begun, deliver, drain};
+use crate::drain;
+use crate::worlds::{Did, begun, deliver};
 use ring_chang::Chang;
 use ring_id::{Refusal, Side};
 use std::test::Fail;

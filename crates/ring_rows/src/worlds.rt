@@ -47,20 +47,6 @@ pub fn deliver<E: RingElection>(
     })
 }
 
-/// Delivers on the least ready link until nothing is ready or so many are made; how many were.
-pub fn drain<E: RingElection>(world: &mut World<E>, most: u32) -> Result<u32, Fail> {
-    for done in 0..most {
-        let Some((position, side)) = world.ready() else {
-            return Ok(done);
-        };
-        match deliver(world, position, side)? {
-            Did::Moved | Did::Told(_) => {}
-            Did::Idle | Did::Refused(_) => return Err("the ready link gave nothing".into()),
-        }
-    }
-    Ok(most)
-}
-
 /// The number of the leader that the node at this position knows, if it knows one.
 pub fn known<E: RingElection>(world: &World<E>, position: usize) -> Option<u32> {
     let leader = world.nodes().get(position)?.known()?;

@@ -1,0 +1,110 @@
+//! Two worked schedules on 3, 1, 2: what is in flight after each delivery.
+//!
+//! A text such as `[2 3] [] [L]` has what is in flight into each position from its left, front
+//! first; `L` is the announcement.
+
+use crate::worlds::{Did, begun, deliver};
+use ring_any::{Any, AnyMsg};
+use ring_id::Side;
+use ring_node::{Node, Packet};
+use ring_world::World;
+use std::alloc::Global;
+use std::fmt::Write;
+use std::test::Fail;
+
+/// The identity of a message that goes one way; 0 of a token.
+fn identity_of(message: AnyMsg) -> u32 {
+    match message {
+        AnyMsg::LeLann(id) => id.get(),
+        AnyMsg::Chang(id) => id.get(),
+        AnyMsg::Peterson(id) => id.get(),
+        AnyMsg::Hirschberg(_) => 0,
+    }
+}
+
+/// The identity of a message; none of the announcement.
+fn number(packet: Packet<AnyMsg>) -> Option<u32> {
+    match packet {
+        Packet::Algo(message) => Some(identity_of(message)),
+        Packet::Leader(_) => None,
+    }
+}
+
+/// Writes what a sender has sent to the right and its receiver has not taken.
+fn write_link(text: &mut String, sender: &Node<Any>, receiver: &Node<Any>) -> Result<(), Fail> {
+    let first = receiver.taken(Side::Left);
+    for place in first..sender.sent(Side::Right) {
+        if place > first {
+            text.push(' ')?;
+        }
+        let packet = sender.packet(Side::Right, place);
+        match number(packet.ok_or("no such packet")?) {
+            Some(number) => write!(text, "{number}")?,
+            None => text.push('L')?,
+        }
+    }
+    Ok(())
+}
+
+/// What is in flight in a world.
+fn in_flight(alloc: Global, world: &World<Any>) -> Result<String, Fail> {
+    let mut text = String::new(alloc);
+    let mut sender = world.nodes().last().ok_or("no nodes")?;
+    for receiver in world.nodes() {
+        text.push_str(if text.is_empty() { "[" } else { " [" })?;
+        write_link(&mut text, sender, receiver)?;
+        text.push(']')?;
+        sender = receiver;
+    }
+    Ok(text)
+}
+
+#[test]
+fn the_worked_schedule(rt: HostRuntime) -> Result<(), Fail> {
+    let mut world = begun(rt.alloc(), Any::Chang, &[3, 1, 2])?;
+    assert_eq!(rt; in_flight(rt.alloc(), &world)?.as_str(), "[2] [3] [1]");
+    for (position, did, links) in [
+        (1, Did::Moved, "[2] [] [1 3]"),
+        (2, Did::Moved, "[2] [] [3]"),
+        (2, Did::Moved, "[2 3] [] []"),
+        (0, Did::Moved, "[3] [] []"),
+        (0, Did::Told(3), "[] [L] []"),
+        (1, Did::Told(3), "[] [] [L]"),
+        (2, Did::Told(3), "[L] [] []"),
+        (0, Did::Moved, "[] [] []"),
+        (0, Did::Idle, "[] [] []"),
+    ] {
+        assert_eq!(rt; deliver(&mut world, position, Side::Left)?, did);
+        assert_eq!(rt; in_flight(rt.alloc(), &world)?.as_str(), links);
+    }
+    Ok(())
+}
+
+#[test]
+fn the_worked_order_of_a_drain(rt: HostRuntime) -> Result<(), Fail> {
+    let mut world = begun(rt.alloc(), Any::Peterson, &[3, 1, 2])?;
+    assert_eq!(rt; in_flight(rt.alloc(), &world)?.as_str(), "[2] [3] [1]");
+    for (position, did, links) in [
+        (0, Did::Moved, "[] [3 2] [1]"),
+        (1, Did::Moved, "[] [2] [1 3]"),
+        (1, Did::Moved, "[] [] [1 3 3]"),
+        (2, Did::Moved, "[1] [] [3 3]"),
+        (0, Did::Moved, "[] [] [3 3]"),
+        (2, Did::Moved, "[] [] [3]"),
+        (2, Did::Moved, "[3] [] []"),
+        (0, Did::Moved, "[] [3] []"),
+        (1, Did::Told(1), "[] [] [3 L]"),
+        (2, Did::Moved, "[3] [] [L]"),
+        (0, Did::Moved, "[] [3] [L]"),
+        (1, Did::Moved, "[] [] [L]"),
+        (2, Did::Told(1), "[L] [] []"),
+        (0, Did::Told(1), "[] [L] []"),
+        (1, Did::Moved, "[] [] []"),
+    ] {
+        assert_eq!(rt; world.ready(), Some((position, Side::Left)));
+        assert_eq!(rt; deliver(&mut world, position, Side::Left)?, did);
+        assert_eq!(rt; in_flight(rt.alloc(), &world)?.as_str(), links);
+    }
+    assert_eq!(rt; world.ready(), None);
+    Ok(())
+}

@@ -1,0 +1,114 @@
+//! How much work a ring takes: every ring becomes quiet, with a leader that all know, within the
+//! bound on messages of its algorithm and one announcement for each position.
+
+use crate::drain;
+use crate::worlds::{begun, known};
+use ring_any::Any;
+use ring_world::World;
+use std::alloc::Global;
+use std::process::Abort;
+use std::test::Fail;
+
+/// The first numbers of a row in which those from 1 to 256 stand once each, without order.
+fn scattered(alloc: Global, size: u16) -> Result<Vec<u32>, Fail> {
+    let mut numbers = Vec::new(alloc);
+    for place in 0..size {
+        numbers.push((place as u32 + 1) * 83 % 257)?;
+    }
+    Ok(numbers)
+}
+
+/// Whether the nodes at all positions know this leader.
+fn all_know(world: &World<Any>, leader: u32) -> bool {
+    for position in 0..world.nodes().len() {
+        if known(world, position) != Some(leader) {
+            return false;
+        }
+    }
+    true
+}
+
+/// Drains a ring of this size, until it is quiet and all know this leader; how many messages it
+/// took besides the announcements.
+fn messages(
+    rt: &impl Abort,
+    alloc: Global,
+    kind: Any,
+    size: u16,
+    leader: u32,
+) -> Result<u128, Fail> {
+    let mut world = begun(alloc, kind, &scattered(alloc, size)?)?;
+    drain(&mut world, u32::MAX)?;
+    assert_eq!(rt; world.pending(), 0);
+    assert!(rt; all_know(&world, leader), "{kind:?} on {size}");
+    let messages = world.delivered().checked_sub(size as u128);
+    Ok(messages.ok_or("an announcement is missing")?)
+}
+
+#[test]
+fn lelann_takes_at_most_n_squared(rt: HostRuntime) -> Result<(), Fail> {
+    for (size, leader, bound) in [
+        (1, 83, 1),
+        (2, 166, 4),
+        (3, 249, 9),
+        (4, 249, 16),
+        (256, 256, 65536),
+    ] {
+        let taken = messages(&rt, rt.alloc(), Any::LeLann, size, leader)?;
+        assert!(rt; taken <= bound, "{taken} on {size}");
+    }
+    Ok(())
+}
+
+#[test]
+fn chang_takes_at_most_n_squared(rt: HostRuntime) -> Result<(), Fail> {
+    for (size, leader, bound) in [
+        (1, 83, 1),
+        (2, 166, 4),
+        (3, 249, 9),
+        (4, 249, 16),
+        (256, 256, 65536),
+    ] {
+        let taken = messages(&rt, rt.alloc(), Any::Chang, size, leader)?;
+        assert!(rt; taken <= bound, "{taken} on {size}");
+    }
+    Ok(())
+}
+
+#[test]
+fn hirschberg_takes_at_most_its_phases(rt: HostRuntime) -> Result<(), Fail> {
+    for (size, leader, bound) in [
+        (1, 83, 4),
+        (2, 166, 32),
+        (3, 249, 108),
+        (4, 249, 192),
+        (256, 256, 2359296),
+    ] {
+        let taken = messages(&rt, rt.alloc(), Any::Hirschberg, size, leader)?;
+        assert!(rt; taken <= bound, "{taken} on {size}");
+    }
+    Ok(())
+}
+
+#[test]
+fn peterson_takes_at_most_its_rounds(rt: HostRuntime) -> Result<(), Fail> {
+    for (size, leader, bound) in [
+        (1, 83, 2),
+        (2, 83, 8),
+        (3, 83, 12),
+        (4, 75, 24),
+        (256, 67, 4608),
+    ] {
+        let taken = messages(&rt, rt.alloc(), Any::Peterson, size, leader)?;
+        assert!(rt; taken <= bound, "{taken} on {size}");
+    }
+    Ok(())
+}
+
+#[test]
+fn peterson_takes_its_bound_on_4_1_3_2(rt: HostRuntime) -> Result<(), Fail> {
+    let mut world = begun(rt.alloc(), Any::Peterson, &[4, 1, 3, 2])?;
+    assert_eq!(rt; drain(&mut world, 100)?, 24 + 4);
+    assert!(rt; all_know(&world, 2));
+    Ok(())
+}
