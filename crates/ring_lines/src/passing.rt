@@ -55,11 +55,7 @@ fn feed<W: Outlet>(page: &mut Page, writer: &mut W, bytes: &[u8]) -> Result<(), 
 ///
 /// At `Err` a front of what the page held and of the line was written, and the last write call failed
 /// or took no byte.
-pub fn pass_on<W: Outlet>(
-    reply: &Reply,
-    page: &mut Page,
-    writer: &mut W,
-) -> Result<(), WriteFailed>
+pub fn pass_on<W: Outlet>(reply: &Reply, page: &mut Page, writer: &mut W) -> Result<(), WriteFailed>
     ensures ok { OnOk result (Passes W.write_gives writer.old page.old.text (reply_line reply.now) writer.new page.new.text) }
     ensures err { OnErr result (WroteFront W.write_gives writer.old (page.old.text ++ reply_line reply.now) writer.new) }
 {

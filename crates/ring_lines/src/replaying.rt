@@ -1,6 +1,6 @@
 ghost use Rattle.ring_lines.specs.Replay.{RepliesTo, Replays};
 
-use crate::answers::{LineFault, Next};
+use crate::answers::{Line, LineFault, Next};
 use crate::buffer::LineBuffer;
 use crate::ends::{Intake, Outlet};
 use crate::page::Page;
@@ -44,7 +44,7 @@ pub fn replay<R: Intake, W: Outlet>(
             return Err(LineFault::Write);
         };
         let reply = match lines.next(reader) {
-            Next::Line(line) => reply_to(alloc, &mut mux, line.bytes()),
+            Next::Line(line) => reply_to(alloc, &mut mux, &line),
             Next::Long => Reply::Refused(Refusal::BadLine),
             Next::End => return close(&mut page, writer, Ok(count)),
             Next::Fault(fault) => return close(&mut page, writer, Err(fault)),
@@ -57,10 +57,10 @@ pub fn replay<R: Intake, W: Outlet>(
 }
 
 // The reply to a line, which is a step of the mux where it spells an event.
-fn reply_to(alloc: Global, mux: &mut Mux<Any>, line: &[u8]) -> Reply
+fn reply_to(alloc: Global, mux: &mut Mux<Any>, line: &Line) -> Reply
     ensures { RepliesTo line.now mux.old.object result mux.new.object }
 {
-    match parse_event(line) {
+    match parse_event(line.bytes()) {
         Some(event) => mux.step(alloc, event),
         None => Reply::Refused(Refusal::BadLine),
     }
