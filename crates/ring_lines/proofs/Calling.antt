@@ -6,15 +6,6 @@ use Rattle.std.proofs.lemmas.List.Folds.{list_all-append}
 use Rattle.std.proofs.lemmas.Bool.{and_from}
 use Rattle.ring_lines.specs.Ends.{Calls, Reading, bytes_in, bytes_of, goes_on, LastOf}
 
--- calls, and then more calls
-pub Calls-append : {S A : Type 0} (gives : S → A → S → Type 0) (from mid to : S) (first second : List A) → Calls gives from first mid → Calls gives mid second to → Calls gives from (first ++ second) to
-Calls-append gives from mid to [] second a b = subst (λ s. Calls gives s second to) a b
-Calls-append gives from mid to (answer ∷ first) second a b = (a.0, a.1, Calls-append gives a.0 mid to first second a.2 b)
-
--- the bytes of two lists of calls
-pub bytes_of-append : {E : Type 0} (first second : List (Result (List ℕ) E)) → bytes_of (first ++ second) ≡ bytes_of first ++ bytes_of second
-bytes_of-append {E} first second = flat_map-append bytes_in first second
-
 -- another call may follow each of two lists of calls
 pub went_on-append : (first second : List Reading) → list_all goes_on first ≡ true → list_all goes_on second ≡ true → list_all goes_on (first ++ second) ≡ true
 went_on-append first second a b = list_all-append goes_on first second ∙ and_from _ _ a b

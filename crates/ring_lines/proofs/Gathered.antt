@@ -13,7 +13,8 @@ use Rattle.ring_lines.specs.declared.answers.LineFault.TheVariants as fault
 use Rattle.ring_lines.specs.declared.answers.Phase.{Phase}
 use Rattle.ring_lines.specs.declared.answers.Phase.TheVariants as phase
 use Rattle.ring_lines.specs.declared.answers.Next.TheVariants as next
-use Rattle.ring_lines.proofs.Calling.{Calls-append, bytes_of-append, went_on-append, LastOf-append}
+use Rattle.ring_lines.specs.Sequences.{Calls-append, bytes_of-append}
+use Rattle.ring_lines.proofs.Calling.{went_on-append, LastOf-append}
 use Rattle.ring_lines.proofs.Cutting.{lines_of-line, whole_lines_of-line, lines_of-rest, whole_lines_of-rest}
 
 -- What was dropped of the line at hand: more than a line may have, or nothing.

@@ -9,7 +9,7 @@ use Rattle.ring_lines.specs.declared.answers.Phase.{Phase}
 use Rattle.ring_lines.specs.declared.answers.Phase.TheVariants as phase
 use Rattle.ring_lines.specs.declared.answers.Next.{Next}
 use Rattle.ring_lines.specs.declared.answers.Next.TheVariants as next
-use Rattle.ring_lines.proofs.Calling.{Calls-append, bytes_of-append}
+use Rattle.ring_lines.specs.Sequences.{Calls-append, bytes_of-append}
 use Rattle.ring_lines.proofs.Gathered.{stops-append}
 
 -- Calls of `next`, one after another, and the lines that they gave: the lines of all that was held and read.

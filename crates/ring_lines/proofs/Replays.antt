@@ -7,12 +7,12 @@ use Rattle.ring_mux.specs.declared.reply.Reply.{Reply}
 use Rattle.ring_mux.specs.declared.reply.Reply.TheVariants.{Refused}
 use Rattle.ring_id.specs.declared.refusal.Refusal.TheVariants.{BadLine}
 use Rattle.ring_grammar.specs.Spelling.{reply_line}
-use Rattle.ring_lines.specs.Ends.{Reading, Writing, bytes_of, LastOf, Wrote}
+use Rattle.ring_lines.specs.Ends.{Reading, Writing, bytes_of, LastOf, Wrote, WroteFront}
 use Rattle.ring_lines.specs.Lines.{lines_of, onto_whole, whole_lines_of}
 use Rattle.ring_lines.specs.Buffer.{BufferView}
 use Rattle.ring_lines.specs.Reader.{Cuts, GivesNext, Shows, Stops, most_bytes}
 use Rattle.ring_lines.specs.Pages.{Closes, Passes}
-use Rattle.ring_lines.specs.Replay.{Answered, Ends, FirstLines, RepliesTo, Replays, WrotePart, WroteReplies, WroteSome}
+use Rattle.ring_lines.specs.Replay.{Answered, Ends, FirstLines, RepliesTo, Replays, WroteReplies, WroteSome}
 use Rattle.ring_lines.specs.declared.answers.LineFault.{LineFault}
 use Rattle.ring_lines.specs.declared.answers.LineFault.TheVariants as fault
 use Rattle.ring_lines.specs.declared.answers.Phase.{Phase}
@@ -20,7 +20,7 @@ use Rattle.ring_lines.specs.declared.answers.Phase.TheVariants as phase
 use Rattle.ring_lines.specs.declared.answers.Next.{Next}
 use Rattle.ring_lines.specs.declared.answers.Next.TheVariants as next
 use Rattle.ring_lines.proofs.Given.{Gives, GivenNext, gives_next, gives_none}
-use Rattle.ring_lines.proofs.Writing.{wrote_none, wrote_part, wrote_then, wrote_then_part}
+use Rattle.ring_lines.specs.Sequences.{wrote_next, wrote_none, wrote_then}
 
 -- a buffer before its first line
 abbrev pub fresh : ℕ → BufferView
@@ -98,16 +98,16 @@ module _ {S V : Type 0} (reading : S → Reading → S → Type 0) (writing : V 
     }
 
     -- a front of the replies was written
-    pub replaying_part : (writer_then : V) → WrotePart writing writer_now page writer_then → WroteSome writing writer r.lines writer_then
+    pub replaying_part : (writer_then : V) → WroteFront writing writer_now page writer_then → WroteSome writing writer r.lines writer_then
     replaying_part writer_then w = record {
       text = r.written ++ page;
       final = object;
       answered = r.answered;
-      wrote = wrote_then_part r.wrote w;
+      wrote = wrote_next r.wrote w;
     }
 
     -- writing failed, after these read calls
-    pub replays_write : (writer_then : V) → WrotePart writing writer_now page writer_then → Replays reading writing reader writer reads (Err fault.Write) reader_now writer_then
+    pub replays_write : (writer_then : V) → WroteFront writing writer_now page writer_then → Replays reading writing reader writer reads (Err fault.Write) reader_now writer_then
     replays_write writer_then w = record {
       log = r.read.log;
       calls = r.read.calls;
@@ -161,12 +161,12 @@ module _ {S V : Type 0} (reading : S → Reading → S → Type 0) (writing : V 
     -- a close at the end of the input
     pub closes_end : (result : Result ℕ LineFault) (writer_then : V) → buffer.phase ≡ phase.Ended → Closes writing writer_now page (Ok count) result writer_then → Replays reading writing reader writer reads result reader_now writer_then
     closes_end result writer_then ended (inl done) = rw done.0 (replays_end writer_then ended done.1)
-    closes_end result writer_then ended (inr failed) = rw failed.0 (replays_write writer_then (wrote_part failed.1))
+    closes_end result writer_then ended (inr failed) = rw failed.0 (replays_write writer_then failed.1)
 
     -- a close after a fault of the reader
     pub closes_fault : (faulted : LineFault) (result : Result ℕ LineFault) (writer_then : V) → buffer.phase ≡ phase.Faulted faulted → Closes writing writer_now page (Err faulted) result writer_then → Replays reading writing reader writer reads result reader_now writer_then
     closes_fault faulted result writer_then is (inl done) = rw done.0 (replays_fault faulted writer_then is done.1)
-    closes_fault faulted result writer_then is (inr failed) = rw failed.0 (replays_write writer_then (wrote_part failed.1))
+    closes_fault faulted result writer_then is (inr failed) = rw failed.0 (replays_write writer_then failed.1)
 
     -- the next call gave no line
     pub replaying_over : (answer : Next) (after : S) (new : BufferView) → (g : GivenNext reading reader (fresh reads) r.lines answer after new) → g.given ≡ [] → Replaying reading writing reader writer reads count after writer_now new page object
@@ -195,7 +195,7 @@ module _ {S V : Type 0} (reading : S → Reading → S → Type 0) (writing : V 
         }
 
     -- the next call gave a line, and of its reply a front was written
-    pub replays_line_write : (line : List ℕ) (answer : Next) (after : S) (new : BufferView) (reply : Reply) (object_then : Object Any) (writer_then : V) → (g : GivenNext reading reader (fresh reads) r.lines answer after new) → g.given ≡ line ∷ [] → RepliesTo line object reply object_then → WrotePart writing writer_now (page ++ reply_line reply) writer_then → Replays reading writing reader writer reads (Err fault.Write) after writer_then
+    pub replays_line_write : (line : List ℕ) (answer : Next) (after : S) (new : BufferView) (reply : Reply) (object_then : Object Any) (writer_then : V) → (g : GivenNext reading reader (fresh reads) r.lines answer after new) → g.given ≡ line ∷ [] → RepliesTo line object reply object_then → WroteFront writing writer_now (page ++ reply_line reply) writer_then → Replays reading writing reader writer reads (Err fault.Write) after writer_then
     replays_line_write line answer after new reply object_then writer_then g is s w =
         let read : Gives reading reader (fresh reads) (r.lines ++ line ∷ []) after new = subst (λ (l : List (List ℕ)). Gives reading reader (fresh reads) (r.lines ++ l) after new) is g.all in
         record {
@@ -209,7 +209,7 @@ module _ {S V : Type 0} (reading : S → Reading → S → Type 0) (writing : V 
               text = r.written ++ (page ++ reply_line reply);
               final = object_then;
               answered = subst (λ text. Answered [] (r.lines ++ line ∷ []) text object_then) (append_assoc r.written page (reply_line reply)) (answered_more [] r.lines (r.written ++ page) object line reply object_then r.answered s);
-              wrote = wrote_then_part r.wrote w;
+              wrote = wrote_next r.wrote w;
             },
           );
         }

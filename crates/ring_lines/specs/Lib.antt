@@ -8,3 +8,4 @@ pub mod Page
 pub mod Pages
 pub mod Reader
 pub mod Replay
+pub mod Sequences

@@ -11,7 +11,7 @@ use Rattle.ring_mux.specs.declared.reply.Reply.{Reply}
 use Rattle.ring_mux.specs.declared.reply.Reply.TheVariants.{Refused}
 use Rattle.ring_mux.specs.Steps.{Step}
 use Rattle.ring_grammar.specs.Spelling.{Spells, reply_line}
-use Rattle.ring_lines.specs.Ends.{Reading, Writing, Calls, bytes_of, goes_on, LastOf, Wrote}
+use Rattle.ring_lines.specs.Ends.{Reading, Writing, Calls, bytes_of, goes_on, LastOf, Wrote, WroteFront}
 use Rattle.ring_lines.specs.Lines.{lines_of, whole_lines_of}
 use Rattle.ring_lines.specs.declared.ends.ReadFault.TheVariants as read_fault
 use Rattle.ring_lines.specs.declared.answers.LineFault.{LineFault}
@@ -38,13 +38,6 @@ abbrev pub Answered : Object Any → List (List ℕ) → List ℕ → Object Any
 Answered old [] text new = (text ≡ []) × (new ≡ old)
 Answered old (line ∷ lines) text new = (answer : Reply) × (mid : Object Any) × (rest : List ℕ) × RepliesTo line old answer mid × Answered mid lines rest new × (text ≡ reply_line answer ++ rest)
 
--- A front of this text was written, in the order of the text.
-pub record WrotePart {V : Type 0} (gives : V → Writing → V → Type 0) (from : V) (text : List ℕ) (to : V) : Type 0 where
-  pub part : List ℕ
-  pub rest : List ℕ
-  pub wrote : Wrote gives from part to
-  pub whole : part ++ rest ≡ text
-
 -- All replies to these lines were written: they are one run from no groups at all.
 pub record WroteReplies {V : Type 0} (gives : V → Writing → V → Type 0) (from : V) (lines : List (List ℕ)) (to : V) : Type 0 where
   pub text : List ℕ
@@ -52,12 +45,13 @@ pub record WroteReplies {V : Type 0} (gives : V → Writing → V → Type 0) (f
   pub answered : Answered [] lines text final
   pub wrote : Wrote gives from text to
 
--- A front of the replies to these lines was written.
+-- A front of the replies to these lines was written and not the rest: the last write call failed or
+-- took no byte.
 pub record WroteSome {V : Type 0} (gives : V → Writing → V → Type 0) (from : V) (lines : List (List ℕ)) (to : V) : Type 0 where
   pub text : List ℕ
   pub final : Object Any
   pub answered : Answered [] lines text final
-  pub wrote : WrotePart gives from text to
+  pub wrote : WroteFront gives from text to
 
 -- the first lines of a text
 pub record FirstLines (text : List ℕ) (lines : List (List ℕ)) : Type 0 where

@@ -12,6 +12,7 @@ mod buffer;
 mod drip;
 mod ends;
 mod page;
+mod passing;
 mod reader;
 mod replaying;
 
@@ -20,6 +21,7 @@ pub use buffer::LineBuffer;
 pub use drip::{DripIn, DripOut};
 pub use ends::{FromRead, Intake, Outlet, ReadFault, ToWrite, WriteFailed, put};
 pub use page::Page;
+pub use passing::{close, pass_on, write_before_reading};
 pub use reader::LineReader;
 pub use replaying::replay;
 pub use ring_grammar::{one_spelling, parse_command, parse_event, print_reply};

@@ -1,14 +1,12 @@
-ghost use Rattle.std.specs.Prelude.{◌++◌, [], OnErr, OnOk};
-ghost use Rattle.ring_grammar.specs.Spelling.{reply_line};
-ghost use Rattle.ring_lines.specs.Pages.{Closes, Passes};
-ghost use Rattle.ring_lines.specs.Replay.{RepliesTo, Replays, WrotePart};
+ghost use Rattle.ring_lines.specs.Replay.{RepliesTo, Replays};
 
-use crate::answers::{LineFault, Next};
+use crate::answers::{Line, LineFault, Next};
 use crate::buffer::LineBuffer;
-use crate::ends::{Intake, Outlet, WriteFailed};
+use crate::ends::{Intake, Outlet};
 use crate::page::Page;
+use crate::passing::{close, pass_on, write_before_reading};
 use ring_any::Any;
-use ring_grammar::{parse_event, print_reply};
+use ring_grammar::parse_event;
 use ring_id::Refusal;
 use ring_mux::{Mux, Reply};
 use std::alloc::Global;
@@ -46,7 +44,7 @@ pub fn replay<R: Intake, W: Outlet>(
             return Err(LineFault::Write);
         };
         let reply = match lines.next(reader) {
-            Next::Line(line) => reply_to(alloc, &mut mux, line.bytes()),
+            Next::Line(line) => reply_to(alloc, &mut mux, &line),
             Next::Long => Reply::Refused(Refusal::BadLine),
             Next::End => return close(&mut page, writer, Ok(count)),
             Next::Fault(fault) => return close(&mut page, writer, Err(fault)),
@@ -59,63 +57,12 @@ pub fn replay<R: Intake, W: Outlet>(
 }
 
 // The reply to a line, which is a step of the mux where it spells an event.
-fn reply_to(alloc: Global, mux: &mut Mux<Any>, line: &[u8]) -> Reply
+fn reply_to(alloc: Global, mux: &mut Mux<Any>, line: &Line) -> Reply
     ensures { RepliesTo line.now mux.old.object result mux.new.object }
 {
-    match parse_event(line) {
+    match parse_event(line.bytes()) {
         Some(event) => mux.step(alloc, event),
         None => Reply::Refused(Refusal::BadLine),
-    }
-}
-
-// Writes the page where no line is held, so that replies are out before more is waited for.
-fn write_before_reading<W: Outlet>(
-    lines: &LineBuffer,
-    page: &mut Page,
-    writer: &mut W,
-) -> Result<(), WriteFailed>
-    ensures ok { OnOk result (Passes W.write_gives writer.old page.old.text [] writer.new page.new.text) }
-    ensures err { OnErr result (WrotePart W.write_gives writer.old page.old.text writer.new) }
-{
-    if lines.has_line() {
-        return Ok(());
-    }
-    match page.write_out(writer) {
-        Ok(()) => Ok(()),
-        Err(WriteFailed) => Err(WriteFailed),
-    }
-}
-
-// The line of a reply onto the page, behind which the page is written where it has no room.
-fn pass_on<W: Outlet>(reply: &Reply, page: &mut Page, writer: &mut W) -> Result<(), WriteFailed>
-    ensures ok { OnOk result (Passes W.write_gives writer.old page.old.text (reply_line reply.now) writer.new page.new.text) }
-    ensures err { OnErr result (WrotePart W.write_gives writer.old (page.old.text ++ reply_line reply.now) writer.new) }
-{
-    let len = page.text().len();
-    if let Ok(()) = print_reply(reply, page) {
-        return Ok(());
-    }
-    page.cut(len);
-    let Ok(()) = page.write_out(writer) else {
-        return Err(WriteFailed);
-    };
-    match print_reply(reply, page) {
-        Ok(()) => Ok(()),
-        Err(_) => Err(WriteFailed),
-    }
-}
-
-// Writes the page, and answers what the lines came to, or that writing failed.
-fn close<W: Outlet>(
-    page: &mut Page,
-    writer: &mut W,
-    came_to: Result<u64, LineFault>,
-) -> Result<u64, LineFault>
-    ensures { Closes W.write_gives writer.old page.old.text came_to result writer.new }
-{
-    match page.write_out(writer) {
-        Ok(()) => came_to,
-        Err(_) => Err(LineFault::Write),
     }
 }
 

@@ -10,26 +10,11 @@ mod rows;
 mod runs;
 
 use anyhow::{Context, Result, bail};
-use rows::{Row, input_of, replies_of, rows_of};
+use rows::{Row, first_other, input_of, replies_of, rows_of};
 use runs::{Way, replies_by};
 use std::process::ExitCode;
 use std::rt::{Env, Files};
 use std::{env, fs, str};
-
-/// The byte that ends a line.
-const LF: u8 = b'\n';
-
-// The first row that is answered otherwise than it says, and its answer where it has one.
-fn first_other<'a, 'b>(rows: &'a [Row<'a>], replies: &'b [u8]) -> Option<(&'a Row<'a>, &'b [u8])> {
-    let mut answers = replies.split(|byte| *byte == LF);
-    for row in rows {
-        let answer = answers.next().unwrap_or(b"");
-        if answer != row.reply.as_bytes() {
-            return Some((row, answer));
-        }
-    }
-    None
-}
 
 // Says which row is answered otherwise.
 fn tell(rt: &impl Print, name: &str, way: Way, rows: &[Row], replies: &[u8]) -> Result<()> {

@@ -6,6 +6,9 @@
 use anyhow::{Context, Result, bail};
 use std::alloc::{AllocError, Global};
 
+/// The byte that ends a line.
+const LF: u8 = b'\n';
+
 /// A command with the reply that it has to get, and the number of its line in the file.
 #[derive(Clone, Copy, Debug)]
 pub struct Row<'a> {
@@ -51,7 +54,7 @@ pub fn input_of(alloc: Global, rows: &[Row]) -> Result<Vec<u8>> {
     let mut input = Vec::new(alloc);
     for row in rows {
         put_command(row.command, &mut input)?;
-        input.push(b'\n')?;
+        input.push(LF)?;
     }
     Ok(input)
 }
@@ -61,9 +64,25 @@ pub fn replies_of(alloc: Global, rows: &[Row]) -> Result<Vec<u8>, AllocError> {
     let mut replies = Vec::new(alloc);
     for row in rows {
         replies.extend_from_slice(row.reply.as_bytes())?;
-        replies.push(b'\n')?;
+        replies.push(LF)?;
     }
     Ok(replies)
+}
+
+/// The first row that is answered otherwise than it says, and its answer, which is empty where it has
+/// none.
+pub fn first_other<'a, 'b>(
+    rows: &'a [Row<'a>],
+    replies: &'b [u8],
+) -> Option<(&'a Row<'a>, &'b [u8])> {
+    let mut answers = replies.split(|byte| *byte == LF);
+    for row in rows {
+        let answer = answers.next().unwrap_or(b"");
+        if answer != row.reply.as_bytes() {
+            return Some((row, answer));
+        }
+    }
+    None
 }
 
 // The bytes of a command.
@@ -123,3 +142,6 @@ fn put_times(byte: u8, count: u32, out: &mut Vec<u8>) -> Result<(), AllocError> 
     }
     Ok(())
 }
+
+#[cfg(test)]
+mod tests;

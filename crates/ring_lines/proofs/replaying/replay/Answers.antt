@@ -1,4 +1,4 @@
-use Rattle.std.proofs.Common.{◌+◌, subst}
+use Rattle.std.proofs.Common.{◌+◌, refl, subst}
 use Rattle.ring_grammar.specs.Spelling.{reply_line}
 use Rattle.ring_lines.specs.Pages.{Passes}
 use Rattle.ring_lines.specs.Reader.{Shows}
@@ -44,7 +44,7 @@ turned : (g : Over) (c : After-pass_on g) → Turned (given g (goal.at.After-pas
 turned g c =
     let n = given g (goal.at.After-pass_on g c).After-next in
     elim c.match-next.branch [
-      | in-Line w ↦ rw (w.mux-is, w.reply-is) (turned_line _ _ _ _ _ _ _ _ w.in-Line.is n.shows w.bytes.ensures.value w.reply_to-reply.ensures)
+      | in-Line w ↦ rw (w.mux-is, w.reply-is) (turned_line _ _ _ _ _ _ _ _ w.in-Line.is n.shows refl w.reply_to-reply.ensures)
       | in-Long w ↦ rw (w.mux-is, w.reply-is) (turned_long _ _ _ _ w.in-Long.is n.shows)
     ]
 
