@@ -1,7 +1,8 @@
 //! Replies on their way to a writer: they gather on a page, which is written where it has no room.
-ghost use Rattle.std.specs.Prelude.{◌++◌, [], OnErr, OnOk};
+ghost use Rattle.std.specs.Prelude.{◌≡◌, ◌++◌, [], false, OnErr, OnOk};
 ghost use Rattle.ring_grammar.specs.Spelling.{reply_line};
 ghost use Rattle.ring_lines.specs.Ends.{WroteFront};
+ghost use Rattle.ring_lines.specs.Lines.{has_lf};
 ghost use Rattle.ring_lines.specs.Pages.{Closes, Passes};
 
 use crate::answers::LineFault;
@@ -73,6 +74,7 @@ pub fn write_before_reading<W: Outlet>(
     writer: &mut W,
 ) -> Result<(), WriteFailed>
     ensures ok { OnOk result (Passes W.write_gives writer.old page.old.text [] writer.new page.new.text) }
+    ensures emptied { OnOk result (has_lf lines.now.held ≡ false → page.new.text ≡ []) }
     ensures err { OnErr result (WroteFront W.write_gives writer.old page.old.text writer.new) }
 {
     if lines.has_line() {
