@@ -1,4 +1,4 @@
-ghost use Rattle.std.specs.Prelude.{◌≡◌, ◌∷◌, [], map, replicate, IfOk, None};
+ghost use Rattle.std.specs.Prelude.{◌≡◌, [], map, replicate, IfOk, None};
 ghost use Rattle.ring_mux.specs.declared.event.Command.TheVariants as command;
 ghost use Rattle.ring_terms.specs.Charters.{next_charter};
 ghost use Rattle.ring_terms.specs.Commands.{in_group, start_refusal};
