@@ -14,6 +14,7 @@ mod node;
 mod packet;
 mod port;
 mod report;
+mod room;
 mod step;
 
 pub use charter::Charter;

@@ -13,6 +13,7 @@ use crate::fault::TakeFault;
 use crate::packet::Packet;
 use crate::port::Port;
 use crate::report::Report;
+use crate::room::find_room;
 use crate::step::{count, learn, run};
 use ring_election::RingElection;
 use ring_id::{NoMemory, NodeId, Side};
@@ -183,12 +184,11 @@ impl<E: RingElection> Node<E> {
         ensures faithful { OnOk result (IsFaithful E.table E.fits E.winner self.new) }
         ensures err { OnErr result (self.new ≡ self.old) }
     {
-        self.left.make_room()?;
-        self.right.make_room()?;
-        if self.journal.reserve(1).is_err() {
-            return Err(NoMemory);
-        }
         let algorithm = self.charter.algorithm();
+        let ring = self.charter.roster().len();
+        self.left.make_room(ring)?;
+        self.right.make_room(ring)?;
+        find_room(&mut self.journal, 1, ring)?;
         let brought = run(
             algorithm,
             &mut self.state,

@@ -4,6 +4,7 @@ ghost use Rattle.ring_node.specs.Journals.{algo_count, leader_count};
 ghost use Rattle.ring_node.specs.Ports.{all_algos, all_leaders};
 
 use crate::packet::Packet;
+use crate::room::find_room;
 use ring_id::{NoMemory, NodeId};
 use std::alloc::Global;
 
@@ -22,7 +23,7 @@ impl<M: Copy> Port<M> {
         ensures algos { IfOk result (λ port. port.algos ≡ 0) }
         ensures leaders { IfOk result (λ port. port.leaders ≡ 0) }
     {
-        let Ok(sent) = Vec::with_capacity(alloc, 1) else {
+        let Ok(sent) = Vec::with_capacity(alloc, 4) else {
             return Err(NoMemory);
         };
         let mut port = Port {
@@ -34,17 +35,15 @@ impl<M: Copy> Port<M> {
         Ok(port)
     }
 
-    /// Finds room for a message and an announcement. What was sent and taken stays in any case.
-    pub fn make_room(&mut self) -> Result<(), NoMemory>
+    /// Finds room for a message and an announcement, at a node of a ring of this length. What was sent
+    /// and taken stays in any case.
+    pub fn make_room(&mut self, ring: usize) -> Result<(), NoMemory>
         ensures sent { self.new.sent.items ≡ self.old.sent.items }
         ensures algos { self.new.algos ≡ self.old.algos }
         ensures leaders { self.new.leaders ≡ self.old.leaders }
         ensures room { OnOk result (vec_len self.new.sent + 2 ≤ vec_capacity self.new.sent) }
     {
-        if self.sent.reserve(2).is_err() {
-            return Err(NoMemory);
-        }
-        Ok(())
+        find_room(&mut self.sent, 2, ring)
     }
 
     /// Sends a message of the algorithm, if there is one.

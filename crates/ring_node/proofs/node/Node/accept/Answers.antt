@@ -42,7 +42,7 @@ invariant_of-self-2 g c =
     let left_sent = rw (c.algorithm-algorithm.ensures, c.deref.ensures, c.make_room.ensures.sent) at c.in_ok-brought.ensures.left in
     let right_sent = rw (c.algorithm-algorithm.ensures, c.deref.ensures, c.make_room-2.ensures.sent) at c.in_ok-brought.ensures.right in
     let proper = rw (← c.self.view_is) at c.requires in
-    rw (c.push_reserved.ensures.items, c.reserve.ensures.items)
+    rw (c.push_reserved.ensures.items, c.find_room.ensures.items)
     (seated_after _ _ _ lawful _ _ _ _ _ _ _ _ c.self.invariant c.args.from c.args.packet proper _ _ _ _ state_is
     (c.learn-news.ensures.known ∙ ap (kept_or c.self.inside.known) brought_is)
     (port_after _ _ _ lawful _ _ _ _ _ _ _ _ c.self.invariant c.args.from Left c.args.packet _ _ c.self.invariant.left_is
@@ -56,13 +56,13 @@ invariant_of-self-2 g c =
     (c.count.ensures.leaders_right ∙ ap (λ (n : ℕ). n + leader_count (taken_from Right taken)) (c.announce.ensures.leaders ∙ c.run.ensures.counts_right.1 ∙ c.make_room-2.ensures.leaders))))
 
 pub returns-clause-journal : goal.returns-clause-journal
-returns-clause-journal g c = rw (← c.self.view_is, c.push_reserved.ensures.items, c.reserve.ensures.items) refl
+returns-clause-journal g c = rw (← c.self.view_is, c.push_reserved.ensures.items, c.find_room.ensures.items) refl
 
 pub returns-clause-news : goal.returns-clause-news
 returns-clause-news g c =
     let lawful = g.met.E.RingElection.lawful c.self.inside.charter.value.algorithm in
     let brought_is = rw (c.algorithm-algorithm.ensures, c.deref.ensures) at c.in_ok-brought.ensures.brought in
-    rw (← c.self.view_is, c.push_reserved.ensures.items, c.reserve.ensures.items, get_or_from_slice_get _ _ _ 0 c.self.invariant.here)
+    rw (← c.self.view_is, c.push_reserved.ensures.items, c.find_room.ensures.items, get_or_from_slice_get _ _ _ 0 c.self.invariant.here)
     (c.learn-news.ensures.news ∙ ap (news c.self.inside.known) brought_is
     ∙ sym (news_next _ _ _ lawful _ _ _ _ _ _ _ _ c.self.invariant c.args.from c.args.packet))
 
