@@ -16,8 +16,8 @@ pub fn rounds_shrink()
 /// The round of this number of Peterson's election on a ring: the positions that are still active,
 /// in their order, each with the value that it holds (Lynch, Distributed Algorithms, 15.1.3). In
 /// round 0 all positions hold their own identities; past the last round the list is empty. A plain
-/// and slow reading of that definition, to compare elections with; nodes have no use for it.
-/// Refused for want of memory alone.
+/// reading of that definition, which walks over the ring once or twice in each round, to compare
+/// elections with; nodes have no use for it. Refused for want of memory alone.
 pub fn round_of(
     alloc: Global,
     ring: &Roster,
