@@ -1,4 +1,10 @@
-ghost use Rattle.ring_peterson.specs.Rounds.{RoundsShrink};
+ghost use Rattle.std.specs.Prelude.{◌≡◌, [], IfOk, MatchOption};
+ghost use Rattle.ring_peterson.specs.Rounds.{RoundsShrink, first_round, rounds, stays_active, two_of};
+ghost use Rattle.ring_peterson.specs.Walk.{two_ends, walk_next};
+
+use ring_id::{NoMemory, NodeId};
+use ring_roster::Roster;
+use std::alloc::Global;
 
 /// How fast Peterson's election shrinks: its contract says that each round of two or more active
 /// nodes leaves at least one of them active, and at most half (Lynch, Distributed Algorithms,
@@ -6,3 +12,126 @@ ghost use Rattle.ring_peterson.specs.Rounds.{RoundsShrink};
 pub fn rounds_shrink()
     ensures { RoundsShrink }
 {}
+
+/// The round of this number of Peterson's election on a ring: the positions that are still active,
+/// in their order, each with the value that it holds (Lynch, Distributed Algorithms, 15.1.3). In
+/// round 0 all positions hold their own identities; past the last round the list is empty. A plain
+/// reading of that definition, which walks over the ring once or twice in each round, to compare
+/// elections with; nodes have no use for it. Refused for want of memory alone.
+pub fn round_of(
+    alloc: Global,
+    ring: &Roster,
+    number: usize,
+) -> Result<Vec<(usize, NodeId)>, NoMemory>
+    ensures { IfOk result (λ round. round.items ≡ rounds number (first_round ring.now)) }
+{
+    let mut round = first_of(alloc, ring)?;
+    for _ in 0..number {
+        if round.is_empty() {
+            break;
+        }
+        round = next_of(alloc, &round)?;
+    }
+    Ok(round)
+}
+
+/// The first round: each position with its own identity.
+fn first_of(alloc: Global, ring: &Roster) -> Result<Vec<(usize, NodeId)>, NoMemory>
+    ensures { IfOk result (λ round. round.items ≡ first_round ring.now) }
+{
+    let mut round = Vec::new(alloc);
+    for position in 0..ring.len() {
+        if let Some(node) = ring.at(position) {
+            round.push((position, node)).map_err(|_| NoMemory)?;
+        }
+    }
+    Ok(round)
+}
+
+/// The next round, in one walk over the entries that carries the two values met last.
+fn next_of(alloc: Global, round: &[(usize, NodeId)]) -> Result<Vec<(usize, NodeId)>, NoMemory>
+    ensures { IfOk result (λ next. next.items ≡ walk_next round.now) }
+{
+    let mut next = Vec::new(alloc);
+    let Some((mut before, mut last)) = ends(round) else {
+        return Ok(next);
+    };
+    for entry in round {
+        if stays(entry.1, before, last) {
+            next.push((entry.0, last)).map_err(|_| NoMemory)?;
+        }
+        before = last;
+        last = entry.1;
+    }
+    Ok(next)
+}
+
+/// Whether a position that holds this value stays active, where these two values stand to its left.
+fn stays(value: NodeId, before: NodeId, last: NodeId) -> bool
+    ensures { result ≡ stays_active value (two_of before last) }
+{
+    value < last && before < last
+}
+
+/// The last two values of a round, which stand to the left of its first position; a position that
+/// is alone is its own predecessor.
+fn ends(round: &[(usize, NodeId)]) -> Option<(NodeId, NodeId)>
+    ensures { MatchOption result (round.now ≡ []) (λ two. two_of two.0 two.1 ≡ two_ends round.now) }
+{
+    let first = round.first()?;
+    let mut before = first.1;
+    let mut last = first.1;
+    for entry in round {
+        before = last;
+        last = entry.1;
+    }
+    Some((before, last))
+}
+
+#[cfg(test)]
+mod tests {
+    use crate::round_of;
+    use ring_id::NodeId;
+    use ring_roster::Roster;
+    use std::alloc::Global;
+    use std::test::Fail;
+
+    /// The round of this number on the ring of these identities, in numbers.
+    fn numbers_of(
+        alloc: Global,
+        numbers: &[u32],
+        number: usize,
+    ) -> Result<Vec<(usize, u32)>, Fail> {
+        let mut members = Vec::new(alloc);
+        for number in numbers {
+            members.push(NodeId::new(*number).ok_or("no identity is 0")?)?;
+        }
+        let ring = Roster::from_members(alloc, &members).map_err(|_| "no ring")?;
+        let mut round = Vec::new(alloc);
+        for entry in round_of(alloc, &ring, number)? {
+            round.push((entry.0, entry.1.get()))?;
+        }
+        Ok(round)
+    }
+
+    #[test]
+    fn rounds_are_those_of_the_worked_rings(rt: HostRuntime) -> Result<(), Fail> {
+        let worked: [(&[u32], usize, &[(usize, u32)]); 10] = [
+            (&[3, 1, 2], 0, &[(0, 3), (1, 1), (2, 2)]),
+            (&[3, 1, 2], 1, &[(1, 3)]),
+            (&[3, 1, 2], 2, &[]),
+            (&[4, 1, 3, 2], 0, &[(0, 4), (1, 1), (2, 3), (3, 2)]),
+            (&[4, 1, 3, 2], 1, &[(1, 4), (3, 3)]),
+            (&[4, 1, 3, 2], 2, &[(3, 4)]),
+            (&[4, 1, 3, 2], 3, &[]),
+            (&[5, 9], 1, &[(0, 9)]),
+            (&[7], 0, &[(0, 7)]),
+            (&[7], 1, &[]),
+        ];
+        for (numbers, number, round) in worked {
+            let found = numbers_of(rt.alloc(), numbers, number)?;
+            assert_eq!(rt; found.as_slice(), round, "{numbers:?} {number}");
+        }
+        Ok(())
+    }
+}
