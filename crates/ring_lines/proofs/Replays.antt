@@ -68,7 +68,7 @@ whole_first (byte ∷ text) =
     ] refl
 
 -- the lines that were given are the first of those that were read
-given_first : (after : Phase) (text rest : List ℕ) (lines : List (List ℕ)) → Cuts after text lines rest → FirstLines text lines
+pub given_first : (after : Phase) (text rest : List ℕ) (lines : List (List ℕ)) → Cuts after text lines rest → FirstLines text lines
 given_first phase.Open text rest lines c = record { others = lines_of rest; whole = ap (λ (t : List ℕ). lines ++ lines_of t) (sym (append-nil rest)) ∙ (sym (c.lines []) ∙ ap (λ (t : List ℕ). lines_of t) (append-nil text)) }
 given_first phase.Ended text rest lines c = record { others = []; whole = append-nil lines ∙ sym c }
 given_first (phase.Faulted fault) text rest lines c = subst (λ l. FirstLines text l) c (whole_first text)

@@ -4,12 +4,11 @@ use Rattle.ring_id.specs.declared.refusal.Refusal.TheVariants.{BadLine}
 use Rattle.ring_mux.specs.declared.reply.Reply.{Reply}
 use Rattle.ring_mux.specs.declared.reply.Reply.TheVariants.{Refused}
 use Rattle.ring_grammar.specs.Spelling.{reply_line}
-use Rattle.ring_lines.specs.Ends.{Reading, Writing, bytes_of, LastOf, Wrote}
+use Rattle.ring_lines.specs.Ends.{Reading, Writing, bytes_of, LastOf, Wrote, WroteFront}
 use Rattle.ring_lines.specs.Lines.{lines_of, whole_lines_of}
 use Rattle.ring_lines.specs.Buffer.{BufferView}
 use Rattle.ring_lines.specs.Reader.{Cuts, GivesNext, Shows, Stops, most_bytes}
 use Rattle.ring_lines.specs.Pages.{Closes, Passes}
-use Rattle.ring_lines.specs.Replay.{WrotePart}
 use Rattle.ring_lines.specs.declared.answers.LineFault.{LineFault}
 use Rattle.ring_lines.specs.declared.answers.LineFault.TheVariants as fault
 use Rattle.ring_lines.specs.declared.answers.Phase.{Phase}
@@ -18,8 +17,8 @@ use Rattle.ring_lines.specs.declared.answers.Next.{Next}
 use Rattle.ring_lines.specs.declared.answers.Next.TheVariants as next
 use Rattle.ring_lines.proofs.Given.{Gives, GivenNext, gives_next, gives_none}
 use Rattle.ring_lines.proofs.Replays.{fresh}
-use Rattle.ring_lines.proofs.Writing.{wrote_none, wrote_part, wrote_then, wrote_then_part}
-use Rattle.ring_service.proofs.Fronts.{given_first}
+use Rattle.ring_lines.specs.Sequences.{wrote_next, wrote_none, wrote_then}
+use Rattle.ring_lines.proofs.Replays.{given_first}
 use Rattle.ring_service.specs.Sessions.{Answered, Ends, RepliesTo, Serves, WroteReplies, WroteSome}
 
 -- one line more
@@ -69,15 +68,15 @@ module _ {S V : Type 0} (reading : S → Reading → S → Type 0) (writing : V 
     }
 
     -- a front of the replies was written
-    pub serving_part : (writer_then : V) → WrotePart writing writer_now page writer_then → WroteSome writing session writer r.lines writer_then
+    pub serving_part : (writer_then : V) → WroteFront writing writer_now page writer_then → WroteSome writing session writer r.lines writer_then
     serving_part writer_then w = record {
       text = r.written ++ page;
       answered = r.answered;
-      wrote = wrote_then_part r.wrote w;
+      wrote = wrote_next r.wrote w;
     }
 
     -- writing failed, after these read calls
-    pub serves_write : (writer_then : V) → WrotePart writing writer_now page writer_then → Serves reading writing session reader writer reads (Err fault.Write) reader_now writer_then
+    pub serves_write : (writer_then : V) → WroteFront writing writer_now page writer_then → Serves reading writing session reader writer reads (Err fault.Write) reader_now writer_then
     serves_write writer_then w = record {
       log = r.read.log;
       calls = r.read.calls;
@@ -130,12 +129,12 @@ module _ {S V : Type 0} (reading : S → Reading → S → Type 0) (writing : V 
     -- a close at the end of the input
     pub closes_end : (result : Result ℕ LineFault) (writer_then : V) → buffer.phase ≡ phase.Ended → Closes writing writer_now page (Ok count) result writer_then → Serves reading writing session reader writer reads result reader_now writer_then
     closes_end result writer_then ended (inl done) = rw done.0 (serves_end writer_then ended done.1)
-    closes_end result writer_then ended (inr failed) = rw failed.0 (serves_write writer_then (wrote_part failed.1))
+    closes_end result writer_then ended (inr failed) = rw failed.0 (serves_write writer_then failed.1)
 
     -- a close after a fault of the reader
     pub closes_fault : (faulted : LineFault) (result : Result ℕ LineFault) (writer_then : V) → buffer.phase ≡ phase.Faulted faulted → Closes writing writer_now page (Err faulted) result writer_then → Serves reading writing session reader writer reads result reader_now writer_then
     closes_fault faulted result writer_then is (inl done) = rw done.0 (serves_fault faulted writer_then is done.1)
-    closes_fault faulted result writer_then is (inr failed) = rw failed.0 (serves_write writer_then (wrote_part failed.1))
+    closes_fault faulted result writer_then is (inr failed) = rw failed.0 (serves_write writer_then failed.1)
 
     -- the next call gave no line
     pub serving_over : (answer : Next) (after : S) (new : BufferView) → (g : GivenNext reading reader (fresh reads) r.lines answer after new) → g.given ≡ [] → Serving reading writing session reader writer reads count after writer_now new page
@@ -164,7 +163,7 @@ module _ {S V : Type 0} (reading : S → Reading → S → Type 0) (writing : V 
         }
 
     -- the next call gave a line, and of its reply a front was written
-    pub serves_line_write : (line : List ℕ) (answer : Next) (after : S) (new : BufferView) (reply : Reply) (writer_then : V) → (g : GivenNext reading reader (fresh reads) r.lines answer after new) → g.given ≡ line ∷ [] → RepliesTo session line reply → WrotePart writing writer_now (page ++ reply_line reply) writer_then → Serves reading writing session reader writer reads (Err fault.Write) after writer_then
+    pub serves_line_write : (line : List ℕ) (answer : Next) (after : S) (new : BufferView) (reply : Reply) (writer_then : V) → (g : GivenNext reading reader (fresh reads) r.lines answer after new) → g.given ≡ line ∷ [] → RepliesTo session line reply → WroteFront writing writer_now (page ++ reply_line reply) writer_then → Serves reading writing session reader writer reads (Err fault.Write) after writer_then
     serves_line_write line answer after new reply writer_then g is s w =
         let read : Gives reading reader (fresh reads) (r.lines ++ line ∷ []) after new = subst (λ (l : List (List ℕ)). Gives reading reader (fresh reads) (r.lines ++ l) after new) is g.all in
         record {
@@ -177,7 +176,7 @@ module _ {S V : Type 0} (reading : S → Reading → S → Type 0) (writing : V 
             record {
               text = r.written ++ (page ++ reply_line reply);
               answered = subst (λ text. Answered session (r.lines ++ line ∷ []) text) (append_assoc r.written page (reply_line reply)) (answered_more session r.lines (r.written ++ page) line reply r.answered s);
-              wrote = wrote_then_part r.wrote w;
+              wrote = wrote_next r.wrote w;
             },
           );
         }

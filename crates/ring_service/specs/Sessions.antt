@@ -10,9 +10,9 @@ use Rattle.ring_mux.specs.declared.event.Event.TheVariants.{Client}
 use Rattle.ring_mux.specs.declared.reply.Reply.{Reply}
 use Rattle.ring_mux.specs.declared.reply.Reply.TheVariants.{Refused}
 use Rattle.ring_grammar.specs.Spelling.{Spells, reply_line}
-use Rattle.ring_lines.specs.Ends.{Reading, Writing, Calls, bytes_of, goes_on, LastOf, Wrote}
+use Rattle.ring_lines.specs.Ends.{Reading, Writing, Calls, bytes_of, goes_on, LastOf, Wrote, WroteFront}
 use Rattle.ring_lines.specs.Lines.{lines_of, whole_lines_of}
-use Rattle.ring_lines.specs.Replay.{FirstLines, WrotePart}
+use Rattle.ring_lines.specs.Replay.{FirstLines}
 use Rattle.ring_lines.specs.declared.ends.ReadFault.TheVariants as read_fault
 use Rattle.ring_lines.specs.declared.answers.LineFault.{LineFault}
 use Rattle.ring_lines.specs.declared.answers.LineFault.TheVariants as fault
@@ -51,11 +51,12 @@ pub record WroteReplies {V : Type 0} (gives : V → Writing → V → Type 0) (s
   pub answered : Answered session lines text
   pub wrote : Wrote gives from text to
 
--- A front of the replies to these lines was written.
+-- A front of the replies to these lines was written and not the rest: the last write call failed or
+-- took no byte.
 pub record WroteSome {V : Type 0} (gives : V → Writing → V → Type 0) (session : ℕ) (from : V) (lines : List (List ℕ)) (to : V) : Type 0 where
   pub text : List ℕ
   pub answered : Answered session lines text
-  pub wrote : WrotePart gives from text to
+  pub wrote : WroteFront gives from text to
 
 -- What came of a session, given its read calls. At `Ok` the input has ended and all its lines are
 -- answered. Where reading failed or went on for too long, the lines that an LF ends are answered. At

@@ -1,14 +1,11 @@
-ghost use Rattle.std.specs.Prelude.{◌++◌, [], OnErr, OnOk};
-ghost use Rattle.ring_grammar.specs.Spelling.{reply_line};
-ghost use Rattle.ring_lines.specs.Pages.{Closes, Passes};
-ghost use Rattle.ring_lines.specs.Replay.{WrotePart};
 ghost use Rattle.ring_service.specs.Sessions.{IsReply, RepliesTo, Serves};
 
 use crate::table::Table;
 use ring_any::Any;
 use ring_id::Refusal;
 use ring_lines::{
-    Intake, LineBuffer, LineFault, Next, Outlet, Page, WriteFailed, parse_command, print_reply,
+    Intake, LineBuffer, LineFault, Next, Outlet, Page, close, parse_command, pass_on,
+    write_before_reading,
 };
 use ring_mux::{Command, Reply};
 use std::alloc::Global;
@@ -97,56 +94,5 @@ impl Front {
     /// Takes the table out and leaves an empty one.
     pub(crate) fn take_table<R: Wait>(&self, rt: &R) -> Table<Any> {
         mem::replace(&mut *self.table.lock(rt), Table::new(self.alloc))
-    }
-}
-
-// Writes the page where no line is held, so that replies are out before more is waited for.
-fn write_before_reading<O: Outlet>(
-    lines: &LineBuffer,
-    page: &mut Page,
-    writer: &mut O,
-) -> Result<(), WriteFailed>
-    ensures ok { OnOk result (Passes O.write_gives writer.old page.old.text [] writer.new page.new.text) }
-    ensures err { OnErr result (WrotePart O.write_gives writer.old page.old.text writer.new) }
-{
-    if lines.has_line() {
-        return Ok(());
-    }
-    match page.write_out(writer) {
-        Ok(()) => Ok(()),
-        Err(WriteFailed) => Err(WriteFailed),
-    }
-}
-
-// The line of a reply onto the page, behind which the page is written where it has no room.
-fn pass_on<O: Outlet>(reply: &Reply, page: &mut Page, writer: &mut O) -> Result<(), WriteFailed>
-    ensures ok { OnOk result (Passes O.write_gives writer.old page.old.text (reply_line reply.now) writer.new page.new.text) }
-    ensures err { OnErr result (WrotePart O.write_gives writer.old (page.old.text ++ reply_line reply.now) writer.new) }
-{
-    let len = page.text().len();
-    if let Ok(()) = print_reply(reply, page) {
-        return Ok(());
-    }
-    page.cut(len);
-    let Ok(()) = page.write_out(writer) else {
-        return Err(WriteFailed);
-    };
-    match print_reply(reply, page) {
-        Ok(()) => Ok(()),
-        Err(_) => Err(WriteFailed),
-    }
-}
-
-// Writes the page, and answers what the lines came to, or that writing failed.
-fn close<O: Outlet>(
-    page: &mut Page,
-    writer: &mut O,
-    came_to: Result<u64, LineFault>,
-) -> Result<u64, LineFault>
-    ensures { Closes O.write_gives writer.old page.old.text came_to result writer.new }
-{
-    match page.write_out(writer) {
-        Ok(()) => came_to,
-        Err(_) => Err(LineFault::Write),
     }
 }
