@@ -1,5 +1,5 @@
 -- The deliveries of a drain, one after another.
-use Rattle.std.proofs.Common.{◌≡◌, ◌<◌, ℕ, zero, suc, Bool, true, false, cond, List, [], ◌∷◌, length, Option, Some, None, get_or, refl, sym, ap, ◌∙◌, arith, inl, inr, subst}
+use Rattle.std.proofs.Common.{◌≡◌, ◌<◌, ◌≤◌, ℕ, zero, suc, Bool, true, false, cond, List, [], ◌∷◌, length, Option, Some, None, get_or, refl, sym, ap, ◌∙◌, arith, inl, inr, subst}
 use Rattle.std.specs.Map.{set_value}
 use Rattle.std.specs.Str.{bytes_eq}
 use Rattle.std.proofs.lemmas.Map.Steps.{set_value_same}
@@ -15,9 +15,10 @@ use Rattle.ring_world.proofs.Links.{same_or_not}
 use Rattle.ring_terms.specs.Commands.{running_refusal}
 use Rattle.ring_terms.specs.Object.{GroupView, InGroup, Object, OfGroup, TermView, find, last_term, with_group}
 use Rattle.ring_mux.specs.declared.carried.Carried.TheVariants.{Moved}
-use Rattle.ring_mux.specs.Journeys.{Carries, Travels}
+use Rattle.ring_mux.specs.Journeys.{Carries, CarriesAmong, MakesAmong, Travels, with_world}
 use Rattle.ring_mux.specs.Steps.{MovesOf, MovesTimes}
-use Rattle.ring_mux.specs.Views.{Held, IsHeld, IsSeat, IsWorldOf, world_in}
+use Rattle.ring_mux.specs.Views.{Held, IsHeld, IsSeat, IsSoundHeld, IsWorldOf, world_in}
+use Rattle.ring_mux.proofs.Outcomes.{of_found}
 use Rattle.ring_mux.proofs.Carrying.{last_written, position_here, running_ring, same_found, written_found}
 
 module _ {E S M : Type 0} (t : E → Table S M) (world : Running E M) where
@@ -99,6 +100,10 @@ module _ {E S M : Type 0} (t : E → Table S M) (object : Object E) (worlds : Li
   pub kept : IsWorldOf t name runs.group (the_term.0) worlds
   kept = held.each name runs.group (the_term.0) runs.found (the_term.1)
 
+  -- which is the one that is found
+  pub kept_world : (world : Running E M) → world_in name worlds ≡ Some world → kept.world ≡ world
+  kept_world world found = same_found (world_in name worlds) kept.world world kept.found found
+
   -- where nothing is ready nothing is pending
   pub quiet_at : IsReady t kept.world None → (w : Running E M) → world_in name worlds ≡ Some w → pending_of t w ≡ 0
   quiet_at none w found = rw (same_found (world_in name worlds) w kept.world found kept.found) (none_below t kept.world (size_of kept.world) none)
@@ -143,3 +148,106 @@ module _ {E S M : Type 0} (t : E → Table S M) (object : Object E) (worlds : Li
           ),
           still_runs greatest name node object new.object runs step,
         )
+
+-- what so many deliveries of a drain have done, wherever the world stands among the worlds of a mux
+pub record HasDrained {E S M : Type 0} (t : E → Table S M) (fits : E → List ℕ → ℕ → Side → ℕ → M → Type 0) (winner : E → List ℕ → ℕ) (greatest : E → Bool) (name : List ℕ) (n : ℕ)
+    (object : Object E) (worlds : List (List ℕ × Running E M)) (object' : Object E) (world' : Running E M) : Type 0 where
+  pub moves : InGroup name (MovesTimes greatest n) object object'
+  pub travels : Travels t name n worlds (with_world name world' worlds)
+  pub runs : OfGroup name (λ g. running_refusal g ≡ None) object'
+  pub found : world_in name (with_world name world' worlds) ≡ Some world'
+  pub kept : IsSoundHeld t fits winner object' (with_world name world' worlds)
+
+abbrev pub HasDrainedAmong : {E S M : Type 0} (t : E → Table S M) (fits : E → List ℕ → ℕ → Side → ℕ → M → Type 0) (winner : E → List ℕ → ℕ) (greatest : E → Bool) (n : ℕ) (object : Object E) (world : Running E M) (object' : Object E) (world' : Running E M) → Type 0
+HasDrainedAmong {E} {S} {M} t fits winner greatest n object world object' world' =
+    (name : List ℕ) (worlds : List (List ℕ × Running E M)) → IsSoundHeld t fits winner object worlds → world_in name worlds ≡ Some world → OfGroup name (λ g. running_refusal g ≡ None) object
+    → HasDrained t fits winner greatest name n object worlds object' world'
+
+module _ {E S M : Type 0} (t : E → Table S M) (fits : E → List ℕ → ℕ → Side → ℕ → M → Type 0) (winner : E → List ℕ → ℕ) (greatest : E → Bool) where
+  -- none have done nothing
+  pub none_drained : (object : Object E) (world : Running E M) → HasDrainedAmong t fits winner greatest 0 object world object world
+  none_drained object world = λ name worlds kept found runs.
+      let same : with_world name world worlds ≡ worlds = set_value_same (bytes_eq name) worlds world found in
+      record {
+        moves = none_moved greatest name object runs.group runs.found;
+        travels = same;
+        runs = runs;
+        found = written_found name worlds world world found;
+        kept = rw same kept;
+      }
+
+  -- one delivery more, at the link that is ready
+  pub one_drained : (two_way : E → Bool) (n position : ℕ) (side : Side) (object : Object E) (world : Running E M) (object' : Object E) (world' : Running E M) (object'' : Object E) (world'' : Running E M) →
+      IsFirstLink t world' position side → IsRing world'.charter.roster →
+      HasDrainedAmong t fits winner greatest n object world object' world' →
+      CarriesAmong t fits winner two_way greatest position side object' world' Moved object'' world'' →
+      HasDrainedAmong t fits winner greatest (suc n) object world object'' world''
+  one_drained two_way n position side object world object' world' object'' world'' ready ring drained carries = λ name worlds kept found runs.
+      let before = drained name worlds kept found runs in
+      let now : List (List ℕ × Running E M) = with_world name world' worlds in
+      let here = kept_world t object' now before.kept.held name before.runs world' before.found in
+      let seat = seat_ready t object' now before.kept.held name before.runs position side (rw (← here) at ready) in
+      let carried = carries name now before.kept before.found seat in
+      let twice : with_world name world'' now ≡ with_world name world'' worlds = written_twice name worlds world' world'' in
+      let on = travels_on t object' now before.kept.held name before.runs position side (rw (← here) at ready) two_way greatest n (record { object = object; worlds = worlds }) (record { object = object''; worlds = with_world name world'' now })
+      (rw (← here) at ring) before.moves before.travels
+      (of_found name now world' before.found (λ w. Carries t two_way greatest name position side w (record { object = object'; worlds = now }) Moved (record { object = object''; worlds = with_world name world'' now })) (carried.0)) in
+      record {
+        moves = on.0;
+        travels = rw twice at on.1;
+        runs = on.2;
+        found = written_found name worlds world world'' found;
+        kept = rw twice at carried.1;
+      }
+
+  -- a drain ends where nothing is ready
+  pub makes_ended : (count n : ℕ) (object : Object E) (world : Running E M) (object' : Object E) (world' : Running E M) → n ≤ count → HasDrainedAmong t fits winner greatest n object world object' world' →
+      IsReady t world' None → MakesAmong t fits winner greatest count object world n false object' world'
+  makes_ended count n object world object' world' few drained none = λ name worlds kept found runs.
+      let now = drained name worlds kept found runs in
+      let here = kept_world t object' (with_world name world' worlds) now.kept.held name now.runs world' now.found in (
+        record {
+          within = few;
+          object = now.moves;
+          worlds = now.travels;
+          runs = now.runs;
+          ended = λ h. inr (quiet_at t object' (with_world name world' worlds) now.kept.held name now.runs (rw (← here) at none));
+          stopped = λ h. cc;
+        },
+        now.kept,
+      )
+
+  -- or where all are made
+  pub makes_all : (count : ℕ) (object : Object E) (world : Running E M) (object' : Object E) (world' : Running E M) → HasDrainedAmong t fits winner greatest count object world object' world' →
+      MakesAmong t fits winner greatest count object world count false object' world'
+  makes_all count object world object' world' drained = λ name worlds kept found runs.
+      let now = drained name worlds kept found runs in (
+        record { within = omega arith; object = now.moves; worlds = now.travels; runs = now.runs; ended = λ h. inl refl; stopped = λ h. cc },
+        now.kept,
+      )
+
+  -- or where one is refused memory, which changes nothing
+  pub makes_starved : (count n position : ℕ) (side : Side) (object : Object E) (world : Running E M) (object' : Object E) (world' : Running E M) (object'' : Object E) (world'' : Running E M) → n < count →
+      HasDrainedAmong t fits winner greatest n object world object' world' → IsFirstLink t world' position side →
+      ((name : List ℕ) (worlds : List (List ℕ × Running E M)) → IsSoundHeld t fits winner object' worlds → world_in name worlds ≡ Some world' → IsSeat name position object'
+      → (let after : Held E M = record { object = object''; worlds = with_world name world'' worlds } in after ≡ record { object = object'; worlds = worlds }) × IsSoundHeld t fits winner object'' (with_world name world'' worlds)) →
+      MakesAmong t fits winner greatest count object world n true object'' world''
+  makes_starved count n position side object world object' world' object'' world'' few drained ready stays = λ name worlds kept found runs.
+      let before = drained name worlds kept found runs in
+      let now : List (List ℕ × Running E M) = with_world name world' worlds in
+      let here = kept_world t object' now before.kept.held name before.runs world' before.found in
+      let seat = seat_ready t object' now before.kept.held name before.runs position side (rw (← here) at ready) in
+      let after = stays name now before.kept before.found seat in
+      let same_object : object'' ≡ object' = ap (λ (h : Held E M). h.object) (after.0) in
+      let twice : with_world name world'' now ≡ with_world name world'' worlds = written_twice name worlds world' world'' in
+      let same_worlds : with_world name world'' worlds ≡ now = sym twice ∙ ap (λ (h : Held E M). h.worlds) (after.0) in (
+        rw (same_object, same_worlds) (record {
+          within = omega (arith, few);
+          object = before.moves;
+          worlds = before.travels;
+          runs = before.runs;
+          ended = λ h. cc;
+          stopped = λ h. (few, pending_at t object' now before.kept.held name before.runs position side (rw (← here) at ready));
+        }),
+        rw twice at after.1,
+      )

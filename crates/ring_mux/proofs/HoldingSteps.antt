@@ -1,6 +1,6 @@
 -- Which steps the answers of a book are, and a run with one step more.
 use Rattle.std.proofs.Common.{◌≡◌, ℕ, Bool, false, List, [], ◌∷◌, ◌++◌, Option, refl, sym, subst, true≢false}
-use Rattle.std.specs.Prelude.{Result, Ok, Err, IsOk, OnOk, is_err}
+use Rattle.std.specs.Prelude.{true, Result, Ok, Err, IsOk, OnErr, OnOk, is_err}
 use Rattle.ring_id.specs.declared.refusal.Refusal.{Refusal}
 use Rattle.ring_terms.specs.declared.standing.Standing.{Standing}
 use Rattle.ring_terms.specs.declared.standing.Standing.TheVariants.{Leader, Undecided}
@@ -32,6 +32,11 @@ where_ok (Err b) ok says = absurd (true≢false (sym ok))
 pub where_not_err : {A B P : Type 0} (answer : Result A B) → is_err answer ≡ false → OnOk answer P → P
 where_not_err (Ok a) none says = says
 where_not_err (Err b) none says = absurd (true≢false none)
+
+-- what is so where there is an error, there being one
+pub where_err : {A B P : Type 0} (answer : Result A B) → is_err answer ≡ true → OnErr answer P → P
+where_err (Ok a) some says = absurd (true≢false (sym some))
+where_err (Err b) some says = says
 
 -- who: the standing that the book answers is the one that the reply tells
 pub tells_reply : {E : Type 0} (first : Option Refusal) (name : List ℕ) (node : ℕ) (object : Object E) (answer : Result Standing Refusal) → Shows first false answer (λ s. OfGroup name (Tells node s) object) →

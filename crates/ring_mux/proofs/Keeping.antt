@@ -1,21 +1,19 @@
 -- The worlds of a mux are sound, and so a running term with nothing in flight is known at all its members.
-use Rattle.std.proofs.Common.{◌≡◌, ◌<◌, ℕ, Bool, true, false, cond, List, length, Option, Some, None, is_some, refl, sym, ap, ◌∙◌, subst}
+use Rattle.std.proofs.Common.{◌≡◌, ◌<◌, ℕ, true, false, cond, List, Option, Some, None, is_some, sym, ap, ◌∙◌}
 use Rattle.std.specs.Str.{bytes_eq}
 use Rattle.std.specs.Map.{set_value}
 use Rattle.ring_id.specs.declared.side.Side.{Side}
 use Rattle.ring_election.specs.Laws.{Deciding}
 use Rattle.ring_election.specs.Tables.{Table}
-use Rattle.ring_node.specs.declared.charter.Charter.{Charter}
-use Rattle.ring_node.specs.Nodes.{known_of}
 use Rattle.ring_world.specs.Quiet.{IsQuiet}
-use Rattle.ring_world.specs.Worlds.{IsSoundWorld, Running, node_at, pending_of, size_of}
+use Rattle.ring_world.specs.Worlds.{IsSoundWorld, Running, pending_of, size_of}
 use Rattle.ring_world.proofs.Quiet.{none_pending_quiet, quiet_knows}
 use Rattle.ring_terms.specs.Commands.{running_refusal}
-use Rattle.ring_terms.specs.Object.{GroupView, Object, OfGroup, TermView, find, last_term}
-use Rattle.ring_mux.specs.Quiet.{IsKnownIfQuiet, QuietIsKnown}
+use Rattle.ring_terms.specs.Object.{GroupView, Object, OfGroup, TermView, last_term}
+use Rattle.ring_mux.specs.Quiet.{QuietIsKnown}
 use Rattle.ring_mux.specs.Steps.{IsKnown, KnownIfNone}
 use Rattle.ring_mux.specs.Views.{AreSound, IsSoundHeld, IsWorldOf, world_in}
-use Rattle.ring_mux.proofs.Carrying.{looked_up, running_ring, same_found}
+use Rattle.ring_mux.proofs.Carrying.{looked_up, running_ring}
 use Rattle.ring_mux.proofs.Drains.{the_term}
 
 module _ {E S M : Type 0} (t : E → Table S M) (fits : E → List ℕ → ℕ → Side → ℕ → M → Type 0) (winner : E → List ℕ → ℕ) where

@@ -1,18 +1,16 @@
 -- A drain of more than all that a world can take leaves nothing: each delivery is one receipt more.
-use Rattle.std.proofs.Common.{◌≡◌, ◌+◌, ◌<◌, ◌≤◌, ◌⊎◌, ℕ, zero, suc, Bool, false, List, [], ◌∷◌, ◌++◌, length, Option, Some, get_or, slice_set, refl, sym, ap, ◌∙◌, arith, inl, inr}
+use Rattle.std.proofs.Common.{◌≡◌, ◌+◌, ◌<◌, ℕ, zero, suc, Bool, false, List, [], ◌∷◌, ◌++◌, length, Some, get_or, slice_set, refl, sym, ap, ◌∙◌, arith, inl, inr}
 use Rattle.std.proofs.Math.ListN.{length-set}
 use Rattle.std.proofs.lemmas.List.{length_push}
 use Rattle.ring_id.specs.declared.side.Side.{Side}
 use Rattle.ring_election.specs.Laws.{Bounded}
 use Rattle.ring_election.specs.Tables.{Table}
 use Rattle.ring_node.specs.declared.packet.Packet.{Packet}
-use Rattle.ring_world.specs.Worlds.{Running, after_receipt, delivered_of, most_deliveries, pending_of, receipts_in, size_of}
+use Rattle.ring_world.specs.Worlds.{Running, delivered_of, most_deliveries, pending_of, receipts_in, size_of}
 use Rattle.ring_world.proofs.Work.{work_bounded}
-use Rattle.ring_terms.specs.Object.{Object}
 use Rattle.ring_mux.specs.Journeys.{Makes, Travels}
 use Rattle.ring_mux.specs.Views.{AreSound, Held, world_in}
 use Rattle.ring_mux.specs.WorldSteps.{LeavesNothing}
-use Rattle.ring_mux.specs.declared.reply.Reply.{Reply}
 use Rattle.ring_mux.specs.declared.reply.Reply.TheVariants.{Drained}
 use Rattle.ring_mux.proofs.Carrying.{same_found, written_found}
 

@@ -5,4 +5,5 @@ pub mod HoldingSteps
 pub mod Keeping
 pub mod Leavings
 pub mod Outcomes
+pub mod Places
 pub mod Seats

@@ -43,6 +43,10 @@ seat_on_ring name object node i of = record {
   says = record { term = of.says.term; found = of.says.found; says = (position-Some (has_number node) of.says.term.ring i 0 of.says.says).0 };
 }
 
+-- and its group runs
+pub seat_runs : {E : Type 0} {Says : TermView → Type 0} (name : List ℕ) (object : Object E) → OfGroup name (OfLast Says) object → OfGroup name (λ g. running_refusal g ≡ None) object
+seat_runs name object of = record { group = of.group; found = of.found; says = rw of.says.found refl }
+
 -- a refusal of a call that grows nothing is the first that holds
 member_step : (o : Option ℕ) (rest : Option Refusal) (refusal : Refusal) → IsRefusal (unless_some o refused.NotInTerm (λ _. None)) false refusal → IsRefusal (unless_some o refused.NotInTerm (λ _. rest)) true refusal
 member_step None rest refusal h = h
@@ -131,16 +135,6 @@ module _ {E S M : Type 0} (t : E → Table S M) (object : Object E) (worlds : Li
     (carries kept.world kept.found).1,
     λ memory. subst (λ (r : Refusal). CarriesAt t two_way greatest name node side (record { object = object; worlds = worlds }) (Refused r) new) memory (carries_at new (Refused refusal) carries),
   )
-
--- how many packets are in flight in the world of a group that has a running term
-pub pending_in : {E S M : Type 0} (t : E → Table S M) (held : Held E M) → IsHeld t held.object held.worlds → (name : List ℕ) (charter : Charter E) (number : ℕ)
-    → OfGroup name (λ g. running_charter name g ≡ Some charter) held.object
-    → ((w : Running E M) → world_in name held.worlds ≡ Some w → number ≡ pending_of t w)
-    → IsPendingIn t name number held
-pending_in t held kept name charter number of counted =
-    let running = running_term name of.group charter of.says in
-    let world = kept.each name of.group (running.0) of.found (running.1) in
-    record { world = world.world; found = world.found; counted = counted world.world world.found }
 
 -- a group with a running charter runs
 pub runs_of : {E : Type 0} (name : List ℕ) (object : Object E) (charter : Charter E) → OfGroup name (λ g. running_charter name g ≡ Some charter) object → OfGroup name (λ g. running_refusal g ≡ None) object

@@ -10,11 +10,11 @@ use Rattle.ring_node.specs.declared.charter.Charter.{Charter}
 use Rattle.ring_node.specs.Reports.{Told}
 use Rattle.ring_world.specs.Worlds.{HasMoved, IsFirstLink, Running, in_flight, link_refusal, pending_of}
 use Rattle.ring_terms.specs.Commands.{running_refusal}
-use Rattle.ring_terms.specs.Object.{InGroup, OfGroup}
+use Rattle.ring_terms.specs.Object.{InGroup, Object, OfGroup, names}
 use Rattle.ring_mux.specs.declared.carried.Carried.{Carried}
 use Rattle.ring_mux.specs.declared.carried.Carried.TheVariants.{Moved, Idle, Refused}
 use Rattle.ring_mux.specs.Steps.{MovesOf, MovesTimes}
-use Rattle.ring_mux.specs.Views.{Held, world_in}
+use Rattle.ring_mux.specs.Views.{Held, IsSeat, IsSoundHeld, world_in}
 
 -- the worlds with this one under that name, all others as they were
 abbrev pub with_world : {E M : Type 0} → List ℕ → Running E M → List (List ℕ × Running E M) → List (List ℕ × Running E M)
@@ -42,6 +42,15 @@ Carries t two_way greatest name i side world old Idle new = (link_refusal (two_w
 Carries t two_way greatest name i side world old (Refused refusal) new =
     IsRefusal (link_refusal (two_way world.charter.algorithm) side) (nat_lt 0 (length (in_flight t world i side))) refusal × (new ≡ old)
 
+-- The same, wherever that world stands among the worlds of a mux: under whatever name it is the world
+-- of a group, and the position a seat of it.
+abbrev pub CarriesAmong : {E S M : Type 0} → (E → Table S M) → (E → List ℕ → ℕ → Side → ℕ → M → Type 0) → (E → List ℕ → ℕ) → (E → Bool) → (E → Bool) → ℕ → Side → Object E → Running E M → Carried → Object E → Running E M → Type 0
+CarriesAmong {E} {S} {M} t fits winner two_way greatest i side object world done object' world' =
+    (name : List ℕ) (worlds : List (List ℕ × Running E M)) → IsSoundHeld t fits winner object worlds → world_in name worlds ≡ Some world → IsSeat name i object
+    → Carries t two_way greatest name i side world (record { object = object; worlds = worlds }) done (record { object = object'; worlds = with_world name world' worlds })
+    × IsSoundHeld t fits winner object' (with_world name world' worlds)
+    × (names object' ≡ names object)
+
 -- one delivery in a group's world at its first ready link: no other world changes
 pub record TravelsOnce {E S M : Type 0} (t : E → Table S M) (name : List ℕ) (old new : List (List ℕ × Running E M)) : Type 0 where
   pub before : Running E M
@@ -68,3 +77,10 @@ pub record Makes {E S M : Type 0} (t : E → Table S M) (greatest : E → Bool) 
   pub runs : OfGroup name (λ group. running_refusal group ≡ None) new.object
   pub ended : starved ≡ false → (done ≡ count) ⊎ ((w : Running E M) → world_in name new.worlds ≡ Some w → pending_of t w ≡ 0)
   pub stopped : starved ≡ true → (done < count) × ((w : Running E M) → world_in name new.worlds ≡ Some w → 0 < pending_of t w)
+
+-- the same, wherever that world stands among the worlds of a mux
+abbrev pub MakesAmong : {E S M : Type 0} → (E → Table S M) → (E → List ℕ → ℕ → Side → ℕ → M → Type 0) → (E → List ℕ → ℕ) → (E → Bool) → ℕ → Object E → Running E M → ℕ → Bool → Object E → Running E M → Type 0
+MakesAmong {E} {S} {M} t fits winner greatest count object world done starved object' world' =
+    (name : List ℕ) (worlds : List (List ℕ × Running E M)) → IsSoundHeld t fits winner object worlds → world_in name worlds ≡ Some world → OfGroup name (λ group. running_refusal group ≡ None) object
+    → Makes t greatest name count done starved (record { object = object; worlds = worlds }) (record { object = object'; worlds = with_world name world' worlds })
+    × IsSoundHeld t fits winner object' (with_world name world' worlds)

@@ -2,7 +2,6 @@
 -- in its reply count. Every event but a start, a delivery and a drain leaves all worlds as they are.
 use Rattle.std.specs.Prelude.{◌≡◌, ◌<◌, ℕ, Bool, false, cond, List, [], ◌∷◌, Some}
 use Rattle.std.specs.Str.{bytes_eq}
-use Rattle.ring_id.specs.declared.refusal.Refusal.{Refusal}
 use Rattle.ring_id.specs.declared.refusal.Refusal.TheVariants.{NoMemory}
 use Rattle.ring_id.specs.declared.side.Side.{Side}
 use Rattle.ring_roster.specs.Ring.{position_of}

@@ -6,6 +6,7 @@
 #![tactic(auto)]
 
 mod carried;
+mod deliveries;
 mod event;
 mod mux;
 mod reply;

@@ -1,43 +1,42 @@
-ghost use Rattle.std.specs.Prelude.{◌≡◌, [], Some, None, IsOk, IfOk, OnErr, true, false};
-ghost use Rattle.ring_roster.specs.Ring.{IsRing, position_of};
-ghost use Rattle.ring_world.specs.Worlds.{IsReady, pending_of};
+ghost use Rattle.std.specs.Prelude.{◌≡◌, ◌<◌, [], Some, None, IsOk, IfOk, OnErr, OnOk, true, false};
+ghost use Rattle.ring_roster.specs.Ring.{position_of};
 ghost use Rattle.ring_terms.specs.Commands.{Shows, in_group, running_refusal, who_refusal};
-ghost use Rattle.ring_terms.specs.Object.{OfGroup, OfLast};
-ghost use Rattle.ring_mux.specs.Journeys.{Carries, Makes};
+ghost use Rattle.ring_terms.specs.Object.{OfGroup, OfLast, names};
 ghost use Rattle.ring_mux.specs.Quiet.{QuietIsKnown};
 ghost use Rattle.ring_mux.specs.Replies.{done_reply, told_reply};
 ghost use Rattle.ring_mux.specs.Steps.{KnownIfNone, Run, Step, StepOf, standing_reply};
-ghost use Rattle.ring_mux.specs.Views.{IsSoundHeld, IsPendingIn, IsSeat, world_in};
+ghost use Rattle.ring_mux.specs.Views.{HasGrown, IsAt, IsPendingIn};
 ghost use Rattle.ring_mux.specs.WorldSteps.{CommandOfWorlds, LeavesNothing, RunOfWorlds, StartOfWorlds, StepOfWorlds};
 
 use crate::carried::Carried;
+use crate::deliveries::{carry, carry_many};
 use crate::event::{Command, Event};
 use crate::reply::Reply;
-use indexmap::IndexMap;
 use ring_election::RingElection;
 use ring_id::{GroupName, NoMemory, NodeId, Refusal, Side};
 use ring_terms::{Book, Standing};
-use ring_world::{Delivery, World};
+use ring_world::World;
 use std::alloc::Global;
 use std::marker::Model;
 
-/// Many groups at once: a book, and the world of the last term of each group.
+/// Many groups at once: a book, and the world of the last term of each group at the group's place.
 ///
 /// Contracts see a mux as the election object and the worlds under the names of their groups.
 #[derive(Drop)]
 pub struct Mux<E: RingElection> {
     book: Book<E>,
-    worlds: IndexMap<GroupName, World<E>>,
+    worlds: Vec<Option<World<E>>>,
 }
 
 impl<E: RingElection> Model for Mux<E> {
-    ghost use Rattle.ring_mux.specs.Views.{Held, IsSoundHeld};
+    ghost use Rattle.ring_terms.specs.Object.{names};
+    ghost use Rattle.ring_mux.specs.Views.{Held, IsKeptAt, placed};
 
     ghost Value = { Held E E.Msg };
 
-    ghost view = { λ a. record { object = a.book; worlds = a.worlds.entries } };
+    ghost view = { λ a. record { object = a.book; worlds = placed (names a.book) a.worlds.items } };
 
-    ghost invariant = { λ a. IsSoundHeld E.table E.fits E.winner a.book a.worlds.entries };
+    ghost invariant = { λ a. IsKeptAt E.table E.fits E.winner a.book a.worlds.items };
 }
 
 impl<E: RingElection> Mux<E> {
@@ -48,7 +47,7 @@ impl<E: RingElection> Mux<E> {
     {
         Ok(Mux {
             book: Book::new(alloc),
-            worlds: IndexMap::new(alloc),
+            worlds: Vec::new(alloc),
         })
     }
 
@@ -129,6 +128,9 @@ impl<E: RingElection> Mux<E> {
         ensures object { StepOf E.is_two_way E.is_greatest self.old.object (Command.Start group) result self.new.object }
         ensures worlds { StartOfWorlds group self.old result self.new }
     {
+        let Some(place) = self.book.place(group) else {
+            return Reply::Refused(Refusal::NoGroup);
+        };
         let charter = match self.book.plan(alloc, group) {
             Ok(charter) => charter,
             Err(refusal) => return Reply::Refused(refusal),
@@ -136,12 +138,12 @@ impl<E: RingElection> Mux<E> {
         let Ok(world) = World::begin(alloc, charter) else {
             return Reply::Refused(Refusal::NoMemory);
         };
-        if self.worlds.reserve(1).is_err() {
+        if make_place(&mut self.worlds, place).is_err() {
             return Reply::Refused(Refusal::NoMemory);
         }
         match self.book.start(alloc, group) {
             Ok(charter) => {
-                let _ = self.worlds.insert(group, world);
+                self.worlds[place] = Some(world);
                 Reply::Term(charter.term())
             }
             Err(refusal) => Reply::Refused(refusal),
@@ -154,8 +156,11 @@ impl<E: RingElection> Mux<E> {
         ensures number { Shows (in_group group running_refusal self.now.object) false result (λ number. IsPendingIn E.table group number self.now) }
         ensures known { IfOk result (λ number. KnownIfNone group number self.now.object) }
     {
-        self.book.running(group)?;
-        Ok(self.waiting(group))
+        let place = self.place(group)?;
+        let Some(world) = &self.worlds[place] else {
+            return Err(Refusal::NoTerm);
+        };
+        Ok(world.pending())
     }
 
     /// Makes deliveries at the first ready link of a group's running term, until so many are made,
@@ -167,13 +172,17 @@ impl<E: RingElection> Mux<E> {
         ensures worlds { StepOfWorlds E.table E.is_two_way E.is_greatest self.old (Event.Drain group count) result self.new }
         ensures bounded { LeavesNothing E.bound group count self.old.worlds result }
     {
-        if let Err(refusal) = self.book.running(group) {
-            return Reply::Refused(refusal);
-        }
-        let (done, starved) = self.deliveries(group, count);
+        let place = match self.place(group) {
+            Ok(place) => place,
+            Err(refusal) => return Reply::Refused(refusal),
+        };
+        let Some(world) = &mut self.worlds[place] else {
+            return Reply::Refused(Refusal::NoTerm);
+        };
+        let (done, starved) = carry_many(&mut self.book, world, count);
         Reply::Drained {
             done,
-            left: self.waiting(group),
+            left: world.pending(),
             starved,
         }
     }
@@ -183,11 +192,14 @@ impl<E: RingElection> Mux<E> {
         ensures object { Step E.is_two_way E.is_greatest self.old.object (Event.Deliver group node side) result self.new.object }
         ensures worlds { StepOfWorlds E.table E.is_two_way E.is_greatest self.old (Event.Deliver group node side) result self.new }
     {
-        let position = match self.seat(group, node) {
-            Ok(position) => position,
+        let (place, position) = match self.seat(group, node) {
+            Ok(seat) => seat,
             Err(refusal) => return Reply::Refused(refusal),
         };
-        match self.carry(group, position, side) {
+        let Some(world) = &mut self.worlds[place] else {
+            return Reply::Refused(Refusal::NoTerm);
+        };
+        match carry(&mut self.book, world, position, side) {
             Carried::Moved => Reply::Moved,
             Carried::Idle => Reply::Idle,
             Carried::Refused(refusal) => Reply::Refused(refusal),
@@ -205,75 +217,44 @@ impl<E: RingElection> Mux<E> {
         }
     }
 
-    /// Where a member of a group's running term stands on its ring.
-    fn seat(&self, group: GroupName, node: NodeId) -> Result<usize, Refusal>
-        ensures seat { Shows (in_group group (who_refusal node) self.now.object) false result (λ i. OfGroup group (OfLast (λ term. position_of node term.ring ≡ Some i)) self.now.object) }
-        ensures kept { IsSoundHeld E.table E.fits E.winner self.now.object self.now.worlds }
+    /// The place of a group that has a running term.
+    fn place(&self, group: GroupName) -> Result<usize, Refusal>
+        ensures { Shows (in_group group running_refusal self.now.object) false result (λ place. IsAt group place (names self.now.object) × OfGroup group (λ g. running_refusal g ≡ None) self.now.object) }
+    {
+        self.book.running(group)?;
+        self.book.place(group).ok_or(Refusal::NoGroup)
+    }
+
+    /// Where a member of a group's running term stands on its ring, with the group's place.
+    fn seat(&self, group: GroupName, node: NodeId) -> Result<(usize, usize), Refusal>
+        ensures { Shows (in_group group (who_refusal node) self.now.object) false result (λ seat. IsAt group seat.0 (names self.now.object) × OfGroup group (OfLast (λ term. position_of node term.ring ≡ Some seat.1)) self.now.object) }
     {
         let charter = self.book.running(group)?;
-        match charter.roster().position(node) {
-            Some(position) => Ok(position),
-            None => Err(Refusal::NotInTerm),
-        }
-    }
-
-    /// How many packets are in flight in a group's world.
-    fn waiting(&self, group: GroupName) -> u128
-        ensures counted { (w : _) → world_in group self.now.worlds ≡ Some w → result ≡ pending_of E.table w }
-        ensures kept { IsSoundHeld E.table E.fits E.winner self.now.object self.now.worlds }
-    {
-        match self.worlds.get(&group) {
-            Some(world) => world.pending(),
-            None => 0,
-        }
-    }
-
-    /// The first ready link of a group's world.
-    fn ready(&self, group: GroupName) -> Option<(usize, Side)>
-        ensures first { (w : _) → world_in group self.now.worlds ≡ Some w → IsReady E.table w result × IsRing w.charter.roster }
-        ensures kept { IsSoundHeld E.table E.fits E.winner self.now.object self.now.worlds }
-    {
-        let world = self.worlds.get(&group)?;
-        world.ready()
-    }
-
-    /// A delivery on the link into a position of a group's world, and what it tells noted.
-    fn carry(&mut self, group: GroupName, position: usize, side: Side) -> Carried
-        requires { IsSeat group position self.old.object }
-        ensures { (w : _) → world_in group self.old.worlds ≡ Some w → Carries E.table E.is_two_way E.is_greatest group position side w self.old result self.new }
-    {
-        let Some(world) = self.worlds.get_mut(&group) else {
-            return Carried::Idle;
+        let Some(position) = charter.roster().position(node) else {
+            return Err(Refusal::NotInTerm);
         };
-        let report = match world.deliver(position, side) {
-            Delivery::Moved(report) => report,
-            Delivery::Idle => return Carried::Idle,
-            Delivery::Refused(refusal) => return Carried::Refused(refusal),
+        let Some(place) = self.book.place(group) else {
+            return Err(Refusal::NoGroup);
         };
-        let Some(report) = report else {
-            return Carried::Moved;
-        };
-        let _ = self.book.note(&report);
-        Carried::Moved
+        Ok((place, position))
     }
+}
 
-    /// The deliveries of a drain: how many were made, and whether one was refused memory.
-    fn deliveries(&mut self, group: GroupName, count: u32) -> (u32, bool)
-        requires { OfGroup group (λ g. running_refusal g ≡ None) self.old.object }
-        ensures { Makes E.table E.is_greatest group count result.0 result.1 self.old self.new }
-    {
-        for done in 0..count {
-            let Some((position, side)) = self.ready(group) else {
-                return (done, false);
-            };
-            match self.carry(group, position, side) {
-                Carried::Moved => {}
-                Carried::Idle => return (done, true),
-                Carried::Refused(_) => return (done, true),
-            }
-        }
-        (count, false)
+/// Makes this place one of the list's, with nothing at each place that is new. Refused for want of
+/// memory alone; the list is then unchanged.
+fn make_place<T>(list: &mut Vec<Option<T>>, place: usize) -> Result<(), NoMemory>
+    requires { place < 256 }
+    ensures grown { OnOk result (HasGrown place list.old.items list.new.items) }
+    ensures err { OnErr result (list.new.items ≡ list.old.items) }
+{
+    let more = (place + 1).saturating_sub(list.len());
+    if list.reserve(more).is_err() {
+        return Err(NoMemory);
     }
+    for _ in 0..more {
+        list.push_reserved(None);
+    }
+    Ok(())
 }
 
 /// The reply to a command that answers nothing but that it is done.

@@ -187,9 +187,10 @@ impl<E: RingElection> Book<E> {
     }
 
     /// Where the group of this name stands in order of creation, from 0 on; none where no group has
-    /// this name. Takes no memory.
+    /// this name. Takes no memory. Its second clause is what every book keeps.
     pub fn place(&self, group: GroupName) -> Option<usize>
-        ensures { result ≡ place_of group self.now }
+        ensures value { result ≡ place_of group self.now }
+        ensures kept { IsKept E.winner self.now }
     {
         self.groups.get_index_of(&group)
     }

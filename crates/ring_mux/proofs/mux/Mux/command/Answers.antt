@@ -1,6 +1,9 @@
 -- After each command the worlds are those of the groups' last terms; a reply that shows is a step.
 use Rattle.std.proofs.Common.{refl, ap}
 use Rattle.ring_mux.specs.declared.reply.Reply.TheVariants.{Members, Terms}
+use Rattle.ring_terms.specs.Object.{names}
+use Rattle.ring_mux.specs.Views.{placed}
+use Rattle.ring_mux.proofs.Places.{answered_sees, creates_sees, group_sees, kept_sees}
 use Rattle.ring_mux.proofs.Holding.{held_answered, held_creates, held_joins, held_leaves}
 use Rattle.ring_mux.proofs.HoldingSteps.{of_group, tells_reply}
 use Rattle.ring_mux.proofs.mux.Mux.command.Goals as goal
@@ -8,27 +11,48 @@ use Rattle.ring_mux.proofs.mux.Mux.command.Goals.{in-Ok, in-Err, in-Ok-terms, in
 
 pub invariant_of-self : goal.invariant_of-self
 invariant_of-self g c =
-    record {
-      held = held_answered g.E.RingElection.table _ _ c.self.inside.book c.self.inside.worlds.entries c.create.result c.create.new.self _ c.self.invariant.held c.create.ensures
-          (λ done creates. held_creates g.E.RingElection.table c.self.inside.book c.self.inside.worlds.entries c.in-Create.group c.in-Create.algorithm c.create.new.self c.self.invariant.held creates);
-      sound = c.self.invariant.sound;
-    }
+    let worlds = placed (names c.self.inside.book) c.self.inside.worlds.items in
+    kept_sees g.E.RingElection.table g.E.RingElection.fits g.E.RingElection.winner c.self.inside.book c.create.new.self c.self.inside.worlds.items c.self.invariant
+    (answered_sees c.self.inside.book c.create.new.self c.self.inside.worlds.items c.self.invariant.few _ _ c.create.result _ c.create.ensures
+    (λ done creates. creates_sees c.self.inside.book c.create.new.self c.self.inside.worlds.items c.self.invariant.few c.in-Create.group c.in-Create.algorithm creates))
+    (held_answered g.E.RingElection.table _ _ c.self.inside.book worlds c.create.result c.create.new.self _ c.self.invariant.held.held c.create.ensures
+    (λ done creates. held_creates g.E.RingElection.table c.self.inside.book worlds c.in-Create.group c.in-Create.algorithm c.create.new.self c.self.invariant.held.held creates))
+
+pub returns-in-Create-clause-worlds : goal.returns-in-Create-clause-worlds
+returns-in-Create-clause-worlds g c =
+    let sees = answered_sees c.self.inside.book c.create.new.self c.self.inside.worlds.items c.self.invariant.few _ _ c.create.result _ c.create.ensures
+    (λ done creates. creates_sees c.self.inside.book c.create.new.self c.self.inside.worlds.items c.self.invariant.few c.in-Create.group c.in-Create.algorithm creates) in
+    rw (c.in-Create.is, ← c.self.view_is) sees.seen
 
 pub invariant_of-self-in-Join : goal.invariant_of-self-in-Join
 invariant_of-self-in-Join g c =
-    record {
-      held = held_answered g.E.RingElection.table _ _ c.self-in-Join.inside.book c.self-in-Join.inside.worlds.entries c.join.result c.join.new.self _ c.self-in-Join.invariant.held c.join.ensures
-          (λ done joins. held_joins g.E.RingElection.table c.self-in-Join.inside.book c.self-in-Join.inside.worlds.entries c.in-Join.group c.in-Join.node c.join.new.self c.self-in-Join.invariant.held joins);
-      sound = c.self-in-Join.invariant.sound;
-    }
+    let worlds = placed (names c.self-in-Join.inside.book) c.self-in-Join.inside.worlds.items in
+    kept_sees g.E.RingElection.table g.E.RingElection.fits g.E.RingElection.winner c.self-in-Join.inside.book c.join.new.self c.self-in-Join.inside.worlds.items c.self-in-Join.invariant
+    (answered_sees c.self-in-Join.inside.book c.join.new.self c.self-in-Join.inside.worlds.items c.self-in-Join.invariant.few _ _ c.join.result _ c.join.ensures
+    (λ done joins. group_sees c.self-in-Join.inside.book c.join.new.self c.self-in-Join.inside.worlds.items c.self-in-Join.invariant.few c.in-Join.group _ joins))
+    (held_answered g.E.RingElection.table _ _ c.self-in-Join.inside.book worlds c.join.result c.join.new.self _ c.self-in-Join.invariant.held.held c.join.ensures
+    (λ done joins. held_joins g.E.RingElection.table c.self-in-Join.inside.book worlds c.in-Join.group c.in-Join.node c.join.new.self c.self-in-Join.invariant.held.held joins))
+
+pub returns-in-Join-clause-worlds : goal.returns-in-Join-clause-worlds
+returns-in-Join-clause-worlds g c =
+    let sees = answered_sees c.self-in-Join.inside.book c.join.new.self c.self-in-Join.inside.worlds.items c.self-in-Join.invariant.few _ _ c.join.result _ c.join.ensures
+    (λ done joins. group_sees c.self-in-Join.inside.book c.join.new.self c.self-in-Join.inside.worlds.items c.self-in-Join.invariant.few c.in-Join.group _ joins) in
+    rw (c.in-Join.is, ← c.self-in-Join.view_is) sees.seen
 
 pub invariant_of-self-in-Leave : goal.invariant_of-self-in-Leave
 invariant_of-self-in-Leave g c =
-    record {
-      held = held_answered g.E.RingElection.table _ _ c.self-in-Leave.inside.book c.self-in-Leave.inside.worlds.entries c.leave.result c.leave.new.self _ c.self-in-Leave.invariant.held c.leave.ensures
-          (λ done leaves. held_leaves g.E.RingElection.table c.self-in-Leave.inside.book c.self-in-Leave.inside.worlds.entries c.in-Leave.group c.in-Leave.node c.leave.new.self c.self-in-Leave.invariant.held leaves);
-      sound = c.self-in-Leave.invariant.sound;
-    }
+    let worlds = placed (names c.self-in-Leave.inside.book) c.self-in-Leave.inside.worlds.items in
+    kept_sees g.E.RingElection.table g.E.RingElection.fits g.E.RingElection.winner c.self-in-Leave.inside.book c.leave.new.self c.self-in-Leave.inside.worlds.items c.self-in-Leave.invariant
+    (answered_sees c.self-in-Leave.inside.book c.leave.new.self c.self-in-Leave.inside.worlds.items c.self-in-Leave.invariant.few _ _ c.leave.result _ c.leave.ensures
+    (λ done leaves. group_sees c.self-in-Leave.inside.book c.leave.new.self c.self-in-Leave.inside.worlds.items c.self-in-Leave.invariant.few c.in-Leave.group _ leaves))
+    (held_answered g.E.RingElection.table _ _ c.self-in-Leave.inside.book worlds c.leave.result c.leave.new.self _ c.self-in-Leave.invariant.held.held c.leave.ensures
+    (λ done leaves. held_leaves g.E.RingElection.table c.self-in-Leave.inside.book worlds c.in-Leave.group c.in-Leave.node c.leave.new.self c.self-in-Leave.invariant.held.held leaves))
+
+pub returns-in-Leave-clause-worlds : goal.returns-in-Leave-clause-worlds
+returns-in-Leave-clause-worlds g c =
+    let sees = answered_sees c.self-in-Leave.inside.book c.leave.new.self c.self-in-Leave.inside.worlds.items c.self-in-Leave.invariant.few _ _ c.leave.result _ c.leave.ensures
+    (λ done leaves. group_sees c.self-in-Leave.inside.book c.leave.new.self c.self-in-Leave.inside.worlds.items c.self-in-Leave.invariant.few c.in-Leave.group _ leaves) in
+    rw (c.in-Leave.is, ← c.self-in-Leave.view_is) sees.seen
 
 pub returns-in-Who-clause-object : goal.returns-in-Who-clause-object
 returns-in-Who-clause-object g c = rw (c.in-Who.is, c.told.ensures, ← c.self-in-Who.view_is) (tells_reply _ c.in-Who.group c.in-Who.node c.self-in-Who.inside.book c.who.result c.who.ensures)

@@ -1,44 +1,79 @@
 -- The drain's numbers are those of its deliveries and of its world; where nothing is left the term is known.
-use Rattle.std.proofs.Common.{refl, ◌∙◌, inl, inr}
-use Rattle.ring_mux.proofs.Drains.{kept}
+use Rattle.std.proofs.Common.{rules, refl, ap, ◌∙◌, inl, inr}
+use Rattle.ring_world.specs.Worlds.{pending_of}
+use Rattle.ring_terms.specs.Object.{names}
+use Rattle.ring_mux.specs.Views.{placed}
+use Rattle.ring_mux.proofs.Carrying.{same_found, written_found}
 use Rattle.ring_mux.proofs.Keeping.{none_known}
 use Rattle.ring_mux.proofs.Leavings.{leaves_nothing}
-use Rattle.ring_mux.proofs.Seats.{runs_of}
+use Rattle.ring_mux.proofs.Places.{kept_written, names_kept, place_inside, slot_filled, view_written, world_read}
 use Rattle.ring_mux.proofs.mux.Mux.drain.Goals as goal
 
-pub deliveries-done-requires : goal.deliveries-done-requires
-deliveries-done-requires g c = rw (← c.self.view_is) (runs_of c.args.group c.self.inside.book _ (c.in_default.ensures.1))
+pub index_mut-requires : goal.index_mut-requires
+index_mut-requires g c =
+    let at = rw (← c.self.view_is) at c.in-Ok.ensures.1 in
+    let inside = place_inside g.E.RingElection.table c.self.inside.book c.self.inside.worlds.items c.self.invariant.held.held c.args.group c.in-Ok.place at.0 at.1 in
+    search (rules, inside)
+
+pub returns-in_default-clause-object : goal.returns-in_default-clause-object
+returns-in_default-clause-object g c =
+    let at = rw (← c.self.view_is) at c.in-Ok.ensures.1 in
+    absurd (slot_filled g.E.RingElection.table c.self.inside.book c.self.inside.worlds.items c.self.invariant.held.held c.args.group c.in-Ok.place at.0 at.1 c.index_mut.result.now c.index_mut.ensures.value c.in_default.is)
+
+pub invariant_of-self-2 : goal.invariant_of-self-2
+invariant_of-self-2 g c =
+    let at = rw (← c.self.view_is) at c.in-Ok.ensures.1 in
+    let worlds = placed (names c.self.inside.book) c.self.inside.worlds.items in
+    let read = world_read g.E.RingElection.table c.self.inside.book c.self.inside.worlds.items c.self.invariant.held.held c.args.group c.in-Ok.place at.0 at.1 c.index_mut.result.now c.in-Some.world c.index_mut.ensures.value c.in-Some.is in
+    let made = c.carry_many-done.ensures c.args.group worlds c.self.invariant.held read.1 at.1 in
+    kept_written c.self.inside.book c.carry_many-done.new.book (names_kept c.args.group _ c.self.inside.book c.carry_many-done.new.book made.0.object) c.self.inside.worlds.items c.args.group c.in-Ok.place at.0 c.in-Some.world
+    c.carry_many-done.new.world read.0 g.E.RingElection.table g.E.RingElection.fits g.E.RingElection.winner c.self.invariant.few made.1
 
 pub returns-clause-object : goal.returns-clause-object
 returns-clause-object g c =
-    let makes = c.deliveries-done.ensures in
-    let world = kept _ _ _ c.waiting.ensures.kept.held c.args.group makes.runs in
-    let left = c.waiting.ensures.counted world.world world.found in (
-      rw (← c.self.view_is) (c.in_default.ensures.0),
-      record {
-        done = c.deliveries-done.result.0;
-        left = c.waiting.result;
-        starved = c.deliveries-done.result.1;
+    let at = rw (← c.self.view_is) at c.in-Ok.ensures.1 in
+    let worlds = placed (names c.self.inside.book) c.self.inside.worlds.items in
+    let read = world_read g.E.RingElection.table c.self.inside.book c.self.inside.worlds.items c.self.invariant.held.held c.args.group c.in-Ok.place at.0 at.1 c.index_mut.result.now c.in-Some.world c.index_mut.ensures.value c.in-Some.is in
+    let made = c.carry_many-done.ensures c.args.group worlds c.self.invariant.held read.1 at.1 in
+    let found = written_found c.args.group worlds c.in-Some.world c.carry_many-done.new.world read.1 in (
+      c.in-Ok.ensures.0,
+      rw (← c.self.view_is) (record {
+        done = c.carry_many-done.result.0;
+        left = c.pending.result;
+        starved = c.carry_many-done.result.1;
         reply_is = refl;
-        within = makes.within;
-        moves = makes.object;
+        within = made.0.within;
+        moves = made.0.object;
         ended = λ h.
-            elim (makes.ended h) [
+            elim (made.0.ended h) [
               | inl all ↦ inl all
-              | inr quiet ↦ inr (left ∙ quiet world.world world.found)
+              | inr quiet ↦ inr (c.pending.ensures.value ∙ quiet c.carry_many-done.new.world found)
             ];
-        stopped = λ h. let stopped = makes.stopped h in (stopped.0, rw left (stopped.1 world.world world.found));
-        known = none_known g.E.RingElection.table g.E.RingElection.fits g.E.RingElection.winner g.met.E.RingElection.deciding (λ a. (g.met.E.RingElection.lawful a).start_undecided) _ _ c.waiting.ensures.kept c.args.group c.waiting.result makes.runs c.waiting.ensures.counted;
-      },
+        stopped = λ h. let stopped = made.0.stopped h in (stopped.0, rw c.pending.ensures.value (stopped.1 c.carry_many-done.new.world found));
+        known = none_known g.E.RingElection.table g.E.RingElection.fits g.E.RingElection.winner g.met.E.RingElection.deciding (λ a. (g.met.E.RingElection.lawful a).start_undecided) _ _ made.1 c.args.group c.pending.result made.0.runs
+            (λ w at. c.pending.ensures.value ∙ ap (pending_of g.E.RingElection.table) (same_found _ _ _ found at));
+      }),
     )
 
 pub returns-clause-worlds : goal.returns-clause-worlds
 returns-clause-worlds g c =
-    let makes = c.deliveries-done.ensures in
-    let world = kept _ _ _ c.waiting.ensures.kept.held c.args.group makes.runs in
-    (makes, record { world = world.world; found = world.found; counted = c.waiting.ensures.counted world.world world.found })
+    let at = rw (← c.self.view_is) at c.in-Ok.ensures.1 in
+    let worlds = placed (names c.self.inside.book) c.self.inside.worlds.items in
+    let read = world_read g.E.RingElection.table c.self.inside.book c.self.inside.worlds.items c.self.invariant.held.held c.args.group c.in-Ok.place at.0 at.1 c.index_mut.result.now c.in-Some.world c.index_mut.ensures.value c.in-Some.is in
+    let made = c.carry_many-done.ensures c.args.group worlds c.self.invariant.held read.1 at.1 in
+    let found = written_found c.args.group worlds c.in-Some.world c.carry_many-done.new.world read.1 in
+    let view = view_written c.self.inside.book c.carry_many-done.new.book (names_kept c.args.group _ c.self.inside.book c.carry_many-done.new.book made.0.object) c.self.inside.worlds.items c.args.group c.in-Ok.place at.0 c.in-Some.world
+    c.carry_many-done.new.world read.0 in
+    rw (← c.self.view_is, view) (made.0, record { world = c.carry_many-done.new.world; found = found; counted = c.pending.ensures.value })
 
 pub returns-clause-bounded : goal.returns-clause-bounded
 returns-clause-bounded g c =
-    leaves_nothing g.E.RingElection.table c.args.group g.E.RingElection.fits g.E.RingElection.winner g.E.RingElection.bound g.met.E.RingElection.bounded g.E.RingElection.is_greatest c.args.count
-    c.deliveries-done.result.0 c.waiting.result c.deliveries-done.result.1 _ _ (rw (← c.self.view_is) c.self.invariant.sound) c.waiting.ensures.kept.sound c.deliveries-done.ensures c.waiting.ensures.counted
+    let at = rw (← c.self.view_is) at c.in-Ok.ensures.1 in
+    let worlds = placed (names c.self.inside.book) c.self.inside.worlds.items in
+    let read = world_read g.E.RingElection.table c.self.inside.book c.self.inside.worlds.items c.self.invariant.held.held c.args.group c.in-Ok.place at.0 at.1 c.index_mut.result.now c.in-Some.world c.index_mut.ensures.value c.in-Some.is in
+    let made = c.carry_many-done.ensures c.args.group worlds c.self.invariant.held read.1 at.1 in
+    let found = written_found c.args.group worlds c.in-Some.world c.carry_many-done.new.world read.1 in
+    rw (← c.self.view_is)
+    (leaves_nothing g.E.RingElection.table c.args.group g.E.RingElection.fits g.E.RingElection.winner g.E.RingElection.bound g.met.E.RingElection.bounded g.E.RingElection.is_greatest c.args.count
+    c.carry_many-done.result.0 c.pending.result c.carry_many-done.result.1 _ _ c.self.invariant.held.sound made.1.sound made.0
+    (λ w at. c.pending.ensures.value ∙ ap (pending_of g.E.RingElection.table) (same_found _ _ _ found at)))

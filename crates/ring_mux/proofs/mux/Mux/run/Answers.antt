@@ -2,14 +2,16 @@
 use Rattle.std.proofs.Common.{refl, rules}
 use Rattle.std.proofs.lemmas.List.{take_all, take_more}
 use Rattle.ring_mux.proofs.HoldingSteps.{Run-push, RunOfWorlds-push}
+use Rattle.ring_terms.specs.Object.{names}
+use Rattle.ring_mux.specs.Views.{placed}
 use Rattle.ring_mux.proofs.Keeping.{quiet_is_known}
 use Rattle.ring_mux.proofs.mux.Mux.run.Goals as goal
 
 pub returns-in_default-clause-quiet : goal.returns-in_default-clause-quiet
 returns-in_default-clause-quiet g c =
     rw (← c.self.view_is)
-    (quiet_is_known g.E.RingElection.table g.E.RingElection.fits g.E.RingElection.winner g.met.E.RingElection.deciding (λ a. (g.met.E.RingElection.lawful a).start_undecided) c.self.inside.book c.self.inside.worlds.entries
-    c.self.invariant)
+    (quiet_is_known g.E.RingElection.table g.E.RingElection.fits g.E.RingElection.winner g.met.E.RingElection.deciding (λ a. (g.met.E.RingElection.lawful a).start_undecided) c.self.inside.book
+    (placed (names c.self.inside.book) c.self.inside.worlds.items) c.self.invariant.held)
 
 pub loop-event-init : goal.loop-event-init
 loop-event-init g c = record {
@@ -17,8 +19,8 @@ loop-event-init g c = record {
   worlds = rw c.in-Ok.ensures.items refl;
   quiet =
       rw (← c.self.view_is)
-      (quiet_is_known g.E.RingElection.table g.E.RingElection.fits g.E.RingElection.winner g.met.E.RingElection.deciding (λ a. (g.met.E.RingElection.lawful a).start_undecided) c.self.inside.book c.self.inside.worlds.entries
-      c.self.invariant);
+      (quiet_is_known g.E.RingElection.table g.E.RingElection.fits g.E.RingElection.winner g.met.E.RingElection.deciding (λ a. (g.met.E.RingElection.lawful a).start_undecided) c.self.inside.book
+      (placed (names c.self.inside.book) c.self.inside.worlds.items) c.self.invariant.held);
   count = search rules;
   room = search rules;
 }
