@@ -1,8 +1,8 @@
 //! Worked rows that cross crates: each is a scenario with the values that it must come to.
 //!
 //! All but `drain`, which rows call to bring a world to rest, is tests. A module of rows is one
-//! subject: a node, a world, its worked schedules, the settlement of nodes, groups at once, reports,
-//! replays over memory, and how much work rings take.
+//! subject: a node, a world, the scans that a world is spared, its worked schedules, the settlement of
+//! nodes, groups at once, reports, replays over memory, and how much work rings take.
 #![tactic(auto)]
 
 mod drains;
@@ -16,6 +16,8 @@ mod note_rows;
 mod replay_rows;
 #[cfg(test)]
 mod rings;
+#[cfg(test)]
+mod scan_rows;
 #[cfg(test)]
 mod schedules;
 #[cfg(test)]
