@@ -1,5 +1,5 @@
 -- One step of a node keeps what its type keeps, whatever lawful algorithm runs on it.
-use Rattle.std.proofs.Common.{◌≡◌, ◌+◌, ℕ, Bool, List, [], ◌∷◌, ◌++◌, length, Option, Some, None, IfSome, slice_get, take, refl, sym, ap, ◌∙◌, append_assoc}
+use Rattle.std.proofs.Common.{◌≡◌, ◌+◌, ℕ, Bool, false, List, [], ◌∷◌, ◌++◌, length, Option, Some, None, IfSome, slice_get, take, refl, sym, ap, ◌∙◌, append_assoc}
 use Rattle.std.proofs.lemmas.List.{append-nil}
 use Rattle.std.proofs.lemmas.Option.{slice_get_within}
 use Rattle.ring_id.specs.declared.side.Side.{Side}
@@ -72,6 +72,11 @@ news_of_kept : (known coming : Option ℕ) → news known (kept_or known coming)
 news_of_kept None coming = refl
 news_of_kept (Some v) coming = refl
 
+-- what stands after a list stands at its length
+after_all : {A : Type 0} (xs : List A) (y : A) (ys : List A) → slice_get (xs ++ y ∷ ys) (length xs) ≡ Some y
+after_all [] y ys = refl
+after_all (x ∷ xs) y ys = after_all xs y ys
+
 module _ {S M : Type 0} {two_way greatest : Bool} (t : Table S M) (fits : List ℕ → ℕ → Side → ℕ → M → Type 0) (winner : List ℕ → ℕ) (lawful : Lawful two_way greatest t fits winner)
     (ring : List ℕ) (position me : ℕ) (state : S) (js : List (Side × Packet M)) (left right : Port M) (known : Option ℕ)
     (old : IsSeated t fits winner ring position me state js left right known) (from : Side) where
@@ -114,6 +119,23 @@ module _ {S M : Type 0} {two_way greatest : Bool} (t : Table S M) (fits : List �
       (AllName-append (winner ring) (packets_after t me to js) _ (old.names to)
       (AllName-append (winner ring) (algo_sends t to state from p) _ (AllName-algo_sends t (winner ring) to state from p)
       (AllName-announcement M (winner ring) to (news known (brought t state from p)) (news_is_winner p proper))))
+
+  -- an algorithm that isn't two-way sends nothing to the left
+  left_none : two_way ≡ false → (m : M) → IsProper fits winner ring (neighbour (length ring) position from) (other from) (index_after (taken_from from js) (Algo m)) (Algo m)
+      → (o : Option M) → to_side Left (t.next_sends state from m) ≡ o → all_algos o ≡ []
+  left_none one_way m proper None is = refl
+  left_none one_way m proper (Some x) is =
+      let all : List (Side × Packet M) = js ++ (from, Algo m) ∷ [] in
+      let k = length (packets_after t me Left js) in
+      let sends : algo_sends t Left state from (Algo m) ≡ Algo x ∷ [] = ap (λ (o : Option M). all_algos o) is in
+      let here : slice_get (packets_after t me Left all) k ≡ Some (Algo x) = rw (sent_next Left (Algo m), sends) (after_all (packets_after t me Left js) (Algo x) _) in
+      absurd (lawful.one_way one_way ring position (algo_count (take k (packets_after t me Left all))) x
+      (lawful.sends_fit ring position me (algo_part all) Left (algo_count (take k (packets_after t me Left all))) x old.is_ring old.here (fits_after (Algo m) proper)
+      (ap (λ (l : List M). slice_get l (algo_count (take k (packets_after t me Left all)))) (sym (algos_of-packets_after t me Left all)) ∙ algo_at (packets_after t me Left all) k x here)))
+
+  pub nothing_left : two_way ≡ false → (p : Packet M) → IsProper fits winner ring (neighbour (length ring) position from) (other from) (index_after (taken_from from js) p) p → algo_sends t Left state from p ≡ []
+  nothing_left one_way (Algo m) proper = left_none one_way m proper (to_side Left (t.next_sends state from m)) refl
+  nothing_left one_way (Leader v) proper = refl
 
   -- a port after the step
   pub port_after : (to : Side) (p : Packet M) (port port' : Port M)

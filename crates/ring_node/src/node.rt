@@ -186,8 +186,8 @@ impl<E: RingElection> Node<E> {
     {
         let algorithm = self.charter.algorithm();
         let ring = self.charter.roster().len();
-        self.left.make_room(ring)?;
-        self.right.make_room(ring)?;
+        self.left.make_room(algorithm.two_way(), ring)?;
+        self.right.make_room(true, ring)?;
         find_room(&mut self.journal, 1, ring)?;
         let brought = run(
             algorithm,

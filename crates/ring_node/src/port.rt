@@ -1,4 +1,4 @@
-ghost use Rattle.std.specs.Prelude.{◌≡◌, ◌+◌, ◌^◌, ◌<◌, ◌≤◌, ◌++◌, ◌∷◌, [], slice_get, vec_capacity, vec_len, IfOk, OnOk};
+ghost use Rattle.std.specs.Prelude.{◌≡◌, ◌+◌, ◌^◌, ◌<◌, ◌≤◌, ◌++◌, ◌∷◌, [], slice_get, vec_capacity, vec_len, IfOk, IfSome, OnOk, true};
 ghost use Rattle.ring_election.specs.Traces.{taken_from};
 ghost use Rattle.ring_node.specs.Journals.{algo_count, leader_count};
 ghost use Rattle.ring_node.specs.Ports.{all_algos, all_leaders};
@@ -23,32 +23,35 @@ impl<M: Copy> Port<M> {
         ensures algos { IfOk result (λ port. port.algos ≡ 0) }
         ensures leaders { IfOk result (λ port. port.leaders ≡ 0) }
     {
-        let Ok(sent) = Vec::with_capacity(alloc, 4) else {
-            return Err(NoMemory);
-        };
         let mut port = Port {
-            sent,
+            sent: Vec::new(alloc),
             algos: 0,
             leaders: 0,
         };
+        if first.is_some() && port.sent.reserve_exact(4).is_err() {
+            return Err(NoMemory);
+        }
         port.post(first);
         Ok(port)
     }
 
-    /// Finds room for a message and an announcement, at a node of a ring of this length. What was sent
-    /// and taken stays in any case.
-    pub fn make_room(&mut self, ring: usize) -> Result<(), NoMemory>
+    /// Finds room for a message and an announcement, at a node of a ring of this length, where this side
+    /// is one to which something is sent. What was sent and taken stays in any case.
+    pub fn make_room(&mut self, is_open: bool, ring: usize) -> Result<(), NoMemory>
         ensures sent { self.new.sent.items ≡ self.old.sent.items }
         ensures algos { self.new.algos ≡ self.old.algos }
         ensures leaders { self.new.leaders ≡ self.old.leaders }
-        ensures room { OnOk result (vec_len self.new.sent + 2 ≤ vec_capacity self.new.sent) }
+        ensures room { OnOk result (is_open ≡ true → vec_len self.new.sent + 2 ≤ vec_capacity self.new.sent) }
     {
-        find_room(&mut self.sent, 2, ring)
+        if is_open {
+            return find_room(&mut self.sent, 2, ring);
+        }
+        Ok(())
     }
 
     /// Sends a message of the algorithm, if there is one.
     pub fn post(&mut self, message: Option<M>)
-        requires { vec_len self.old.sent + 1 ≤ vec_capacity self.old.sent }
+        requires { IfSome message (λ _. vec_len self.old.sent + 1 ≤ vec_capacity self.old.sent) }
         ensures sent { self.new.sent.items ≡ self.old.sent.items ++ all_algos message }
         ensures algos { self.new.algos ≡ self.old.algos }
         ensures leaders { self.new.leaders ≡ self.old.leaders }

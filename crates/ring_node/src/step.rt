@@ -1,4 +1,4 @@
-ghost use Rattle.std.specs.Prelude.{◌≡◌, ◌+◌, ◌^◌, ◌<◌, ◌≤◌, ◌++◌, ◌∷◌, [], vec_capacity, vec_len, IfOk, OnErr, OnOk};
+ghost use Rattle.std.specs.Prelude.{◌≡◌, ◌+◌, ◌^◌, ◌<◌, ◌≤◌, ◌++◌, ◌∷◌, [], vec_capacity, vec_len, IfOk, OnErr, OnOk, true, false};
 ghost use Rattle.ring_id.specs.declared.side.Side.TheVariants.{Left, Right};
 ghost use Rattle.ring_election.specs.Traces.{taken_from};
 ghost use Rattle.ring_node.specs.Journals.{algo_count, algo_sends, brought, kept_or, leader_count, news, state_on};
@@ -18,7 +18,8 @@ pub fn run<E: RingElection>(
     left: &mut Port<E::Msg>,
     right: &mut Port<E::Msg>,
 ) -> Result<Option<NodeId>, NoMemory>
-    requires room_left { vec_len left.old.sent + 2 ≤ vec_capacity left.old.sent }
+    requires room_left { E.is_two_way algorithm ≡ true → vec_len left.old.sent + 2 ≤ vec_capacity left.old.sent }
+    requires closed { E.is_two_way algorithm ≡ false → algo_sends (E.table algorithm) Left state.old from packet ≡ [] }
     requires room_right { vec_len right.old.sent + 2 ≤ vec_capacity right.old.sent }
     ensures state { OnOk result (state.new ≡ state_on (E.table algorithm) state.old from packet) }
     ensures brought { IfOk result (λ o. o ≡ brought (E.table algorithm) state.old from packet) }

@@ -8,7 +8,7 @@ use Rattle.ring_node.specs.declared.packet.Packet.{Packet}
 use Rattle.ring_node.specs.Journals.{algo_count, kept_or, leader_count, news}
 use Rattle.ring_node.specs.Ports.{all_leaders}
 use Rattle.ring_node.proofs.Receipts.{counts-length, length-taken_from}
-use Rattle.ring_node.proofs.Steps.{news_is_winner, news_next, port_after, seated_after, truthful_news}
+use Rattle.ring_node.proofs.Steps.{news_is_winner, news_next, nothing_left, port_after, seated_after, truthful_news}
 use Rattle.ring_node.proofs.node.Node.accept.Goals as goal
 
 pub count-requires-clause-left_fits : goal.count-requires-clause-left_fits
@@ -32,6 +32,12 @@ count-requires-clause-right_fits g c =
     let leaders : c.announce.new.self.leaders + 1 < 18446744073709551616 =
     omega (arith, c.announce.ensures.leaders, counts.1, c.make_room-2.ensures.leaders, is.leaders_is, counts-length (taken_from Right journal.items), length-taken_from Right journal.items, journal.ok.0, journal.ok.1, journal.small) in
     (algos, leaders)
+
+pub run-requires-clause-closed : goal.run-requires-clause-closed
+run-requires-clause-closed g c =
+    let lawful = g.met.E.RingElection.lawful c.self.inside.charter.value.algorithm in
+    let proper = rw (← c.self.view_is) at c.requires in
+    rw (c.algorithm-algorithm.ensures, c.deref.ensures) (λ one_way. nothing_left _ _ _ lawful _ _ _ _ _ _ _ _ c.self.invariant c.args.from one_way c.args.packet proper)
 
 pub invariant_of-self-2 : goal.invariant_of-self-2
 invariant_of-self-2 g c =
