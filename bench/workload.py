@@ -47,6 +47,18 @@ def one_ring(kind, members):
     return lines
 
 
+def small_rings(kind, members, groups):
+    """A thousand terms of each of so many groups with these few members, without a question."""
+    def lines(scale):
+        for number in range(scaled(groups, scale)):
+            name = f"small-{number}"
+            yield from group_of(name, kind, members)
+            for _ in range(1000):
+                yield f"start {name}"
+                yield f"drain {name} {ALL}"
+    return lines
+
+
 def random_rings(kind, groups):
     """A thousand terms of each of some groups of 256, each in an order of its own."""
     def lines(scale):
@@ -118,6 +130,7 @@ def mixed(scale):
 WORKS = [
     Work("one line", lambda scale: iter(["groups"])),
     Work("Chang-Roberts, a falling ring of 256", one_ring("chang", range(RING, 0, -1))),
+    Work("Chang-Roberts, 256 falling rings of 3", small_rings("chang", [3, 2, 1], 256)),
     Work("Hirschberg-Sinclair, 4 rings of 256", random_rings("hirschberg", 4)),
     Work("Peterson, 4 rings of 256", random_rings("peterson", 4)),
     Work("LeLann, a ring of 256", one_ring("lelann", range(1, RING + 1))),
