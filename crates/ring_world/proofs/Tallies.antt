@@ -3,7 +3,7 @@
 use Rattle.std.proofs.Common.{◌≡◌, ◌≢◌, ◌+◌, ◌-◌, ◌*◌, ◌<◌, ◌≤◌, ◌==◌, ℕ, zero, suc, Bool, true, false, cond, nat_lt, List, [], ◌∷◌, ◌++◌, length, drop, Some, None, slice_get, refl, sym, ap, ap₂, ◌∙◌, arith, inl, inr}
 use Rattle.std.proofs.lemmas.Bool.{cases_lt}
 use Rattle.std.proofs.lemmas.Bool.Decides.{nat_tests}
-use Rattle.std.proofs.lemmas.List.{length-append}
+use Rattle.std.proofs.lemmas.List.{append-nil, length-append}
 use Rattle.ring_id.specs.declared.side.Side.{Side}
 use Rattle.ring_id.specs.declared.side.Side.TheVariants.{Left, Right}
 use Rattle.ring_id.specs.Sides.{other, same_side}
@@ -13,10 +13,10 @@ use Rattle.ring_election.proofs.Rings.{neighbour-below, neighbour-neighbour}
 use Rattle.ring_node.specs.declared.packet.Packet.{Packet}
 use Rattle.ring_node.specs.Nodes.{Seated, sent_of, taken_of}
 use Rattle.ring_world.specs.ReadySets.{IsFirst, bit_of, link_place}
-use Rattle.ring_world.specs.Tallies.{HasMarked, IsMarked, IsMarkedAll, IsTallied, some_or_none}
+use Rattle.ring_world.specs.Tallies.{HasMarked, HasMarkedSent, IsMarked, IsMarkedAll, IsTallied, some_or_none}
 use Rattle.ring_world.specs.Worlds.{IsBefore, IsReady, IsSoundLinks, IsSoundWorld, Running, after_receipt, in_flight, node_at, pending_below, pending_of, sent_into, size_of, taken_at}
 use Rattle.ring_world.proofs.Deliveries.{links_after, others_after, receiver_sent, same_side-same, taken_by, taken_from_other_side}
-use Rattle.ring_world.proofs.Links.{same_or_not}
+use Rattle.ring_world.proofs.Links.{no_length, same_or_not}
 
 -- ---- One position that counts
 
@@ -69,7 +69,7 @@ flight_is_rest taken flight sent whole = sym (length-append taken flight) ∙ ap
 
 module _ {E S M : Type 0} (t : E → Table S M) (world : Running E M) (i : ℕ) (within : i < length world.journals) (side : Side) (p : Packet M) where
   -- how much more the receiver has sent to a side
-  more : Side → ℕ
+  pub more : Side → ℕ
   more to = length ((receiver_sent t world i within side p to).0)
 
   more_sent_by : (to : Side) → length (sent_of t (node_at (after_receipt world i side p) i) to) ≡ length (sent_of t (node_at world i) to) + more to
@@ -132,52 +132,101 @@ module _ {E S M : Type 0} (t : E → Table S M) (world : Running E M) (i : ℕ) 
 
   -- ---- The bits of the links
 
-  -- what is in flight on a link that the receipt doesn't touch
-  flight_kept : (j : ℕ) (from : Side) → (j ≡ i → same_side from side ≡ false) → neighbour (size_of world) j from ≢ i → in_flight t (after_receipt world i side p) j from ≡ in_flight t world j from
-  flight_kept j from away apart =
+  -- what is in flight on a link from which the receiver takes nothing, and whose sender sends nothing more
+  flight_kept : (j : ℕ) (from : Side) → (j ≡ i → same_side from side ≡ false) → sent_into t (after_receipt world i side p) j from ≡ sent_into t world j from
+      → in_flight t (after_receipt world i side p) j from ≡ in_flight t world j from
+  flight_kept j from away sent =
       ap₂ (λ (taken sent : List (Packet M)). drop (length taken) sent)
       (elim (same_or_not j i) [
         | inl here ↦ rw here (taken_from_other_side t world i within side p from (away here))
         | inr differ ↦ ap (λ (node : Seated E M). taken_of node from) (others_after t world i within side p j differ)
       ])
-      (ap (λ (node : Seated E M). sent_of t node (other from)) (others_after t world i within side p (neighbour (size_of world) j from) apart))
+      sent
 
-  module _ (words first second third : List ℕ) (marked : IsMarkedAll t world words) (here : HasMarked t (after_receipt world i side p) words i side first)
-      (left : HasMarked t (after_receipt world i side p) first (left_of (size_of world) i) Right second) (right : HasMarked t (after_receipt world i side p) second (right_of (size_of world) i) Left third)
-      (inside : i < size_of world) where
+  -- a sender that isn't the receiver, and the receiver where it sends nothing more
+  sent_by_others : (j : ℕ) (from : Side) → neighbour (size_of world) j from ≢ i → sent_into t (after_receipt world i side p) j from ≡ sent_into t world j from
+  sent_by_others j from apart = ap (λ (node : Seated E M). sent_of t node (other from)) (others_after t world i within side p (neighbour (size_of world) j from) apart)
+
+  sent_no_more : (j : ℕ) (from : Side) → neighbour (size_of world) j from ≡ i → more (other from) ≡ 0 → sent_into t (after_receipt world i side p) j from ≡ sent_into t world j from
+  unfolding more
+  sent_no_more j from at none =
+      let grown = receiver_sent t world i within side p (other from) in
+      rw at (grown.1 ∙ ap (λ (extra : List (Packet M)). sent_of t (node_at world i) (other from) ++ extra) (no_length grown.0 (omega (arith, none))) ∙ append-nil _)
+
+  module _ (words first second third : List ℕ) (lefts rights : ℕ) (marked : IsMarkedAll t world words) (here : HasMarked t (after_receipt world i side p) words i side first)
+      (left : HasMarkedSent t (after_receipt world i side p) first i Left lefts second) (right : HasMarkedSent t (after_receipt world i side p) second i Right rights third)
+      (lefts_are : lefts ≡ more Left) (rights_are : rights ≡ more Right) (inside : i < size_of world) where
     -- a mark stays
-    stays : (j : ℕ) (from : Side) → IsMarked t (after_receipt world i side p) words j from → IsMarked t (after_receipt world i side p) third j from
-    stays j from is = right.kept j from (left.kept j from (here.kept j from is))
+    stays_right : (j : ℕ) (from : Side) → IsMarked t (after_receipt world i side p) second j from → IsMarked t (after_receipt world i side p) third j from
+    stays_right j from is =
+        elim right [
+          | inl none ↦ rw none.1 is
+          | inr some ↦ some.kept j from is
+        ]
+
+    stays_left : (j : ℕ) (from : Side) → IsMarked t (after_receipt world i side p) first j from → IsMarked t (after_receipt world i side p) third j from
+    stays_left j from is =
+        elim left [
+          | inl none ↦ stays_right j from (rw none.1 is)
+          | inr some ↦ stays_right j from (some.kept j from is)
+        ]
+
+    -- no bit changes past the links
+    beyond_right : (place : ℕ) → 2 * size_of world ≤ place → bit_of third place ≡ bit_of second place
+    beyond_right place past =
+        elim right [
+          | inl none ↦ ap (λ (l : List ℕ). bit_of l place) none.1
+          | inr some ↦ some.beyond place past
+        ]
+
+    beyond_left : (place : ℕ) → 2 * size_of world ≤ place → bit_of second place ≡ bit_of first place
+    beyond_left place past =
+        elim left [
+          | inl none ↦ ap (λ (l : List ℕ). bit_of l place) none.1
+          | inr some ↦ some.beyond place past
+        ]
 
     -- the link to a neighbour, from the receiver
-    from_receiver : (j : ℕ) (from : Side) → j ≡ neighbour (size_of world) i (other from) → IsMarked t (after_receipt world i side p) third j from
-    from_receiver j Left is = rw is right.marked
-    from_receiver j Right is = rw is (right.kept (left_of (size_of world) i) Right left.marked)
+    from_receiver : (j : ℕ) (from : Side) → j ≡ neighbour (size_of world) i (other from) → (more (other from) ≡ 0 → IsMarked t (after_receipt world i side p) third j from)
+        → IsMarked t (after_receipt world i side p) third j from
+    from_receiver j Left is same =
+        elim right [
+          | inl none ↦ same (sym rights_are ∙ none.0)
+          | inr some ↦ rw is some.marked
+        ]
+    from_receiver j Right is same =
+        elim left [
+          | inl none ↦ same (sym lefts_are ∙ none.0)
+          | inr some ↦ rw is (stays_right (left_of (size_of world) i) Right some.marked)
+        ]
 
-    -- a link that doesn't come from the receiver
-    from_others : (j : ℕ) (from : Side) → j < size_of world → neighbour (size_of world) j from ≢ i → IsMarked t (after_receipt world i side p) third j from
-    from_others j from below apart =
+    -- a link from which the receiver takes nothing
+    from_untaken : (j : ℕ) (from : Side) → j < size_of world → (j ≡ i → same_side from side ≡ false) → IsMarked t (after_receipt world i side p) third j from
+    from_untaken j from below away =
         let old = marked.each j from below in
-        let kept : (j ≡ i → same_side from side ≡ false) → IsMarked t (after_receipt world i side p) third j from =
-        λ away. let same = flight_kept j from away apart in stays j from (record { bit = rw same old.bit; few = rw same old.few }) in
+        let same : sent_into t (after_receipt world i side p) j from ≡ sent_into t world j from → IsMarked t (after_receipt world i side p) third j from =
+        λ sent. let flight = flight_kept j from away sent in stays_left j from (here.kept j from (record { bit = rw flight old.bit; few = rw flight old.few })) in
+        elim (same_or_not (neighbour (size_of world) j from) i) [
+          | inr apart ↦ same (sent_by_others j from apart)
+          | inl at ↦ from_receiver j from (sym (neighbour-neighbour (size_of world) j from below) ∙ ap (λ k. neighbour (size_of world) k (other from)) at) (λ none. same (sent_no_more j from at none))
+        ]
+
+    marks_each : (j : ℕ) (from : Side) → j < size_of world → IsMarked t (after_receipt world i side p) third j from
+    marks_each j from below =
         elim (same_side from side) as (λ b. same_side from side ≡ b → IsMarked t (after_receipt world i side p) third j from) [
-          | false ↦ λ e. kept (λ _. e)
+          | false ↦ λ e. from_untaken j from below (λ _. e)
           | true ↦ λ e.
               elim (same_or_not j i) [
-                | inl at ↦ rw (at, same_side-same from side e) (right.kept i side (left.kept i side here.marked))
-                | inr differ ↦ kept (λ at. absurd (differ at))
+                | inl at ↦ rw (at, same_side-same from side e) (stays_left i side here.marked)
+                | inr differ ↦ from_untaken j from below (λ at. absurd (differ at))
               ]
         ] refl
 
     -- all links are marked once those are that the receipt touches
     pub marks_after : IsMarkedAll t (after_receipt world i side p) third
     marks_after = record {
-      each = λ j from below.
-          elim (same_or_not (neighbour (size_of world) j from) i) [
-            | inl at ↦ from_receiver j from (sym (neighbour-neighbour (size_of world) j from below) ∙ ap (λ k. neighbour (size_of world) k (other from)) at)
-            | inr apart ↦ from_others j from below apart
-          ];
-      beyond = λ place past. right.beyond place past ∙ left.beyond place past ∙ here.beyond place past ∙ marked.beyond place past;
+      each = marks_each;
+      beyond = λ place past. beyond_right place past ∙ beyond_left place past ∙ here.beyond place past ∙ marked.beyond place past;
     }
 
 -- ---- One link is marked
@@ -266,20 +315,19 @@ pending_few t world words marked (suc n) low =
 
 module _ {E S M : Type 0} (t : E → Table S M) (fits : E → List ℕ → ℕ → Side → ℕ → M → Type 0) (winner : E → List ℕ → ℕ) (world : Running E M) (pending : ℕ) (words : List ℕ)
     (tallied : IsTallied t world fits winner pending words) (i : ℕ) (inside : i < size_of world) (side : Side) (p : Packet M) (front : slice_get (in_flight t world i side) 0 ≡ Some p)
-    (new : Running E M) (moved : new ≡ after_receipt world i side p) (before after : ℕ)
-    (sent_before : before ≡ length (sent_of t (node_at world i) Left) + length (sent_of t (node_at world i) Right))
-    (sent_after : after ≡ length (sent_of t (node_at new i) Left) + length (sent_of t (node_at new i) Right)) where
+    (new : Running E M) (moved : new ≡ after_receipt world i side p) where
   place_within : i < length world.journals
   place_within = rw tallied.sound.count inside
 
-  -- the number that is kept, and what the receiver has sent, give the number afterwards
-  pub count_after : (pending_of t new + 1) + before ≡ pending + after
-  count_after =
-      let whole = pending_after t world i place_within side p tallied.sound.links front inside in
-      let counted = tallied.counted in
-      rw moved (omega (arith, whole, counted, sent_before, rw moved at sent_after))
+  -- the receiver has sent no less than before
+  pub sent_grown : (to : Side) (before : ℕ) → before ≡ length (sent_of t (node_at world i) to) → before ≤ length (sent_of t (node_at new i) to)
+  sent_grown to before is = let grown = more_sent_by t world i place_within side p to in rw moved (omega (arith, grown, is))
 
-  -- and it is far below the limit of the number
+  -- how much more it has sent
+  more_is : (to : Side) (before extra : ℕ) → before ≡ length (sent_of t (node_at world i) to) → before + extra ≡ length (sent_of t (node_at new i) to) → extra ≡ more t world i place_within side p to
+  more_is to before extra is whole = let grown = more_sent_by t world i place_within side p to in omega (arith, grown, is, rw moved at whole)
+
+  -- the number that is kept is far below the limit of the number
   pub count_few : pending ≤ 9444732965739290427392
   count_few =
       let few = pending_few t world words tallied.marked (size_of world) (omega arith) in
@@ -287,13 +335,22 @@ module _ {E S M : Type 0} (t : E → Table S M) (fits : E → List ℕ → ℕ �
       let counted = tallied.counted in
       omega (arith, few, short, counted)
 
-  pub tally_after : IsSoundWorld t fits winner new → (left right : ℕ) → left ≡ neighbour (size_of new) i Left → right ≡ neighbour (size_of new) i Right
-      → (first second third : List ℕ) → HasMarked t new words i side first → HasMarked t new first left Right second → HasMarked t new second right Left third
-      → IsTallied t new fits winner (((pending + after) - before) - 1) third
-  tally_after sound left right left_is right_is first second third here there beyond = record {
-    sound = sound;
-    counted = let whole = count_after in omega arith;
-    marked =
-        rw moved
-        (marks_after t world i place_within side p words first second third tallied.marked (rw moved at here) (rw (left_is, moved) at there) (rw (right_is, moved) at beyond) inside);
-  }
+  module _ (left right lefts rights : ℕ) (left_is : left ≡ length (sent_of t (node_at world i) Left)) (right_is : right ≡ length (sent_of t (node_at world i) Right))
+      (lefts_are : left + lefts ≡ length (sent_of t (node_at new i) Left)) (rights_are : right + rights ≡ length (sent_of t (node_at new i) Right)) where
+    -- the number that is kept, and what the receiver has sent more, give the number afterwards
+    pub count_after : pending_of t new + 1 ≡ (pending + lefts) + rights
+    count_after =
+        let whole = pending_after t world i place_within side p tallied.sound.links front inside in
+        let counted = tallied.counted in
+        rw moved (omega (arith, whole, counted, left_is, right_is, rw moved at lefts_are, rw moved at rights_are))
+
+    pub tally_after : IsSoundWorld t fits winner new → (first second third : List ℕ) → HasMarked t new words i side first → HasMarkedSent t new first i Left lefts second → HasMarkedSent t new second i Right rights third
+        → IsTallied t new fits winner (((pending + lefts) + rights) - 1) third
+    tally_after sound first second third here there beyond = record {
+      sound = sound;
+      counted = let whole = count_after in omega arith;
+      marked =
+          rw moved
+          (marks_after t world i place_within side p words first second third lefts rights tallied.marked (rw moved at here) (rw moved at there) (rw moved at beyond)
+          (more_is Left left lefts left_is lefts_are) (more_is Right right rights right_is rights_are) inside);
+    }

@@ -1,6 +1,8 @@
 -- What a world keeps beside its nodes: how many packets are in flight, and on which links.
-use Rattle.std.specs.Prelude.{◌≡◌, ◌*◌, ◌^◌, ◌<◌, ◌≤◌, ℕ, List, [], ◌∷◌, length}
+use Rattle.std.specs.Prelude.{◌≡◌, ◌*◌, ◌^◌, ◌<◌, ◌≤◌, ◌⊎◌, ℕ, List, [], ◌∷◌, length}
 use Rattle.ring_id.specs.declared.side.Side.{Side}
+use Rattle.ring_id.specs.Sides.{other}
+use Rattle.ring_roster.specs.Ring.{neighbour}
 use Rattle.ring_election.specs.Tables.{Table}
 use Rattle.ring_world.specs.ReadySets.{bit_of, link_place}
 use Rattle.ring_world.specs.Worlds.{IsSoundWorld, Running, in_flight, pending_of, size_of}
@@ -26,6 +28,10 @@ module _ {E S M : Type 0} (t : E → Table S M) (world : Running E M) where
     pub marked : IsMarked new i side
     pub kept : (j : ℕ) (from : Side) → IsMarked old j from → IsMarked new j from
     pub beyond : (place : ℕ) → 2 * size_of world ≤ place → bit_of new place ≡ bit_of old place
+
+  -- the link from a node to a side is marked, where the node has sent more there than before
+  abbrev pub HasMarkedSent : List ℕ → ℕ → Side → ℕ → List ℕ → Type 0
+  HasMarkedSent old i to more new = ((more ≡ 0) × (new ≡ old)) ⊎ HasMarked old (neighbour (size_of world) i to) (other to) new
 
   -- what the type of a world keeps: it is sound, the number is what is in flight, and the bits are
   -- the links on which something is

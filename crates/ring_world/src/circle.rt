@@ -1,10 +1,10 @@
-ghost use Rattle.std.specs.Prelude.{◌≡◌, ◌+◌, ◌*◌, ◌^◌, ◌<◌, ◌≤◌, ◌&&◌, not, [], IfOk, IfSome, OnErr, OnOk, length, replicate, slice_get};
-ghost use Rattle.ring_id.specs.declared.side.Side.TheVariants.{Left, Right};
+ghost use Rattle.std.specs.Prelude.{◌≡◌, ◌+◌, ◌<◌, ◌≤◌, ◌&&◌, not, [], IfOk, IfSome, OnErr, OnOk, length, replicate, slice_get};
+ghost use Rattle.ring_id.specs.declared.side.Side.TheVariants.{Right};
 ghost use Rattle.ring_id.specs.Sides.{other, same_side};
 ghost use Rattle.ring_roster.specs.Ring.{neighbour};
 ghost use Rattle.ring_node.specs.Envelopes.{IsProper};
 ghost use Rattle.ring_node.specs.Nodes.{next_index, sent_of, told_of};
-ghost use Rattle.ring_world.specs.Tallies.{HasMarked};
+ghost use Rattle.ring_world.specs.Tallies.{HasMarked, HasMarkedSent};
 ghost use Rattle.ring_world.specs.Worlds.{IsSoundWorld, after_receipt, in_flight, node_at, nodes_of};
 
 use crate::owners::Owners;
@@ -154,14 +154,12 @@ impl<E: RingElection> Circle<E> {
         sender.sent(side.other()) - self.node(position).taken(side)
     }
 
-    /// How many packets the node at a position has sent.
-    pub fn sent_by(&self, position: usize) -> u128
+    /// How many packets the node at a position has sent to a side.
+    pub fn sent(&self, position: usize, to: Side) -> usize
         requires { position < length self.now.charter.roster }
-        ensures value { result ≡ length (sent_of E.table (node_at self.now position) Left) + length (sent_of E.table (node_at self.now position) Right) }
-        ensures few { result < 2 * 2 ^ 64 }
+        ensures { result ≡ length (sent_of E.table (node_at self.now position) to) }
     {
-        let node = self.node(position);
-        node.sent(Side::Left) as u128 + node.sent(Side::Right) as u128
+        self.node(position).sent(to)
     }
 
     /// Marks in a set whether something is in flight on a link. No other link's mark changes.
@@ -171,5 +169,20 @@ impl<E: RingElection> Circle<E> {
     {
         let here = self.waiting(position, side) > 0;
         ready.put(place_of(position, side), here);
+    }
+
+    /// How many packets the node at a position has sent to a side since it had sent so many before.
+    /// Where there are any their link is marked in a set; where there are none no mark changes.
+    pub fn mark_sent(&self, ready: &mut ReadySet, position: usize, to: Side, before: usize) -> usize
+        requires inside { position < length self.now.charter.roster }
+        requires grown { before ≤ length (sent_of E.table (node_at self.now position) to) }
+        ensures more { before + result ≡ length (sent_of E.table (node_at self.now position) to) }
+        ensures marked { HasMarkedSent E.table self.now ready.old.words position to result ready.new.words }
+    {
+        let more = self.sent(position, to) - before;
+        if more > 0 {
+            self.mark(ready, self.neighbour(position, to), to.other());
+        }
+        more
     }
 }

@@ -149,14 +149,17 @@ impl<E: RingElection> World<E> {
         ensures err { OnErr result (self.new ≡ self.old) }
         ensures sound { IsSoundWorld E.table E.fits E.winner self.new }
     {
-        let before = self.circle.sent_by(position);
+        let left_before = self.circle.sent(position, Side::Left);
+        let right_before = self.circle.sent(position, Side::Right);
         let report = self.circle.hand_over(position, side, packet)?;
-        self.pending = self.pending + self.circle.sent_by(position) - before - 1;
-        let left = self.circle.neighbour(position, Side::Left);
-        let right = self.circle.neighbour(position, Side::Right);
         self.circle.mark(&mut self.ready, position, side);
-        self.circle.mark(&mut self.ready, left, Side::Right);
-        self.circle.mark(&mut self.ready, right, Side::Left);
+        let left = self
+            .circle
+            .mark_sent(&mut self.ready, position, Side::Left, left_before);
+        let right = self
+            .circle
+            .mark_sent(&mut self.ready, position, Side::Right, right_before);
+        self.pending = self.pending + left as u128 + right as u128 - 1;
         Ok(report)
     }
 }

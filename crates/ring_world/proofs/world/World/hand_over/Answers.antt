@@ -1,32 +1,47 @@
 -- What is kept beside the nodes is brought up to what is in flight after the receipt.
 use Rattle.std.proofs.Common.{arith}
-use Rattle.ring_world.proofs.Tallies.{count_after, count_few, tally_after}
+use Rattle.ring_id.specs.declared.side.Side.TheVariants.{Left, Right}
+use Rattle.ring_world.proofs.Tallies.{count_after, count_few, sent_grown, tally_after}
 use Rattle.ring_world.proofs.world.World.hand_over.Goals as goal
+
+pub mark_sent-left-requires-clause-grown : goal.mark_sent-left-requires-clause-grown
+mark_sent-left-requires-clause-grown g c =
+    let inside = rw (← c.self.view_is) at c.requires.inside in
+    let front = rw (← c.self.view_is) at c.requires.front in
+    sent_grown _ _ _ _ _ _ c.self.invariant c.args.position inside c.args.side c.args.packet front _ c.in_ok-report.ensures.journals Left _ c.sent-left_before.ensures
+
+pub mark_sent-right-requires-clause-grown : goal.mark_sent-right-requires-clause-grown
+mark_sent-right-requires-clause-grown g c =
+    let inside = rw (← c.self.view_is) at c.requires.inside in
+    let front = rw (← c.self.view_is) at c.requires.front in
+    sent_grown _ _ _ _ _ _ c.self.invariant c.args.position inside c.args.side c.args.packet front _ c.in_ok-report.ensures.journals Right _ c.sent-right_before.ensures
 
 pub overflow_add-self : goal.overflow_add-self
 overflow_add-self g c =
     let inside = rw (← c.self.view_is) at c.requires.inside in
     let front = rw (← c.self.view_is) at c.requires.front in
-    let few = count_few _ _ _ _ _ _ c.self.invariant c.args.position inside c.args.side c.args.packet front _ c.in_ok-report.ensures.journals _ _ c.sent_by-before.ensures.value c.sent_by.ensures.value in
-    omega (arith, few, c.sent_by.ensures.few)
+    let few = count_few _ _ _ _ _ _ c.self.invariant c.args.position inside c.args.side c.args.packet front _ c.in_ok-report.ensures.journals in
+    omega (arith, few, c.mark_sent-left.type_inv)
+
+pub overflow_add-self-2 : goal.overflow_add-self-2
+overflow_add-self-2 g c =
+    let inside = rw (← c.self.view_is) at c.requires.inside in
+    let front = rw (← c.self.view_is) at c.requires.front in
+    let few = count_few _ _ _ _ _ _ c.self.invariant c.args.position inside c.args.side c.args.packet front _ c.in_ok-report.ensures.journals in
+    omega (arith, few, c.mark_sent-left.type_inv, c.mark_sent-right.type_inv)
 
 pub overflow_sub-self : goal.overflow_sub-self
 overflow_sub-self g c =
     let inside = rw (← c.self.view_is) at c.requires.inside in
     let front = rw (← c.self.view_is) at c.requires.front in
-    let whole = count_after _ _ _ _ _ _ c.self.invariant c.args.position inside c.args.side c.args.packet front _ c.in_ok-report.ensures.journals _ _ c.sent_by-before.ensures.value c.sent_by.ensures.value in
-    omega (arith, whole)
-
-pub overflow_sub-self-2 : goal.overflow_sub-self-2
-overflow_sub-self-2 g c =
-    let inside = rw (← c.self.view_is) at c.requires.inside in
-    let front = rw (← c.self.view_is) at c.requires.front in
-    let whole = count_after _ _ _ _ _ _ c.self.invariant c.args.position inside c.args.side c.args.packet front _ c.in_ok-report.ensures.journals _ _ c.sent_by-before.ensures.value c.sent_by.ensures.value in
+    let whole = count_after _ _ _ _ _ _ c.self.invariant c.args.position inside c.args.side c.args.packet front _ c.in_ok-report.ensures.journals _ _ _ _
+    c.sent-left_before.ensures c.sent-right_before.ensures c.mark_sent-left.ensures.more c.mark_sent-right.ensures.more in
     omega (arith, whole)
 
 pub invariant_of-self-2 : goal.invariant_of-self-2
 invariant_of-self-2 g c =
     let inside = rw (← c.self.view_is) at c.requires.inside in
     let front = rw (← c.self.view_is) at c.requires.front in
-    tally_after _ _ _ _ _ _ c.self.invariant c.args.position inside c.args.side c.args.packet front _ c.in_ok-report.ensures.journals _ _ c.sent_by-before.ensures.value c.sent_by.ensures.value
-    c.in_ok-report.ensures.sound _ _ c.neighbour-left.ensures.value c.neighbour-right.ensures.value _ _ _ c.mark.ensures c.mark-2.ensures c.mark-3.ensures
+    tally_after _ _ _ _ _ _ c.self.invariant c.args.position inside c.args.side c.args.packet front _ c.in_ok-report.ensures.journals _ _ _ _
+    c.sent-left_before.ensures c.sent-right_before.ensures c.mark_sent-left.ensures.more c.mark_sent-right.ensures.more
+    c.in_ok-report.ensures.sound _ _ _ c.mark.ensures c.mark_sent-left.ensures.marked c.mark_sent-right.ensures.marked
