@@ -3,14 +3,14 @@ ghost use Rattle.std.specs.List.{list_any};
 ghost use Rattle.ring_id.specs.Refusals.{IsRefusal};
 ghost use Rattle.ring_roster.specs.Ring.{IsRing, has_number, has_repeat, neighbour, position_of, ring_refusal};
 
-use ring_id::{NodeId, Refusal, Side, same_ids};
+use ring_id::{NoMemory, NodeId, Refusal, Side, same_ids};
 use std::alloc::Global;
 use std::marker::Model;
 
 /// The ring of a term: a list of 1 to 256 identities with different numbers, in joining order.
 ///
 /// Contracts see a roster as the list of its identities (Lynch, Distributed Algorithms, 3.1).
-/// None of the calls but `from_members` takes memory.
+/// None of the calls but `from_members` and `of_ring` takes memory.
 #[derive(Debug, Drop)]
 pub struct Roster {
     members: Vec<NodeId>,
@@ -48,8 +48,20 @@ impl Roster {
         if repeats(members) {
             return Err(Refusal::Member);
         }
-        let Ok(members) = Vec::from_slice(alloc, members) else {
+        let Ok(ring) = Roster::of_ring(alloc, members) else {
             return Err(Refusal::NoMemory);
+        };
+        Ok(ring)
+    }
+
+    /// The ring of these identities in this order, where they are known to be a ring: it looks for
+    /// no repeats, and its time grows with their number alone. Refused for want of memory alone.
+    pub fn of_ring(alloc: Global, members: &[NodeId]) -> Result<Roster, NoMemory>
+        requires { IsRing members.now }
+        ensures { IfOk result (λ ring. ring ≡ members.now) }
+    {
+        let Ok(members) = Vec::from_slice(alloc, members) else {
+            return Err(NoMemory);
         };
         Ok(Roster { members })
     }
@@ -162,6 +174,24 @@ mod tests {
             let answer = Roster::from_members(alloc, &members).err();
             assert_eq!(rt; answer, Some(refusal));
         }
+        Ok(())
+    }
+
+    #[test]
+    fn is_made_of_what_is_known_to_be_a_ring(rt: HostRuntime) -> Result<(), Fail> {
+        let alloc = rt.alloc();
+        let three = ring_of(alloc, &[3, 1, 2])?;
+        let ring = Roster::of_ring(alloc, &three.members)?;
+        assert_eq!(rt; ring.len(), 3);
+        assert_eq!(rt; ring.at(0), NodeId::new(3));
+        assert_eq!(rt; ring.at(1), NodeId::new(1));
+        assert_eq!(rt; ring.at(2), NodeId::new(2));
+        let most: Vec<u32> = (1..257).collect(alloc)?;
+        let most = ring_of(alloc, &most)?;
+        let ring = Roster::of_ring(alloc, &most.members)?;
+        assert_eq!(rt; ring.len(), Roster::MOST);
+        assert_eq!(rt; ring.at(255), NodeId::new(256));
+        assert!(rt; ring.same(&most));
         Ok(())
     }
 

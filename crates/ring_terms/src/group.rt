@@ -117,7 +117,9 @@ impl<E: RingElection> Group<E> {
         let Some(term) = TermNo::new((self.terms.len() + 1) as u16) else {
             return Err(Refusal::TermLimit);
         };
-        let roster = Roster::from_members(alloc, &self.members)?;
+        let Ok(roster) = Roster::of_ring(alloc, &self.members) else {
+            return Err(Refusal::NoMemory);
+        };
         let Ok(charter) = Charter::new(alloc, self.name, term, self.algorithm, roster) else {
             return Err(Refusal::NoMemory);
         };
