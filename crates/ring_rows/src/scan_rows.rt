@@ -122,6 +122,9 @@ fn scans_agree_on_a_ring_of_five(rt: HostRuntime) -> Result<(), Fail> {
         compared(&mut begun(rt.alloc(), Hirschberg, &ring)?, 999)?,
         1
     );
-    assert_eq!(rt; compared(&mut begun(rt.alloc(), Peterson, &ring)?, 999)?, 35);
+    assert_eq!(rt;
+        compared(&mut begun(rt.alloc(), Peterson, &ring)?, 999)?,
+        35
+    );
     Ok(())
 }
