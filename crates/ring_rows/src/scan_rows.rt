@@ -8,6 +8,7 @@ use ring_id::Side;
 use ring_lelann::LeLann;
 use ring_peterson::Peterson;
 use ring_world::World;
+use std::alloc::Global;
 use std::test::Fail;
 
 /// How many packets are in flight on the link into this position, by the lists of its two nodes.
@@ -89,42 +90,35 @@ fn compared<E: RingElection>(world: &mut World<E>, most: u32) -> Result<u32, Fai
     Err("the world has not come to rest".into())
 }
 
+/// How many deliveries the ring of these numbers takes, the scans agreeing all the way.
+fn taken<E: RingElection>(alloc: Global, algorithm: E, numbers: &[u32]) -> Result<u32, Fail> {
+    compared(&mut begun(alloc, algorithm, numbers)?, 999)
+}
+
 #[test]
 fn scans_agree_on_a_ring_of_one(rt: HostRuntime) -> Result<(), Fail> {
-    assert_eq!(rt; compared(&mut begun(rt.alloc(), LeLann, &[7])?, 9)?, 2);
-    assert_eq!(rt; compared(&mut begun(rt.alloc(), Chang, &[7])?, 9)?, 2);
-    assert_eq!(rt; compared(&mut begun(rt.alloc(), Hirschberg, &[7])?, 9)?, 3);
-    assert_eq!(rt; compared(&mut begun(rt.alloc(), Peterson, &[7])?, 9)?, 3);
+    assert_eq!(rt; taken(rt.alloc(), LeLann, &[7])?, 2);
+    assert_eq!(rt; taken(rt.alloc(), Chang, &[7])?, 2);
+    assert_eq!(rt; taken(rt.alloc(), Hirschberg, &[7])?, 3);
+    assert_eq!(rt; taken(rt.alloc(), Peterson, &[7])?, 3);
     Ok(())
 }
 
 #[test]
 fn scans_agree_on_a_ring_of_two(rt: HostRuntime) -> Result<(), Fail> {
-    assert_eq!(rt; compared(&mut begun(rt.alloc(), LeLann, &[5, 9])?, 99)?, 6);
-    assert_eq!(rt; compared(&mut begun(rt.alloc(), Chang, &[5, 9])?, 99)?, 5);
-    assert_eq!(rt;
-        compared(&mut begun(rt.alloc(), Hirschberg, &[5, 9])?, 99)?,
-        12
-    );
-    assert_eq!(rt;
-        compared(&mut begun(rt.alloc(), Peterson, &[5, 9])?, 99)?,
-        10
-    );
+    assert_eq!(rt; taken(rt.alloc(), LeLann, &[5, 9])?, 6);
+    assert_eq!(rt; taken(rt.alloc(), Chang, &[5, 9])?, 5);
+    assert_eq!(rt; taken(rt.alloc(), Hirschberg, &[5, 9])?, 12);
+    assert_eq!(rt; taken(rt.alloc(), Peterson, &[5, 9])?, 10);
     Ok(())
 }
 
 #[test]
 fn scans_agree_on_a_ring_of_five(rt: HostRuntime) -> Result<(), Fail> {
     let ring = [4, 1, 3, 2, 6];
-    assert_eq!(rt; compared(&mut begun(rt.alloc(), LeLann, &ring)?, 999)?, 30);
-    assert_eq!(rt; compared(&mut begun(rt.alloc(), Chang, &ring)?, 999)?, 18);
-    assert_eq!(rt;
-        compared(&mut begun(rt.alloc(), Hirschberg, &ring)?, 999)?,
-        1
-    );
-    assert_eq!(rt;
-        compared(&mut begun(rt.alloc(), Peterson, &ring)?, 999)?,
-        35
-    );
+    assert_eq!(rt; taken(rt.alloc(), LeLann, &ring)?, 30);
+    assert_eq!(rt; taken(rt.alloc(), Chang, &ring)?, 18);
+    assert_eq!(rt; taken(rt.alloc(), Hirschberg, &ring)?, 58);
+    assert_eq!(rt; taken(rt.alloc(), Peterson, &ring)?, 35);
     Ok(())
 }
