@@ -1,9 +1,9 @@
 -- What is in flight after a receipt: on the packet's link one packet less, on the links from the
 -- receiver what it has sent because of it, and on every other link what was there.
-use Rattle.std.proofs.Common.{◌≡◌, ◌≢◌, ◌+◌, ◌-◌, ◌*◌, ◌<◌, ◌≤◌, ◌==◌, ℕ, zero, suc, Bool, true, false, cond, nat_lt, List, [], ◌∷◌, ◌++◌, length, drop, Some, None, slice_get, refl, sym, ap, ap₂, ◌∙◌, arith, inl, inr}
+use Rattle.std.proofs.Common.{◌≡◌, ◌≢◌, ◌+◌, ◌-◌, ◌*◌, ◌^◌, ◌<◌, ◌≤◌, ◌==◌, ℕ, zero, suc, Bool, true, false, cond, nat_lt, List, [], ◌∷◌, ◌++◌, length, drop, Some, None, slice_get, refl, sym, ap, ap₂, ◌∙◌, arith, inl, inr}
 use Rattle.std.proofs.lemmas.Bool.{cases_lt}
 use Rattle.std.proofs.lemmas.Bool.Decides.{nat_tests}
-use Rattle.std.proofs.lemmas.List.{append-nil, length-append}
+use Rattle.std.proofs.lemmas.List.{append-nil, length-append, length-drop}
 use Rattle.ring_id.specs.declared.side.Side.{Side}
 use Rattle.ring_id.specs.declared.side.Side.TheVariants.{Left, Right}
 use Rattle.ring_id.specs.Sides.{other, same_side}
@@ -67,6 +67,10 @@ counts_side j i Right = grind (arith, nat_tests)
 flight_is_rest : {M : Type 0} (taken flight sent : List (Packet M)) → taken ++ flight ≡ sent → length taken + length flight ≡ length sent
 flight_is_rest taken flight sent whole = sym (length-append taken flight) ∙ ap length whole
 
+some_length : {A : Type 0} (xs : List A) (x : A) → slice_get xs 0 ≡ Some x → 0 < length xs
+some_length [] x h = cc
+some_length (y ∷ xs) x h = omega arith
+
 module _ {E S M : Type 0} (t : E → Table S M) (world : Running E M) (i : ℕ) (within : i < length world.journals) (side : Side) (p : Packet M) where
   -- how much more the receiver has sent to a side
   pub more : Side → ℕ
@@ -108,6 +112,29 @@ module _ {E S M : Type 0} (t : E → Table S M) (world : Running E M) (i : ℕ) 
         let sent = sent_after (neighbour (size_of world) j from) (other from) in
         let link = counts_link (size_of world) j i from (more (other from)) below inside in
         omega (arith, before, after, taken, sent, link)
+
+    -- what is taken was in flight
+    taken_waits : (j : ℕ) (from : Side) → cond (j == i) (cond (same_side from side) 1 0) 0 ≤ length (in_flight t world j from)
+    taken_waits j from =
+        elim (same_or_not j i) [
+          | inr differ ↦ omega (arith, counts_not j i (cond (same_side from side) 1 0) differ)
+          | inl at ↦
+              elim (same_side from side) as (λ b. same_side from side ≡ b → cond (j == i) (cond b 1 0) 0 ≤ length (in_flight t world j from)) [
+                | false ↦ λ e. omega (arith, counts j i 0 at)
+                | true ↦ λ e. let some = some_length _ p front in rw (at, same_side-same from side e) (omega (arith, counts i i 1 refl, some))
+              ] refl
+        ]
+
+    -- where the receiver has sent more, something is in flight there
+    waits_after : (to : Side) → 0 < more to → 0 < length (in_flight t (after_receipt world i side p) (neighbour (size_of world) i to) (other to))
+    waits_after Left some =
+        let n : ℕ = size_of world in
+        let j : ℕ = left_of n i in
+        omega (arith, some, flight_after j Right (neighbour-below n i Left inside), taken_waits j Right, counts j (left_of n i) (more Left) refl)
+    waits_after Right some =
+        let n : ℕ = size_of world in
+        let j : ℕ = right_of n i in
+        omega (arith, some, flight_after j Left (neighbour-below n i Right inside), taken_waits j Left, counts j (right_of n i) (more Right) refl)
 
     pending_below_after : (m : ℕ) → m ≤ size_of world → pending_below t (after_receipt world i side p) m + cond (nat_lt i m) 1 0
         ≡ pending_below t world m + (cond (nat_lt (right_of (size_of world) i) m) (more Right) 0 + cond (nat_lt (left_of (size_of world) i) m) (more Left) 0)
@@ -250,6 +277,10 @@ pub some_by_length : {A : Type 0} (xs : List A) → cond (nat_lt 0 (length xs)) 
 some_by_length [] = grind (arith, nat_tests)
 some_by_length (x ∷ xs) = grind (arith, nat_tests)
 
+one_of_some : {A : Type 0} (xs : List A) → 0 < length xs → some_or_none xs ≡ 1
+one_of_some [] h = absurd (omega arith)
+one_of_some (x ∷ xs) h = refl
+
 -- where one bit is put as its link is, the link is marked and the other marks stay
 pub one_marked : {E S M : Type 0} (t : E → Table S M) (world : Running E M) (old new : List ℕ) (i : ℕ) (side : Side) → i < size_of world → IsMarked t world new i side
     → ((place : ℕ) → place ≢ link_place i side → bit_of new place ≡ bit_of old place)
@@ -263,6 +294,26 @@ one_marked t world old new i side inside marked others = record {
       ];
   beyond = λ place past. let below = place_below (size_of world) i side inside in others place (omega arith);
 }
+
+-- what is in flight on a link from a node is among what it has sent there
+flight_within : {E S M : Type 0} (t : E → Table S M) (world : Running E M) (i : ℕ) (to : Side) → i < size_of world
+    → length (in_flight t world (neighbour (size_of world) i to) (other to)) ≤ length (sent_of t (node_at world i) to)
+flight_within t world i Left inside = rw (neighbour-neighbour (size_of world) i Left inside)
+    (let rest = length-drop (length (taken_at t world (neighbour (size_of world) i Left) Right)) (sent_of t (node_at world i) Left) in omega (arith, rest))
+flight_within t world i Right inside = rw (neighbour-neighbour (size_of world) i Right inside)
+    (let rest = length-drop (length (taken_at t world (neighbour (size_of world) i Right) Left)) (sent_of t (node_at world i) Right) in omega (arith, rest))
+
+-- where the bit of a link with something in flight is put, the link is marked
+pub one_put : {E S M : Type 0} (t : E → Table S M) (world : Running E M) (old new : List ℕ) (i : ℕ) (to : Side) → i < size_of world
+    → 0 < length (in_flight t world (neighbour (size_of world) i to) (other to))
+    → length (sent_of t (node_at world i) to) < 2 ^ 64
+    → bit_of new (link_place (neighbour (size_of world) i to) (other to)) ≡ 1
+    → ((place : ℕ) → place ≢ link_place (neighbour (size_of world) i to) (other to) → bit_of new place ≡ bit_of old place)
+    → HasMarked t world old (neighbour (size_of world) i to) (other to) new
+one_put t world old new i to inside waits few put others =
+    let flight = in_flight t world (neighbour (size_of world) i to) (other to) in
+    one_marked t world old new (neighbour (size_of world) i to) (other to) (neighbour-below (size_of world) i to inside)
+    (record { bit = put ∙ sym (one_of_some flight waits); few = let within = flight_within t world i to inside in omega (arith, within, few) }) others
 
 -- ---- What the marks tell
 
@@ -322,6 +373,13 @@ module _ {E S M : Type 0} (t : E → Table S M) (fits : E → List ℕ → ℕ �
   -- the receiver has sent no less than before
   pub sent_grown : (to : Side) (before : ℕ) → before ≡ length (sent_of t (node_at world i) to) → before ≤ length (sent_of t (node_at new i) to)
   sent_grown to before is = let grown = more_sent_by t world i place_within side p to in rw moved (omega (arith, grown, is))
+
+  -- and where it has sent more, something is in flight there
+  pub sent_waits : (to : Side) (before : ℕ) → before ≡ length (sent_of t (node_at world i) to) → before < length (sent_of t (node_at new i) to)
+      → 0 < length (in_flight t new (neighbour (size_of new) i to) (other to))
+  sent_waits to before is less =
+      let grown = more_sent_by t world i place_within side p to in
+      rw moved (waits_after t world i place_within side p tallied.sound.links front inside to (omega (arith, grown, is, rw moved at less)))
 
   -- how much more it has sent
   more_is : (to : Side) (before extra : ℕ) → before ≡ length (sent_of t (node_at world i) to) → before + extra ≡ length (sent_of t (node_at new i) to) → extra ≡ more t world i place_within side p to

@@ -94,6 +94,7 @@ impl<E: RingElection> Circle<E> {
         requires { position < length self.now.charter.roster }
         ensures value { result ≡ neighbour (length self.now.charter.roster) position side }
         ensures inside { result < length self.now.charter.roster }
+        ensures few { result < 256 }
     {
         self.charter().roster().neighbour(position, side)
     }
@@ -172,16 +173,19 @@ impl<E: RingElection> Circle<E> {
     }
 
     /// How many packets the node at a position has sent to a side since it had sent so many before.
-    /// Where there are any their link is marked in a set; where there are none no mark changes.
+    /// Where there are any, something is in flight on their link, and it is marked in a set; where
+    /// there are none no mark changes.
     pub fn mark_sent(&self, ready: &mut ReadySet, position: usize, to: Side, before: usize) -> usize
         requires inside { position < length self.now.charter.roster }
         requires grown { before ≤ length (sent_of E.table (node_at self.now position) to) }
+        requires waits { before < length (sent_of E.table (node_at self.now position) to) → 0 < length (in_flight E.table self.now (neighbour (length self.now.charter.roster) position to) (other to)) }
         ensures more { before + result ≡ length (sent_of E.table (node_at self.now position) to) }
         ensures marked { HasMarkedSent E.table self.now ready.old.words position to result ready.new.words }
     {
         let more = self.sent(position, to) - before;
         if more > 0 {
-            self.mark(ready, self.neighbour(position, to), to.other());
+            let receiver = self.neighbour(position, to);
+            ready.put(place_of(receiver, to.other()), true);
         }
         more
     }

@@ -1,14 +1,26 @@
 -- What is kept beside the nodes is brought up to what is in flight after the receipt.
 use Rattle.std.proofs.Common.{arith}
 use Rattle.ring_id.specs.declared.side.Side.TheVariants.{Left, Right}
-use Rattle.ring_world.proofs.Tallies.{count_after, count_few, sent_grown, tally_after}
+use Rattle.ring_world.proofs.Tallies.{count_after, count_few, sent_grown, sent_waits, tally_after}
 use Rattle.ring_world.proofs.world.World.hand_over.Goals as goal
+
+pub mark_sent-left-requires-clause-waits : goal.mark_sent-left-requires-clause-waits
+mark_sent-left-requires-clause-waits g c =
+    let inside = rw (← c.self.view_is) at c.requires.inside in
+    let front = rw (← c.self.view_is) at c.requires.front in
+    sent_waits _ _ _ _ _ _ c.self.invariant c.args.position inside c.args.side c.args.packet front _ c.in_ok-report.ensures.journals Left _ c.sent-left_before.ensures
 
 pub mark_sent-left-requires-clause-grown : goal.mark_sent-left-requires-clause-grown
 mark_sent-left-requires-clause-grown g c =
     let inside = rw (← c.self.view_is) at c.requires.inside in
     let front = rw (← c.self.view_is) at c.requires.front in
     sent_grown _ _ _ _ _ _ c.self.invariant c.args.position inside c.args.side c.args.packet front _ c.in_ok-report.ensures.journals Left _ c.sent-left_before.ensures
+
+pub mark_sent-right-requires-clause-waits : goal.mark_sent-right-requires-clause-waits
+mark_sent-right-requires-clause-waits g c =
+    let inside = rw (← c.self.view_is) at c.requires.inside in
+    let front = rw (← c.self.view_is) at c.requires.front in
+    sent_waits _ _ _ _ _ _ c.self.invariant c.args.position inside c.args.side c.args.packet front _ c.in_ok-report.ensures.journals Right _ c.sent-right_before.ensures
 
 pub mark_sent-right-requires-clause-grown : goal.mark_sent-right-requires-clause-grown
 mark_sent-right-requires-clause-grown g c =
