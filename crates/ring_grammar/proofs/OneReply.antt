@@ -10,7 +10,7 @@ use Rattle.std.proofs.lemmas.List.Folds.{list_all-append}
 use Rattle.ring_id.specs.GroupName.{IsName}
 use Rattle.ring_id.specs.Refusals.{word_in_table}
 use Rattle.ring_id.specs.declared.refusal.Refusal.{Refusal}
-use Rattle.ring_id.specs.declared.refusal.Refusal.TheVariants.{BadLine, NoGroup, Exists, GroupLimit, Member, NotMember, RingFull, Empty, TermLimit, NoTerm, NotInTerm, OneWay, NoMemory}
+use Rattle.ring_id.specs.declared.refusal.Refusal.TheVariants.{BadLine, NoGroup, Exists, GroupLimit, Member, NotMember, RingFull, Empty, TermLimit, NoTerm, NotInTerm, OneWay, NoMemory, SeatSpent}
 use Rattle.ring_mux.specs.declared.reply.Reply.{Reply}
 use Rattle.ring_mux.specs.declared.reply.Reply.TheVariants.{Done, Term, Leader, Undecided, Members, Terms, Groups, Moved, Idle, Pending, Drained, Refused}
 use Rattle.ring_grammar.specs.OneSpelling.{HaveOneSpelling, RepliesAreLines}
@@ -39,6 +39,7 @@ same_refusal NoTerm NoTerm same = refl
 same_refusal NotInTerm NotInTerm same = refl
 same_refusal OneWay OneWay same = refl
 same_refusal NoMemory NoMemory same = refl
+same_refusal SeatSpent SeatSpent same = refl
 same_refusal _ _ same = absurd (omega (arith, ap number_of_word same))
 
 -- no two lists of identities have the same words
@@ -145,6 +146,7 @@ plain-refusal NoTerm = refl
 plain-refusal NotInTerm = refl
 plain-refusal OneWay = refl
 plain-refusal NoMemory = refl
+plain-refusal SeatSpent = refl
 
 plain-starved : (starved : Bool) → all_plain (starved_words starved) ≡ true
 plain-starved true = refl

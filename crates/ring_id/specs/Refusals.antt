@@ -1,6 +1,6 @@
 use Rattle.std.specs.Prelude.{◌≡◌, ℕ, Bool, true, cond, List, Option, Some, None, codes}
 use Rattle.ring_id.specs.declared.refusal.Refusal.{Refusal}
-use Rattle.ring_id.specs.declared.refusal.Refusal.TheVariants.{BadLine, NoGroup, Exists, GroupLimit, Member, NotMember, RingFull, Empty, TermLimit, NoTerm, NotInTerm, OneWay, NoMemory}
+use Rattle.ring_id.specs.declared.refusal.Refusal.TheVariants.{BadLine, NoGroup, Exists, GroupLimit, Member, NotMember, RingFull, Empty, TermLimit, NoTerm, NotInTerm, OneWay, NoMemory, SeatSpent}
 
 -- the number of each refusal
 abbrev pub number_in_table : Refusal → ℕ
@@ -17,6 +17,7 @@ number_in_table NoTerm = 10
 number_in_table NotInTerm = 11
 number_in_table OneWay = 12
 number_in_table NoMemory = 13
+number_in_table SeatSpent = 14
 
 -- the word of each refusal in a reply line
 abbrev pub word_in_table : Refusal → List ℕ
@@ -33,6 +34,7 @@ word_in_table NoTerm = codes "no-term"
 word_in_table NotInTerm = codes "not-in-term"
 word_in_table OneWay = codes "one-way"
 word_in_table NoMemory = codes "no-memory"
+word_in_table SeatSpent = codes "seat-spent"
 
 -- this refusal where the test holds, else the first of the rest
 abbrev pub first_of : Bool → Refusal → Option Refusal → Option Refusal

@@ -42,6 +42,8 @@ pub enum Refusal {
     OneWay,
     /// A growth was refused.
     NoMemory,
+    /// The seat by which a table is reached has used up its turns.
+    SeatSpent,
 }
 
 impl Refusal {
@@ -63,6 +65,7 @@ impl Refusal {
             Refusal::NotInTerm => 11,
             Refusal::OneWay => 12,
             Refusal::NoMemory => 13,
+            Refusal::SeatSpent => 14,
         }
     }
 
@@ -84,6 +87,7 @@ impl Refusal {
             Refusal::NotInTerm => b"not-in-term",
             Refusal::OneWay => b"one-way",
             Refusal::NoMemory => b"no-memory",
+            Refusal::SeatSpent => b"seat-spent",
         }
     }
 }

@@ -103,6 +103,7 @@ fn refusals(rt: HostRuntime) -> Result<(), Fail> {
         (Refusal::NotInTerm, b"no not-in-term\n".as_slice()),
         (Refusal::OneWay, b"no one-way\n".as_slice()),
         (Refusal::NoMemory, b"no no-memory\n".as_slice()),
+        (Refusal::SeatSpent, b"no seat-spent\n".as_slice()),
     ] {
         assert_eq!(rt;
             printed(rt.alloc(), &Reply::Refused(refusal))?.as_slice(),
