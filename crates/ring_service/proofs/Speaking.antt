@@ -61,7 +61,7 @@ module _ {E : Type 0} where
       (λ term. unless (position_of node term.ring) refused.NotInTerm _ (λ is. cc) (λ _. nothing))
 
 -- a step is not a bad line
-step_not : {E : Type 0} (two_way greatest : E → Bool) (old new : Object E) (command : Command E) → StepOf two_way greatest old command (reply.Refused refused.BadLine) new → ⊥
+pub step_not : {E : Type 0} (two_way greatest : E → Bool) (old new : Object E) (command : Command E) → StepOf two_way greatest old command (reply.Refused refused.BadLine) new → ⊥
 step_not two_way greatest old new (Create name algorithm) step = (create_not name old).never true step.1
 step_not two_way greatest old new (Join name node) step = (in_groups name (join_refusal node) old (join_not node)).never true step.1
 step_not two_way greatest old new (Leave name node) step = (in_groups name (leave_refusal node) old (leave_not node)).never false step.1

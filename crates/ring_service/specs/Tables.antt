@@ -55,6 +55,13 @@ filed_of noting.Noted = filed.Noted
 filed_of noting.Known = filed.Known
 filed_of noting.Stale = filed.Stale
 
+-- an answer that refuses a report
+abbrev pub IsRefused : Filed → Type 0
+IsRefused filed.Noted = ⊥
+IsRefused filed.Known = ⊥
+IsRefused filed.Stale = ⊥
+IsRefused (filed.Refused refusal) = Unit {0}
+
 -- A report that was filed: what the book made of it is the answer, and the one entry that was added.
 pub record HasFiled {E : Type 0} (greatest : E → Bool) (report : Told E) (old : TableView E) (answer : Filed) (new : TableView E) : Type 0 where
   pub became : Noting

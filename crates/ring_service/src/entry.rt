@@ -1,5 +1,5 @@
-ghost use Rattle.std.specs.Prelude.{◌≡◌};
-ghost use Rattle.ring_service.specs.Tables.{filed_of};
+ghost use Rattle.std.specs.Prelude.{◌≡◌, IsTrue, ◌↔◌};
+ghost use Rattle.ring_service.specs.Tables.{IsRefused, filed_of};
 
 use ring_id::{GroupName, NodeId, Refusal, TermNo};
 use ring_mux::{Command, Reply};
@@ -47,5 +47,15 @@ impl Filed {
             Noting::Known => Filed::Known,
             Noting::Stale => Filed::Stale,
         }
+    }
+}
+
+/// Whether a report was refused. Takes no memory.
+pub fn is_refused(filed: &Filed) -> bool
+    ensures { IsTrue result ↔ IsRefused filed.now }
+{
+    match filed {
+        Filed::Noted | Filed::Known | Filed::Stale => false,
+        Filed::Refused(_) => true,
     }
 }

@@ -6,13 +6,17 @@
 //! its `Front` serves sessions over any reader and writer, in as many threads as there are sessions.
 #![tactic(auto)]
 
-mod answer;
+mod access;
 mod entry;
 mod front;
+mod locked;
 mod service;
 mod table;
+mod twice;
 
-pub use entry::{Entry, Filed};
+pub use access::{Access, Answer};
+pub use entry::{Entry, Filed, is_refused};
 pub use front::Front;
+pub use locked::{LockedSeat, LockedTable};
 pub use service::{Closing, Service, StartFault};
-pub use table::Table;
+pub use table::{Table, is_starved};

@@ -1,13 +1,13 @@
-ghost use Rattle.std.specs.Prelude.{◌≡◌, [], map, replicate, IfOk, None};
+ghost use Rattle.std.specs.Prelude.{◌≡◌, ◌↔◌, [], map, replicate, IfOk, IsTrue, None};
 ghost use Rattle.ring_mux.specs.declared.event.Command.TheVariants as command;
 ghost use Rattle.ring_terms.specs.Charters.{next_charter};
 ghost use Rattle.ring_terms.specs.Commands.{in_group, start_refusal};
 ghost use Rattle.ring_terms.specs.Object.{OfGroup};
-ghost use Rattle.ring_service.specs.Histories.{IsLegal};
+ghost use Rattle.ring_service.specs.Histories.{IsLegal, starved};
 ghost use Rattle.ring_service.specs.Tables.{Calls, Files, GivesCharters};
 
-use crate::answer::perform;
 use crate::entry::{Entry, Filed};
+use crate::twice::perform;
 use ring_election::RingElection;
 use ring_id::{GroupName, NoMemory, Refusal};
 use ring_mux::{Command, Reply};
@@ -123,6 +123,13 @@ impl<E: RingElection> Table<E> {
         }
     }
 
+    /// No charters, as a list over the table's allocator. Takes no memory.
+    pub fn no_charters(&self) -> Vec<Arc<Charter<E>>>
+        ensures { result.items ≡ [] }
+    {
+        Vec::new(self.alloc)
+    }
+
     /// Files a report: what the book makes of it is the answer, and one entry. Where the room for the
     /// entry is refused, nothing has changed.
     pub fn report(&mut self, report: &Report<E>) -> Filed
@@ -140,6 +147,16 @@ impl<E: RingElection> Table<E> {
             noting,
         });
         Filed::from_noting(noting)
+    }
+}
+
+/// Whether a table's reply to a call is want of memory. Takes no memory.
+pub fn is_starved(reply: &Reply) -> bool
+    ensures { IsTrue result ↔ (reply.now ≡ starved) }
+{
+    match reply {
+        Reply::Refused(refusal) => *refusal == Refusal::NoMemory,
+        _ => false,
     }
 }
 

@@ -2,7 +2,7 @@
 use Rattle.std.proofs.Common.{refl, ap}
 use Rattle.ring_mux.specs.declared.reply.Reply.TheVariants.{Term}
 use Rattle.ring_mux.proofs.HoldingSteps.{in_group_as}
-use Rattle.ring_service.proofs.answer.start.Goals as goal
+use Rattle.ring_service.proofs.twice.start.Goals as goal
 
 pub returns-in-Ok : goal.returns-in-Ok
 returns-in-Ok g c = record {

@@ -2,7 +2,7 @@
 use Rattle.ring_mux.specs.Replies.{done_reply, told_reply}
 use Rattle.ring_mux.proofs.HoldingSteps.{tells_reply}
 use Rattle.ring_service.proofs.Showing.{done_replies}
-use Rattle.ring_service.proofs.answer.perform.Goals as goal
+use Rattle.ring_service.proofs.twice.perform.Goals as goal
 
 pub returns-in-Create : goal.returns-in-Create
 returns-in-Create g c = record {

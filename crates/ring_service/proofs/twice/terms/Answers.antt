@@ -4,7 +4,7 @@ use Rattle.ring_terms.specs.Object.{leaders}
 use Rattle.ring_mux.specs.declared.reply.Reply.TheVariants.{Terms}
 use Rattle.ring_mux.proofs.HoldingSteps.{of_group}
 use Rattle.ring_service.proofs.Showing.{same_of_group}
-use Rattle.ring_service.proofs.answer.terms.Goals as goal
+use Rattle.ring_service.proofs.twice.terms.Goals as goal
 
 pub returns-in-Ok-terms : goal.returns-in-Ok-terms
 returns-in-Ok-terms g c = record {

@@ -3,7 +3,7 @@ use Rattle.std.proofs.Common.{refl, ap}
 use Rattle.ring_mux.specs.declared.reply.Reply.TheVariants.{Members}
 use Rattle.ring_mux.proofs.HoldingSteps.{of_group}
 use Rattle.ring_service.proofs.Showing.{same_of_group}
-use Rattle.ring_service.proofs.answer.members.Goals as goal
+use Rattle.ring_service.proofs.twice.members.Goals as goal
 
 pub returns-in-Ok-members : goal.returns-in-Ok-members
 returns-in-Ok-members g c = record {

@@ -3,7 +3,7 @@ ghost use Rattle.ring_mux.specs.Replies.{done_reply, told_reply};
 ghost use Rattle.ring_mux.specs.Steps.{standing_reply};
 ghost use Rattle.ring_mux.specs.declared.event.Command.TheVariants as command;
 ghost use Rattle.ring_mux.specs.declared.reply.Reply.TheVariants as reply;
-ghost use Rattle.ring_service.specs.Answers.{IsTwice, Performs};
+ghost use Rattle.ring_service.specs.Twice.{IsTwice, Performs};
 
 use ring_election::RingElection;
 use ring_id::{GroupName, NoMemory, Refusal};
@@ -13,7 +13,7 @@ use std::alloc::Global;
 
 /// A reply twice: one is kept in the history, and one is told to the session.
 #[derive(Drop)]
-pub(crate) struct Answer {
+pub(crate) struct Twice {
     pub(crate) kept: Reply,
     pub(crate) told: Reply,
 }
@@ -23,7 +23,7 @@ pub(crate) fn perform<E: RingElection>(
     book: &mut Book<E>,
     alloc: Global,
     command: Command<E>,
-) -> Result<Answer, NoMemory>
+) -> Result<Twice, NoMemory>
     ensures { Performs E.is_two_way E.is_greatest command book.old result book.new }
 {
     match command {
@@ -39,11 +39,11 @@ pub(crate) fn perform<E: RingElection>(
 }
 
 // The answer to a command that says nothing but that it is done.
-fn done(outcome: Result<(), Refusal>) -> Result<Answer, NoMemory>
+fn done(outcome: Result<(), Refusal>) -> Result<Twice, NoMemory>
     ensures { IsTwice (done_reply outcome) result }
 {
     match outcome {
-        Ok(()) => Ok(Answer {
+        Ok(()) => Ok(Twice {
             kept: Reply::Done,
             told: Reply::Done,
         }),
@@ -52,11 +52,11 @@ fn done(outcome: Result<(), Refusal>) -> Result<Answer, NoMemory>
 }
 
 // The answer that tells a standing.
-fn tell(outcome: Result<Standing, Refusal>) -> Result<Answer, NoMemory>
+fn tell(outcome: Result<Standing, Refusal>) -> Result<Twice, NoMemory>
     ensures { IsTwice (told_reply outcome) result }
 {
     match outcome {
-        Ok(standing) => Ok(Answer {
+        Ok(standing) => Ok(Twice {
             kept: says(&standing),
             told: says(&standing),
         }),
@@ -74,13 +74,13 @@ fn says(standing: &Standing) -> Reply
 }
 
 // The answer to a command that was refused.
-fn refused(refusal: Refusal) -> Result<Answer, NoMemory>
+fn refused(refusal: Refusal) -> Result<Twice, NoMemory>
     ensures { IsTwice (reply.Refused refusal) result }
 {
     if refusal == Refusal::NoMemory {
         return Err(NoMemory);
     }
-    Ok(Answer {
+    Ok(Twice {
         kept: Reply::Refused(refusal),
         told: Reply::Refused(refusal),
     })
@@ -91,11 +91,11 @@ fn start<E: RingElection>(
     book: &mut Book<E>,
     alloc: Global,
     group: GroupName,
-) -> Result<Answer, NoMemory>
+) -> Result<Twice, NoMemory>
     ensures { Performs E.is_two_way E.is_greatest (command.Start group) book.old result book.new }
 {
     match book.start(alloc, group) {
-        Ok(charter) => Ok(Answer {
+        Ok(charter) => Ok(Twice {
             kept: Reply::Term(charter.term()),
             told: Reply::Term(charter.term()),
         }),
@@ -108,7 +108,7 @@ fn members<E: RingElection>(
     book: &Book<E>,
     alloc: Global,
     group: GroupName,
-) -> Result<Answer, NoMemory>
+) -> Result<Twice, NoMemory>
     ensures { Performs E.is_two_way E.is_greatest (command.Members group) book.now result book.now }
 {
     let kept = match book.members(alloc, group) {
@@ -116,7 +116,7 @@ fn members<E: RingElection>(
         Err(refusal) => return refused(refusal),
     };
     match book.members(alloc, group) {
-        Ok(members) => Ok(Answer {
+        Ok(members) => Ok(Twice {
             kept,
             told: Reply::Members(members),
         }),
@@ -129,7 +129,7 @@ fn terms<E: RingElection>(
     book: &Book<E>,
     alloc: Global,
     group: GroupName,
-) -> Result<Answer, NoMemory>
+) -> Result<Twice, NoMemory>
     ensures { Performs E.is_two_way E.is_greatest (command.Terms group) book.now result book.now }
 {
     let kept = match book.terms(alloc, group) {
@@ -137,7 +137,7 @@ fn terms<E: RingElection>(
         Err(refusal) => return refused(refusal),
     };
     match book.terms(alloc, group) {
-        Ok(terms) => Ok(Answer {
+        Ok(terms) => Ok(Twice {
             kept,
             told: Reply::Terms(terms),
         }),
@@ -146,7 +146,7 @@ fn terms<E: RingElection>(
 }
 
 // The names of all groups, asked for twice.
-fn groups<E: RingElection>(book: &Book<E>, alloc: Global) -> Result<Answer, NoMemory>
+fn groups<E: RingElection>(book: &Book<E>, alloc: Global) -> Result<Twice, NoMemory>
     ensures { Performs E.is_two_way E.is_greatest command.Groups book.now result book.now }
 {
     let kept = match book.groups(alloc) {
@@ -154,7 +154,7 @@ fn groups<E: RingElection>(book: &Book<E>, alloc: Global) -> Result<Answer, NoMe
         Err(refusal) => return refused(refusal),
     };
     match book.groups(alloc) {
-        Ok(groups) => Ok(Answer {
+        Ok(groups) => Ok(Twice {
             kept,
             told: Reply::Groups(groups),
         }),
