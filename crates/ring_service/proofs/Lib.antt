@@ -1,6 +1,5 @@
 pub mod Chartering
 pub mod Following
 pub mod Outcomes
-pub mod Serving
 pub mod Showing
 pub mod Speaking

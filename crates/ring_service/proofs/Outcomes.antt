@@ -7,7 +7,7 @@ use Rattle.ring_mux.specs.declared.event.Command.{Command}
 use Rattle.ring_mux.specs.declared.reply.Reply.{Reply}
 use Rattle.ring_service.specs.Histories.{starved}
 use Rattle.ring_service.specs.Tables.{Calls, Files, HasCalled, HasFiled, HasLost, HasStarved, IsRefused, TableView, filed_of}
-use Rattle.ring_service.specs.declared.entry.Filed.{Filed}
+use Rattle.ring_workers.specs.declared.desk.Filed.{Filed}
 
 -- a call whose reply is not want of memory was made
 pub was_called : {E : Type 0} (two_way greatest : E → Bool) (session : ℕ) (command : Command E) (old new : TableView E) (answer : Reply) →

@@ -17,8 +17,8 @@ use Rattle.ring_service.specs.declared.access.Answer.{Answer}
 use Rattle.ring_service.specs.declared.access.Answer.TheVariants.{Placed, Unplaced}
 use Rattle.ring_service.specs.declared.entry.Entry.{Entry}
 use Rattle.ring_service.specs.declared.entry.Entry.TheVariants.{Call, Filing}
-use Rattle.ring_service.specs.declared.entry.Filed.{Filed}
-use Rattle.ring_service.specs.declared.entry.Filed.TheVariants as filed
+use Rattle.ring_workers.specs.declared.desk.Filed.{Filed}
+use Rattle.ring_workers.specs.declared.desk.Filed.TheVariants as filed
 
 -- the refusals that leave no entry: want of memory, and a seat that has used up its turns
 abbrev pub LeavesOut : Refusal → Type 0

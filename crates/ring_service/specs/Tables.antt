@@ -14,8 +14,8 @@ use Rattle.ring_mux.specs.declared.reply.Reply.TheVariants.{Term}
 use Rattle.ring_service.specs.Histories.{IsCall, starved}
 use Rattle.ring_service.specs.declared.entry.Entry.{Entry}
 use Rattle.ring_service.specs.declared.entry.Entry.TheVariants.{Call, Filing}
-use Rattle.ring_service.specs.declared.entry.Filed.{Filed}
-use Rattle.ring_service.specs.declared.entry.Filed.TheVariants as filed
+use Rattle.ring_workers.specs.declared.desk.Filed.{Filed}
+use Rattle.ring_workers.specs.declared.desk.Filed.TheVariants as filed
 
 -- a table: its book, and its history in order
 pub record TableView (E : Type 0) : Type 0 where

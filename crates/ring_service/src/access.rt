@@ -1,11 +1,11 @@
 ghost use Rattle.std.specs.Prelude.{◌≡◌};
 ghost use Rattle.ring_service.specs.Accesses.{reply_of};
 
-use crate::entry::Filed;
 use ring_election::RingElection;
 use ring_id::{GroupName, Refusal};
 use ring_mux::{Command, Reply};
 use ring_node::{Charter, Report};
+use ring_workers::Filed;
 use std::sync::{Arc, Wait};
 
 /// What a call of a table's access answers.

@@ -4,6 +4,7 @@ ghost use Rattle.ring_service.specs.Tables.{IsRefused, filed_of};
 use ring_id::{GroupName, NodeId, Refusal, TermNo};
 use ring_mux::{Command, Reply};
 use ring_terms::Noting;
+use ring_workers::Filed;
 
 /// One line of a history.
 #[derive(Debug, Drop)]
@@ -24,29 +25,14 @@ pub enum Entry<E> {
     },
 }
 
-/// What became of a report that was handed to a table.
-#[derive(Clone, Copy, Debug, PartialEq, Eq)]
-pub enum Filed {
-    /// The member was not informed, and now is.
-    Noted,
-    /// The member was informed already.
-    Known,
-    /// The report is of no term that is the last of its group here.
-    Stale,
-    /// Refused, and nothing has changed.
-    Refused(Refusal),
-}
-
-impl Filed {
-    /// The answer for a report that was noted so.
-    pub(crate) fn from_noting(noting: Noting) -> Filed
-        ensures { result ≡ filed_of noting }
-    {
-        match noting {
-            Noting::Noted => Filed::Noted,
-            Noting::Known => Filed::Known,
-            Noting::Stale => Filed::Stale,
-        }
+/// The answer for a report that was noted so.
+pub(crate) fn filed_from(noting: Noting) -> Filed
+    ensures { result ≡ filed_of noting }
+{
+    match noting {
+        Noting::Noted => Filed::Noted,
+        Noting::Known => Filed::Known,
+        Noting::Stale => Filed::Stale,
     }
 }
 

@@ -1,98 +1,114 @@
-ghost use Rattle.ring_service.specs.Sessions.{IsReply, RepliesTo, Serves};
+ghost use Rattle.std.specs.Prelude.{◌≡◌};
+ghost use Rattle.ring_any.specs.Any.{any_greatest, any_two_way};
+ghost use Rattle.ring_mux.specs.declared.event.Command.TheVariants as command;
+ghost use Rattle.ring_service.specs.Accesses.{Answers};
 
-use crate::table::Table;
+use crate::access::{Access, Answer};
+use crate::posts::Posts;
 use ring_any::Any;
-use ring_id::Refusal;
-use ring_lines::{
-    Intake, LineBuffer, LineFault, Next, Outlet, Page, close, parse_command, pass_on,
-    write_before_reading,
-};
-use ring_mux::{Command, Reply};
+use ring_id::{GroupName, Refusal};
+use ring_mux::Command;
 use std::alloc::Global;
-use std::mem;
-use std::sync::{Mutex, Wait};
+use std::marker::Model;
+use std::sync::atomic::{AtomicBool, Ordering};
+use std::sync::{Arc, Mutex, Wait};
 
-/// How many bytes of replies are kept before they are written.
-const PAGE: usize = 65536;
-
-/// What the sessions of a service share: its table, under a lock.
+/// What the sessions of a service share: the access to its table, and its passes to the workers.
 #[derive(Drop)]
-pub struct Front {
+pub struct Front<A: Drop> {
     alloc: Global,
-    table: Mutex<Table<Any>>,
+    access: Arc<A>,
+    posts: Mutex<Posts>,
+    // whether a begin may wait
+    waits: AtomicBool,
 }
 
-impl Front {
-    /// The front of an empty table.
-    pub(crate) fn new(alloc: Global) -> Front {
+impl<A: Drop> Model for Front<A> {
+    ghost Value = { A };
+
+    ghost view = { λ front. front.access.value };
+}
+
+impl<A: Access<Any> + Drop> Front<A> {
+    /// The front of this access, with these passes. Takes no memory.
+    pub(crate) fn new(alloc: Global, access: Arc<A>, posts: Posts) -> Front<A>
+        ensures { result ≡ access.value }
+    {
         Front {
             alloc,
-            table: Mutex::new(Table::new(alloc)),
+            access,
+            posts: Mutex::new(posts),
+            waits: AtomicBool::new(false),
         }
     }
 
-    /// One session: each line of the reader is answered by one line to the writer.
-    ///
-    /// A line that spells a client command is answered by the table's reply, and any other line by `no
-    /// bad-line`, among them the lines of a schedule. The table is locked for each command by itself.
-    /// `Ok` is the number of lines, and comes at the end of the input alone. At `Read` and at `Endless`
-    /// the lines that an LF ends are answered; at `Write` a front of the replies was written; at
-    /// `NoMemory` nothing was read. Makes at most `reads` read calls, and one where the lines that it
-    /// holds are answered only after those replies are written. Waits for the lock, and for the reader
-    /// and the writer.
-    pub fn serve<R: Wait, I: Intake, O: Outlet>(
+    /// The access and the passes. Takes no memory.
+    pub(crate) fn into_parts(self) -> (Arc<A>, Posts)
+        ensures { result.0.value ≡ self }
+    {
+        let Front {
+            alloc: _,
+            access,
+            posts,
+            waits: _,
+        } = self;
+        (access, posts.into_inner())
+    }
+
+    // The access's answer to a command of a session. What waits for the workers is tried first.
+    fn answer<R: Wait>(
         &self,
         rt: &R,
+        seat: &mut A::Seat,
         session: u32,
-        reader: &mut I,
-        writer: &mut O,
-        reads: u32,
-    ) -> Result<u64, LineFault>
-        ensures { Serves I.read_gives O.write_gives session reader.old writer.old reads result reader.new writer.new }
+        command: Command<Any>,
+    ) -> Answer
+        requires { A.has_seat self.now seat.old }
+        ensures seat { A.has_seat self.now seat.new }
+        ensures entry { Answers any_two_way any_greatest session command (A.mine seat.old) result (A.mine seat.new) }
     {
-        let Ok(mut lines) = LineBuffer::new(self.alloc, reads) else {
-            return Err(LineFault::NoMemory);
-        };
-        let Ok(mut page) = Page::new(self.alloc, PAGE) else {
-            return Err(LineFault::NoMemory);
-        };
-        let mut count = 0;
-        loop {
-            let Ok(()) = write_before_reading(&lines, &mut page, writer) else {
-                return Err(LineFault::Write);
-            };
-            let reply = match lines.next(reader) {
-                Next::Line(line) => self.reply_to(rt, session, line.bytes()),
-                Next::Long => Reply::Refused(Refusal::BadLine),
-                Next::End => return close(&mut page, writer, Ok(count)),
-                Next::Fault(fault) => return close(&mut page, writer, Err(fault)),
-            };
-            let Ok(()) = pass_on(&reply, &mut page, writer) else {
-                return Err(LineFault::Write);
-            };
-            count += 1;
+        match command {
+            Command::Start(group) => self.begin(rt, seat, session, group),
+            command => {
+                self.try_waiting(rt);
+                self.access.call(rt, seat, session, command)
+            }
         }
     }
 
-    // The reply to a line.
-    fn reply_to<R: Wait>(&self, rt: &R, session: u32, line: &[u8]) -> Reply
-        ensures { RepliesTo session line.now result }
+    // A start, of which each worker is told. The room for that is found before the command, and no other
+    // session tells the workers anything until it is done.
+    fn begin<R: Wait>(
+        &self,
+        rt: &R,
+        seat: &mut A::Seat,
+        session: u32,
+        group: GroupName,
+    ) -> Answer
+        requires { A.has_seat self.now seat.old }
+        ensures seat { A.has_seat self.now seat.new }
+        ensures entry { Answers any_two_way any_greatest session (command.Start group) (A.mine seat.old) result (A.mine seat.new) }
     {
-        match parse_command(line) {
-            Some(command) => self.call(rt, session, command),
-            None => Reply::Refused(Refusal::BadLine),
+        let mut posts = self.posts.lock(rt);
+        posts.try_waiting(rt);
+        let Ok(()) = posts.find_room() else {
+            return Answer::Unplaced(Refusal::NoMemory);
+        };
+        let (answer, charters) = self
+            .access
+            .begin(rt, seat, session, group, posts.workers());
+        posts.add(charters);
+        posts.try_waiting(rt);
+        self.waits.store(!posts.is_idle(), Ordering::SeqCst);
+        answer
+    }
+
+    // Tries the begins that wait, if any may.
+    fn try_waiting<R: Wait>(&self, rt: &R) {
+        if self.waits.load(Ordering::SeqCst) {
+            let mut posts = self.posts.lock(rt);
+            posts.try_waiting(rt);
+            self.waits.store(!posts.is_idle(), Ordering::SeqCst);
         }
-    }
-
-    // The table's reply to a command.
-    fn call<R: Wait>(&self, rt: &R, session: u32, command: Command<Any>) -> Reply
-        ensures { IsReply session command result }
-    {
-        self.table.lock(rt).call(session, command)
-    }
-
-    /// Takes the table out and leaves an empty one.
-    pub(crate) fn take_table<R: Wait>(&self, rt: &R) -> Table<Any> {
-        mem::replace(&mut *self.table.lock(rt), Table::new(self.alloc))
     }
 }

@@ -7,16 +7,21 @@
 #![tactic(auto)]
 
 mod access;
+mod crew;
 mod entry;
 mod front;
 mod locked;
+mod mesh;
+mod posts;
 mod service;
 mod table;
 mod twice;
 
 pub use access::{Access, Answer};
-pub use entry::{Entry, Filed, is_refused};
+pub use entry::{Entry, is_refused};
 pub use front::Front;
 pub use locked::{LockedSeat, LockedTable};
+pub use posts::Waiting;
 pub use service::{Closing, Service, StartFault};
 pub use table::{Table, is_starved};
+pub use ring_workers::Filed;

@@ -4,12 +4,13 @@ ghost use Rattle.ring_service.specs.Locks.{AddsCall, AddsFiling, AddsStart};
 ghost use Rattle.ring_service.specs.declared.entry.Entry.{Entry};
 
 use crate::access::{Access, Answer};
-use crate::entry::{Entry, Filed, is_refused};
+use crate::entry::{Entry, is_refused};
 use crate::table::{Table, is_starved};
 use ring_election::RingElection;
 use ring_id::{GroupName, NoMemory, Refusal};
 use ring_mux::Command;
 use ring_node::{Charter, Report};
+use ring_workers::Filed;
 use std::alloc::Global;
 use std::marker::Model;
 use std::snapshot::Snapshot;

@@ -1,11 +1,18 @@
-ghost use Rattle.std.specs.Prelude.{◌≤◌, IsOk};
+ghost use Rattle.std.specs.Prelude.{◌≡◌, ◌≤◌, All, IfOk, length, vec_len};
 
+use crate::access::Access;
+use crate::crew::{Crew, Kit, SeatDesk};
 use crate::front::Front;
-use crate::table::Table;
+use crate::mesh::{Mesh, open, take_last};
+use crate::posts::{Posts, Waiting};
 use ring_any::Any;
-use ring_lines::{Intake, LineFault, Outlet};
+use ring_workers::{Gate, Handed, OpenGate, Worker};
 use std::alloc::Global;
-use std::sync::Wait;
+use std::collections::VecDeque;
+use std::marker::Model;
+use std::sync::{Arc, Wait};
+use std::thread::Threads;
+use std::time::Clock;
 
 /// Why a service could not be started.
 #[derive(Clone, Copy, Debug, PartialEq, Eq)]
@@ -18,43 +25,165 @@ pub enum StartFault {
 
 /// What a service leaves when it is closed.
 #[derive(Drop)]
-pub struct Closing {
-    /// Its table, with all that was asked of it.
-    pub table: Table<Any>,
+pub struct Closing<A: Drop> {
+    /// The access to its table.
+    pub access: Arc<A>,
+    /// What each worker handed over.
+    pub handed: Vec<Handed<Any>>,
+    /// The begins that no inbox ever stored, in order.
+    pub waiting: VecDeque<Waiting>,
 }
 
-/// One table that sessions share.
+/// Sessions over a table that they share, and the workers that run the terms which they start.
 #[derive(Drop)]
-pub struct Service {
-    front: Front,
+pub struct Service<A: Access<Any> + Drop> {
+    front: Front<A>,
+    crew: Crew,
 }
 
-impl Service {
-    /// A service without groups, of so many workers with inboxes of this capacity. It has no workers
-    /// yet, so a term that is started stays undecided. Takes no memory today.
-    pub fn new(alloc: Global, workers: usize, inbox: usize) -> Result<Service, StartFault>
+impl<A: Access<Any> + Drop> Model for Service<A> {
+    ghost Value = { A };
+
+    ghost view = { λ service. service.front };
+}
+
+impl<A: Access<Any> + Send + Sync + Drop + 'static> Service<A>
+where
+    A::Seat: Send + 'static,
+{
+    /// A service over a table, with so many workers, whose inboxes have this capacity. Each worker files
+    /// its reports by a seat of its own. Refused for want of memory, or where a thread could not be made:
+    /// then the workers that were started are stopped first, for which it may wait, and the seats are let
+    /// go.
+    pub fn new<R: Threads + Wait + Clock + Copy + Send + Drop + 'static>(
+        rt: &R,
+        alloc: Global,
+        access: Arc<A>,
+        seats: Vec<A::Seat>,
+        workers: usize,
+        inbox: usize,
+    ) -> Result<Service<A>, StartFault>
         requires workers { (1 ≤ workers) × (workers ≤ 8) }
         requires inbox { (1 ≤ inbox) × (inbox ≤ 65536) }
-        ensures free { IsOk result }
+        requires seats { (length seats.items ≡ workers) × All (A.has_seat access.value) seats.items }
+        ensures { IfOk result (λ service. service ≡ access.value) }
     {
-        let _ = (workers, inbox);
+        let Ok(gate) = Arc::new(alloc, OpenGate) else {
+            return Err(StartFault::NoMemory);
+        };
+        Service::gated(rt, alloc, access, seats, workers, inbox, gate)
+    }
+
+    /// The same, where this gate looks at each item of each worker.
+    pub fn gated<
+        G: Gate + Send + Sync + Drop + 'static,
+        R: Threads + Wait + Clock + Copy + Send + Drop + 'static,
+    >(
+        rt: &R,
+        alloc: Global,
+        access: Arc<A>,
+        seats: Vec<A::Seat>,
+        workers: usize,
+        inbox: usize,
+        gate: Arc<G>,
+    ) -> Result<Service<A>, StartFault>
+        requires workers { (1 ≤ workers) × (workers ≤ 8) }
+        requires inbox { (1 ≤ inbox) × (inbox ≤ 65536) }
+        requires seats { (length seats.items ≡ workers) × All (A.has_seat access.value) seats.items }
+        ensures { IfOk result (λ service. service ≡ access.value) }
+    {
+        let Ok(mut mesh) = open(alloc, workers, inbox) else {
+            return Err(StartFault::NoMemory);
+        };
+        let Ok(mut crew) = Crew::new(alloc, workers) else {
+            return Err(StartFault::NoMemory);
+        };
+        let Ok(passes) = take_last(alloc, &mut mesh.senders, workers) else {
+            return Err(StartFault::NoMemory);
+        };
+        let posts = Posts::new(alloc, passes);
+        if let Err(fault) = start_all(rt, alloc, &access, &gate, mesh, seats, &mut crew) {
+            let _ = posts.stop(rt);
+            let _ = crew.join(rt);
+            return Err(fault);
+        }
         Ok(Service {
-            front: Front::new(alloc),
+            front: Front::new(alloc, access, posts),
+            crew,
         })
     }
 
     /// What sessions in other threads share. Takes no memory.
-    pub fn front(&self) -> &Front {
+    pub fn front(&self) -> &Front<A>
+        ensures { result.now ≡ self.now }
+    {
         &self.front
     }
 
-    /// Ends the service and hands its table over. Takes no memory.
-    pub fn close<R: Wait>(self, rt: &R) -> Closing {
+    /// Ends the service. The begins that wait are tried once, each worker is told to stop, and what they
+    /// hand over is gathered. Takes no memory. Waits for the workers.
+    pub fn close<R: Threads + Wait>(self, rt: &R) -> Closing<A>
+        ensures { result.access.value ≡ self }
+    {
+        let Service { front, crew } = self;
+        let (access, mut posts) = front.into_parts();
+        posts.try_waiting(rt);
+        let waiting = posts.stop(rt);
+        let handed = crew.join(rt);
         Closing {
-            table: self.front.take_table(rt),
+            access,
+            handed,
+            waiting,
         }
     }
 }
 
-#[cfg(test)]
-mod tests;
+// Starts the workers, from the last one down to the first.
+fn start_all<
+    A: Access<Any> + Send + Sync + Drop + 'static,
+    G: Gate + Send + Sync + Drop + 'static,
+    R: Threads + Wait + Clock + Copy + Send + Drop + 'static,
+>(
+    rt: &R,
+    alloc: Global,
+    access: &Arc<A>,
+    gate: &Arc<G>,
+    mesh: Mesh,
+    seats: Vec<A::Seat>,
+    crew: &mut Crew,
+) -> Result<(), StartFault>
+where
+    A::Seat: Send + 'static,
+    requires receivers { vec_len mesh.receivers ≡ vec_len seats }
+    requires inboxes { vec_len mesh.senders ≡ vec_len seats }
+    requires senders { All (λ senders. vec_len senders ≡ vec_len seats) mesh.senders.items }
+    requires seats { All (A.has_seat access.now.value) seats.items }
+    requires threads { vec_len crew.old.threads + vec_len seats ≤ vec_capacity crew.old.threads }
+    requires handed { vec_len crew.old.threads + vec_len crew.old.handed + vec_len seats ≤ vec_capacity crew.old.handed }
+{
+    let workers = seats.len();
+    let (mut mesh, mut seats) = (mesh, seats);
+    while let Some(seat) = seats.pop() {
+        let number = seats.len();
+        let receiver = mesh.receivers.pop().unwrap();
+        let Ok(senders) = take_last(alloc, &mut mesh.senders, number) else {
+            return Err(StartFault::NoMemory);
+        };
+        let Ok(access) = Arc::try_clone(access) else {
+            return Err(StartFault::NoMemory);
+        };
+        let Ok(gate) = Arc::try_clone(gate) else {
+            return Err(StartFault::NoMemory);
+        };
+        crew.start(Kit {
+            rt: *rt,
+            worker: Worker::new(alloc, number, workers),
+            receiver,
+            senders,
+            gate,
+            desk: SeatDesk::new(*rt, access, seat),
+        })?;
+    }
+    Ok(())
+}
+

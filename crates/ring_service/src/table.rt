@@ -6,13 +6,14 @@ ghost use Rattle.ring_terms.specs.Object.{OfGroup};
 ghost use Rattle.ring_service.specs.Histories.{IsLegal, starved};
 ghost use Rattle.ring_service.specs.Tables.{Calls, Files, GivesCharters};
 
-use crate::entry::{Entry, Filed};
+use crate::entry::{Entry, filed_from};
 use crate::twice::perform;
 use ring_election::RingElection;
 use ring_id::{GroupName, NoMemory, Refusal};
 use ring_mux::{Command, Reply};
 use ring_node::{Charter, Report};
 use ring_terms::Book;
+use ring_workers::Filed;
 use std::alloc::Global;
 use std::marker::Model;
 use std::sync::Arc;
@@ -146,7 +147,7 @@ impl<E: RingElection> Table<E> {
             leader: report.leader(),
             noting,
         });
-        Filed::from_noting(noting)
+        filed_from(noting)
     }
 }
 

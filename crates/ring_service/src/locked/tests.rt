@@ -1,12 +1,12 @@
 use super::{LockedSeat, LockedTable};
 use crate::access::{Access, Answer};
-use crate::entry::Filed;
 use crate::table::Table;
 use ring_any::Any;
 use ring_id::{GroupName, NoMemory, Refusal};
 use ring_lines::{parse_command, print_reply};
 use ring_mux::Reply;
 use ring_node::{Charter, Report};
+use ring_workers::Filed;
 use ring_world::{Delivery, World};
 use std::alloc::Global;
 use std::sync::{Arc, Wait};

@@ -1,10 +1,10 @@
 use super::Table;
-use crate::entry::Filed;
 use ring_any::Any;
 use ring_id::{GroupName, NoMemory, Refusal};
 use ring_lines::{parse_command, print_reply};
 use ring_mux::Reply;
 use ring_node::Report;
+use ring_workers::Filed;
 use ring_world::{Delivery, World};
 use std::alloc::Global;
 use std::sync::Arc;

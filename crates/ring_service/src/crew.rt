@@ -1,0 +1,126 @@
+ghost use Rattle.std.specs.Prelude.{◌≡◌, ◌+◌, ◌<◌, ◌≤◌, IfOk, OnOk, vec_capacity, vec_len};
+
+use crate::access::Access;
+use crate::service::StartFault;
+use ring_any::Any;
+use ring_id::NoMemory;
+use ring_inbox::{ReceiverPass, SenderPass};
+use ring_node::Report;
+use ring_workers::{Desk, Filed, Gate, Handed, Item, Worker, run_worker};
+use std::alloc::Global;
+use std::marker::Model;
+use std::sync::{Arc, Wait};
+use std::thread;
+use std::thread::{JoinHandle, Threads};
+use std::time::Clock;
+
+/// The threads of the workers that were started, and room for what they hand over.
+#[derive(Drop)]
+pub(crate) struct Crew {
+    threads: Vec<JoinHandle<Handed<Any>>>,
+    handed: Vec<Handed<Any>>,
+    ghost room: { vec_len threads + vec_len handed ≤ vec_capacity handed },
+}
+
+impl Crew {
+    /// No threads, and room for so many.
+    pub(crate) fn new(alloc: Global, workers: usize) -> Result<Crew, NoMemory>
+        ensures { IfOk result (λ crew. (vec_len crew.threads ≡ 0) × (workers ≤ vec_capacity crew.threads) × (workers ≤ vec_capacity crew.handed) × (vec_len crew.handed ≡ 0)) }
+    {
+        let Ok(threads) = Vec::with_capacity(alloc, workers) else {
+            return Err(NoMemory);
+        };
+        let Ok(handed) = Vec::with_capacity(alloc, workers) else {
+            return Err(NoMemory);
+        };
+        Ok(Crew { threads, handed })
+    }
+
+    /// Starts a worker in a thread of its own. Where no thread can be made, what it would have had is
+    /// let go.
+    pub(crate) fn start<
+        A: Access<Any> + Send + Sync + Drop + 'static,
+        G: Gate + Send + Sync + Drop + 'static,
+        R: Threads + Wait + Clock + Copy + Send + Drop + 'static,
+    >(
+        &mut self,
+        kit: Kit<A, G, R>,
+    ) -> Result<(), StartFault>
+    where
+        A::Seat: Send + 'static,
+        requires threads { vec_len self.old.threads < vec_capacity self.old.threads }
+        requires handed { vec_len self.old.threads + vec_len self.old.handed < vec_capacity self.old.handed }
+        ensures started { OnOk result (vec_len self.new.threads ≡ vec_len self.old.threads + 1) }
+        ensures room { (vec_capacity self.new.threads ≡ vec_capacity self.old.threads) × (vec_capacity self.new.handed ≡ vec_capacity self.old.handed) × (vec_len self.new.handed ≡ vec_len self.old.handed) }
+    {
+        let rt = kit.rt;
+        let Ok(thread) = thread::spawn(&rt, move || kit.run()) else {
+            return Err(StartFault::Thread);
+        };
+        self.threads.push_reserved(thread);
+        Ok(())
+    }
+
+    /// Waits for each thread to end: what they hand over. Takes no memory.
+    pub(crate) fn join<R: Threads + Wait>(self, rt: &R) -> Vec<Handed<Any>> {
+        let Crew { threads, handed } = self;
+        let (mut threads, mut handed) = (threads, handed);
+        while let Some(thread) = threads.pop() {
+            handed.push_reserved(thread.join(rt));
+        }
+        handed
+    }
+}
+
+/// What a worker's thread takes with it.
+#[derive(Drop)]
+pub(crate) struct Kit<A: Access<Any> + Drop, G: Drop, R: Drop> {
+    pub(crate) rt: R,
+    pub(crate) worker: Worker<Any>,
+    pub(crate) receiver: ReceiverPass<Item<Any>>,
+    pub(crate) senders: Vec<SenderPass<Item<Any>>>,
+    pub(crate) gate: Arc<G>,
+    pub(crate) desk: SeatDesk<A, R>,
+    ghost whole: { vec_len senders ≡ worker.owner.workers },
+}
+
+impl<A: Access<Any> + Drop, G: Gate + Drop, R: Wait + Clock + Drop> Kit<A, G, R> {
+    // Runs the worker to its end, and lets its passes go.
+    fn run(self) -> Handed<Any> {
+        let Kit { rt, worker, receiver, senders, gate, desk } = self;
+        let (mut receiver, mut senders) = (receiver, senders);
+        run_worker(&rt, worker, &mut receiver, &mut senders, &*gate, desk)
+    }
+}
+
+/// Where a worker files its reports: a seat of the access.
+#[derive(Drop)]
+pub(crate) struct SeatDesk<A: Access<Any> + Drop, R: Drop> {
+    rt: R,
+    access: Arc<A>,
+    seat: A::Seat,
+}
+
+impl<A: Access<Any> + Drop, R: Drop> Model for SeatDesk<A, R> {
+    ghost Value = { A };
+
+    ghost view = { λ desk. desk.access.value };
+
+    ghost invariant = { λ desk. A.has_seat desk.access.value desk.seat };
+}
+
+impl<A: Access<Any> + Drop, R: Drop> SeatDesk<A, R> {
+    /// The desk of this seat. Takes no memory.
+    pub(crate) fn new(rt: R, access: Arc<A>, seat: A::Seat) -> SeatDesk<A, R>
+        requires { A.has_seat access.value seat }
+        ensures { result ≡ access.value }
+    {
+        SeatDesk { rt, access, seat }
+    }
+}
+
+impl<A: Access<Any> + Drop, R: Wait + Drop> Desk<Any> for SeatDesk<A, R> {
+    fn report(&mut self, report: &Report<Any>) -> Filed {
+        self.access.report(&self.rt, &mut self.seat, report)
+    }
+}

@@ -1,0 +1,129 @@
+ghost use Rattle.std.specs.Prelude.{◌≡◌, ◌<◌, ◌≤◌, ◌+◌, [], All, OnOk, vec_len};
+ghost use Rattle.std.specs.VecDeque.{deque_capacity, deque_len};
+
+use ring_any::Any;
+use ring_id::NoMemory;
+use ring_inbox::{Put, SenderPass};
+use ring_node::Charter;
+use ring_workers::Item;
+use std::alloc::Global;
+use std::collections::VecDeque;
+use std::sync::{Arc, Wait};
+use std::thread;
+
+/// A term whose begin the inbox of this worker has not stored.
+#[derive(Drop)]
+pub struct Waiting {
+    /// The worker's number.
+    pub worker: usize,
+    /// The term's charter.
+    pub charter: Arc<Charter<Any>>,
+}
+
+/// The service's pass to the inbox of each worker, and the begins that wait for one.
+#[derive(Drop)]
+pub(crate) struct Posts {
+    passes: Vec<SenderPass<Item<Any>>>,
+    waiting: VecDeque<Waiting>,
+    ghost known: { All (λ begin. begin.worker < vec_len passes) waiting.items },
+}
+
+impl Posts {
+    /// Nothing waits for these passes. Takes no memory.
+    pub(crate) fn new(alloc: Global, passes: Vec<SenderPass<Item<Any>>>) -> Posts
+        ensures { result.waiting.items ≡ [] }
+    {
+        Posts {
+            passes,
+            waiting: VecDeque::new(alloc),
+        }
+    }
+
+    /// How many workers there are. Takes no memory.
+    pub(crate) fn workers(&self) -> usize
+        ensures { result ≡ vec_len self.now.passes }
+    {
+        self.passes.len()
+    }
+
+    /// Whether nothing waits. Takes no memory.
+    pub(crate) fn is_idle(&self) -> bool {
+        self.waiting.is_empty()
+    }
+
+    /// Finds room for one more begin for each worker.
+    pub(crate) fn find_room(&mut self) -> Result<(), NoMemory>
+        ensures passes { self.new.passes ≡ self.old.passes }
+        ensures waiting { self.new.waiting.items ≡ self.old.waiting.items }
+        ensures room { OnOk result (deque_len self.new.waiting + vec_len self.new.passes ≤ deque_capacity self.new.waiting) }
+    {
+        match self.waiting.reserve(self.passes.len()) {
+            Ok(()) => Ok(()),
+            Err(_) => Err(NoMemory),
+        }
+    }
+
+    /// Adds a begin for each worker, by one charter each, behind those that wait. Takes no memory.
+    pub(crate) fn add(&mut self, charters: Vec<Arc<Charter<Any>>>)
+        requires { deque_len self.old.waiting + vec_len self.old.passes ≤ deque_capacity self.old.waiting }
+    {
+        let mut charters = charters;
+        for worker in 0..self.passes.len() {
+            let Some(charter) = charters.pop() else {
+                return;
+            };
+            self.waiting
+                .push_back_reserved(Waiting { worker, charter });
+        }
+    }
+
+    /// Tries each begin that waits once, in order. What is not stored goes on waiting, in order. Takes no
+    /// memory.
+    pub(crate) fn try_waiting<R: Wait>(&mut self, rt: &R) {
+        for _ in 0..self.waiting.len() {
+            let Some(Waiting { worker, charter }) = self.waiting.pop_front() else {
+                return;
+            };
+            if let Some(charter) = put_begin(rt, &mut self.passes[worker], charter) {
+                self.waiting
+                    .push_back_reserved(Waiting { worker, charter });
+            }
+        }
+    }
+
+    /// Puts the word to stop into each inbox, again and again while it is full, and gives what still
+    /// waits. Takes no memory.
+    pub(crate) fn stop<R: Wait>(self, rt: &R) -> VecDeque<Waiting>
+        ensures { result.items ≡ self.waiting.items }
+    {
+        let Posts { passes, waiting } = self;
+        for mut pass in passes {
+            stop_one(rt, &mut pass);
+        }
+        waiting
+    }
+}
+
+// Puts a begin into an inbox, or gives it back where the inbox does not store it.
+fn put_begin<R: Wait>(
+    rt: &R,
+    pass: &mut SenderPass<Item<Any>>,
+    charter: Arc<Charter<Any>>,
+) -> Option<Arc<Charter<Any>>> {
+    match pass.put(rt, Item::Begin(charter)) {
+        Put::Stored => None,
+        Put::Full(Item::Begin(back)) | Put::Gone(Item::Begin(back)) => Some(back),
+        _ => unreachable!(),
+    }
+}
+
+// Puts the word to stop into an inbox, again and again while it is full.
+fn stop_one<R: Wait>(rt: &R, pass: &mut SenderPass<Item<Any>>) {
+    for _ in rt.forever() {
+        match pass.put(rt, Item::Stop) {
+            Put::Stored | Put::Gone(_) => return,
+            Put::Full(_) => thread::yield_now(),
+        }
+    }
+    unreachable!()
+}
