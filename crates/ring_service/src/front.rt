@@ -2,11 +2,14 @@ ghost use Rattle.std.specs.Prelude.{◌≡◌};
 ghost use Rattle.ring_any.specs.Any.{any_greatest, any_two_way};
 ghost use Rattle.ring_mux.specs.declared.event.Command.TheVariants as command;
 ghost use Rattle.ring_service.specs.Accesses.{Answers};
+ghost use Rattle.ring_service.specs.Sessions.{Serves};
 
 use crate::access::{Access, Answer};
 use crate::posts::Posts;
+use crate::session::Session;
 use ring_any::Any;
 use ring_id::{GroupName, Refusal};
+use ring_lines::{Intake, LineFault, Outlet, answer_lines};
 use ring_mux::Command;
 use std::alloc::Global;
 use std::marker::Model;
@@ -55,8 +58,42 @@ impl<A: Access<Any> + Drop> Front<A> {
         (access, posts.into_inner())
     }
 
-    // The access's answer to a command of a session. What waits for the workers is tried first.
-    fn answer<R: Wait>(
+    /// One session: each line of the reader is answered by one line to the writer, by this seat.
+    ///
+    /// A line that spells a client command is answered by the reply of the access, and any other line by
+    /// `no bad-line`, among them the lines of a schedule. The entries that the seat gains are the session's
+    /// commands with their replies, in the order of the lines, without those that were answered want of
+    /// memory or a spent seat. Before each read call exactly the replies to the lines that were read whole
+    /// are written. `Ok` is the number of lines, and comes at the end of the input alone. At `Read` and at
+    /// `Endless` the lines that an LF ends are answered; at `Write` a front of the replies was written; at
+    /// `NoMemory` nothing was read. Makes at most `reads` read calls. Waits for the access, and for the
+    /// reader and the writer.
+    ///
+    /// A start that begins a term is put to each worker. What a worker's inbox cannot store waits, and is
+    /// tried again before each later command of any session.
+    pub fn serve<R: Wait, I: Intake, O: Outlet>(
+        &self,
+        rt: &R,
+        seat: &mut A::Seat,
+        session: u32,
+        reader: &mut I,
+        writer: &mut O,
+        reads: u32,
+    ) -> Result<u64, LineFault>
+        requires { A.has_seat self.now seat.old }
+        ensures seat { A.has_seat self.now seat.new }
+        ensures served { Serves I.read_gives O.write_gives A.mine session seat.old reader.old writer.old reads result seat.new reader.new writer.new }
+    {
+        let session = Session {
+            front: self,
+            rt,
+            number: session,
+        };
+        answer_lines(self.alloc, &session, seat, reader, writer, reads)
+    }
+
+    /// The access's answer to a command of a session. What waits for the workers is tried first.
+    pub(crate) fn answer<R: Wait>(
         &self,
         rt: &R,
         seat: &mut A::Seat,
@@ -78,6 +115,7 @@ impl<A: Access<Any> + Drop> Front<A> {
 
     // A start, of which each worker is told. The room for that is found before the command, and no other
     // session tells the workers anything until it is done.
+    #[tactic(auto, using(crate::proofs::Replying::begins_answers))]
     fn begin<R: Wait>(
         &self,
         rt: &R,

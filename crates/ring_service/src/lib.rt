@@ -14,6 +14,7 @@ mod locked;
 mod mesh;
 mod posts;
 mod service;
+mod session;
 mod table;
 mod twice;
 

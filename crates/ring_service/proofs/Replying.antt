@@ -1,0 +1,47 @@
+-- What an answer of an access says of the line that asked for it.
+use Rattle.std.proofs.Common.{◌≡◌, ◌≤◌, ◌<◌, ℕ, List, [], ◌∷◌, ◌++◌, length, refl, sym, ◌∙◌, append-nil, arith, inl, inr}
+use Rattle.ring_id.specs.declared.refusal.Refusal.TheVariants.{BadLine}
+use Rattle.ring_any.specs.Any.{any_greatest, any_two_way}
+use Rattle.ring_any.specs.declared.any.Any.{Any}
+use Rattle.ring_mux.specs.declared.event.Command.{Command}
+use Rattle.ring_mux.specs.declared.event.Command.TheVariants.{Start}
+use Rattle.ring_mux.specs.declared.event.Event.TheVariants.{Client}
+use Rattle.ring_mux.specs.declared.reply.Reply.{Reply}
+use Rattle.ring_mux.specs.declared.reply.Reply.TheVariants.{Refused}
+use Rattle.ring_node.specs.declared.charter.Charter.{Charter}
+use Rattle.ring_grammar.specs.Spelling.{Spells}
+use Rattle.ring_service.specs.Accesses.{Answers, Begins, reply_of}
+use Rattle.ring_service.specs.Sessions.{AnswersIn}
+use Rattle.ring_service.specs.declared.access.Answer.{Answer}
+use Rattle.ring_service.specs.declared.access.Answer.TheVariants.{Placed, Unplaced}
+use Rattle.ring_service.specs.declared.entry.Entry.{Entry}
+use Rattle.ring_service.specs.declared.entry.Entry.TheVariants.{Call}
+use Rattle.ring_service.proofs.Speaking.{step_not}
+
+-- a start, as a call
+pub begins_answers : (session : ℕ) (group : List ℕ) (copies : ℕ) (mine : List (Entry Any)) (answer : Answer) (charters : List (Charter Any)) (now : List (Entry Any)) →
+    Begins any_two_way any_greatest session group copies mine answer charters now → Answers any_two_way any_greatest session (Start group) mine answer now
+begins_answers session group copies mine (Placed reply place) charters now b = (record { old = b.0.old; new = b.0.new; call = b.0.call }, b.1)
+begins_answers session group copies mine (Unplaced refusal) charters now b = (b.0, b.2)
+
+-- a line that spells a command is answered by what the access answers to it
+pub answers_line : (session : ℕ) (line : List ℕ) (command : Command Any) (mine : List (Entry Any)) (answer : Answer) (now : List (Entry Any)) →
+    Spells line (Client command) → Answers any_two_way any_greatest session command mine answer now → AnswersIn session line mine (reply_of answer) now
+answers_line session line command mine (Placed reply place) now spelled a =
+    (Call session command reply ∷ [], inl (record {
+      command = command;
+      spelled = spelled;
+      step = a.0;
+      good = λ bad. step_not any_two_way any_greatest a.0.old a.0.new command (rw bad at a.0.call.step);
+      entry = refl;
+    }), a.1)
+answers_line session line command mine (Unplaced refusal) now spelled a =
+    ([], inr (inl (record { command = command; spelled = spelled; refusal = refusal; refused = refl; because = a.0; none = refl })), a.1 ∙ sym (append-nil mine))
+
+-- a line that spells none is refused
+pub unread_line : (session : ℕ) (line : List ℕ) (mine : List (Entry Any)) → ((command : Command Any) → Spells line (Client command) → ⊥) → AnswersIn session line mine (Refused BadLine) mine
+unread_line session line mine unread = ([], inr (inr (record { unread = unread; refused = refl; none = refl })), sym (append-nil mine))
+
+-- among them each line of more than 128 bytes
+pub long_line : (session : ℕ) (line : List ℕ) (mine : List (Entry Any)) → 128 < length line → AnswersIn session line mine (Refused BadLine) mine
+long_line session line mine long = unread_line session line mine (λ command spelled. let short : length line ≤ 128 = spelled.short in absurd (omega arith))

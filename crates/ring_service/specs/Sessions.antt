@@ -1,0 +1,56 @@
+-- Sessions over bytes: each line of the input is answered by one line. What a line adds to the list of
+-- entries that the session's seat has is a call of this session, with the reply that the line got.
+use Rattle.std.specs.Prelude.{◌≡◌, ◌⊎◌, ℕ, List, [], ◌∷◌, ◌++◌, Result}
+use Rattle.ring_id.specs.declared.refusal.Refusal.{Refusal}
+use Rattle.ring_id.specs.declared.refusal.Refusal.TheVariants.{BadLine}
+use Rattle.ring_any.specs.Any.{any_greatest, any_two_way}
+use Rattle.ring_any.specs.declared.any.Any.{Any}
+use Rattle.ring_mux.specs.declared.event.Command.{Command}
+use Rattle.ring_mux.specs.declared.event.Event.TheVariants.{Client}
+use Rattle.ring_mux.specs.declared.reply.Reply.{Reply}
+use Rattle.ring_mux.specs.declared.reply.Reply.TheVariants.{Refused}
+use Rattle.ring_grammar.specs.Spelling.{Spells, reply_line}
+use Rattle.ring_lines.specs.Ends.{Reading, Writing}
+use Rattle.ring_lines.specs.Rounds.{AnswersLines}
+use Rattle.ring_lines.specs.declared.answers.LineFault.{LineFault}
+use Rattle.ring_service.specs.Accesses.{HasStep, LeavesOut}
+use Rattle.ring_service.specs.declared.entry.Entry.{Entry}
+use Rattle.ring_service.specs.declared.entry.Entry.TheVariants.{Call}
+
+-- A line that spells a client command, which was placed: the reply is that of a step, it is not that of
+-- a bad line, and the call with this reply is the one entry that the seat gained.
+pub record IsPlaced (session : ℕ) (line : List ℕ) (answer : Reply) (gained : List (Entry Any)) : Type 0 where
+  pub command : Command Any
+  pub spelled : Spells line (Client command)
+  pub step : HasStep any_two_way any_greatest command answer
+  pub good : answer ≡ Refused BadLine → ⊥
+  pub entry : gained ≡ Call session command answer ∷ []
+
+-- A line that spells a client command, for which memory was refused, or the seat had used up its turns:
+-- the reply says which, and the seat gained no entry.
+pub record IsLeftOut (line : List ℕ) (answer : Reply) (gained : List (Entry Any)) : Type 0 where
+  pub command : Command Any
+  pub spelled : Spells line (Client command)
+  pub refusal : Refusal
+  pub refused : answer ≡ Refused refusal
+  pub because : LeavesOut refusal
+  pub none : gained ≡ []
+
+-- A line that spells no client command is refused, and the seat gained no entry.
+pub record IsUnread (line : List ℕ) (answer : Reply) (gained : List (Entry Any)) : Type 0 where
+  pub unread : (command : Command Any) → ¬ (Spells line (Client command))
+  pub refused : answer ≡ Refused BadLine
+  pub none : gained ≡ []
+
+-- the reply to a line of this session, and what the seat gained by it
+abbrev pub RepliesTo : ℕ → List ℕ → Reply → List (Entry Any) → Type 0
+RepliesTo session line answer gained = IsPlaced session line answer gained ⊎ IsLeftOut line answer gained ⊎ IsUnread line answer gained
+
+-- the same, given the seat's own entries before the line and after it
+abbrev pub AnswersIn : ℕ → List ℕ → List (Entry Any) → Reply → List (Entry Any) → Type 0
+AnswersIn session line mine answer now = (gained : List (Entry Any)) × RepliesTo session line answer gained × (now ≡ mine ++ gained)
+
+-- A session: its lines are answered by rounds, each from where the lines before it left its seat.
+abbrev pub Serves : {S V T : Type 0} → (S → Reading → S → Type 0) → (V → Writing → V → Type 0) → (T → List (Entry Any)) → ℕ → T → S → V → ℕ → Result ℕ LineFault → T → S → V → Type 0
+Serves reading writing mine session seat reader writer reads result seat_now reader_now writer_now =
+    AnswersLines reading writing (λ line old answer new. AnswersIn session line (mine old) answer (mine new)) reply_line reader writer seat reads result reader_now writer_now seat_now

@@ -1,0 +1,43 @@
+use crate::access::Access;
+use crate::front::Front;
+use ring_any::Any;
+use ring_id::Refusal;
+use ring_lines::{Answerer, parse_command};
+use ring_mux::Reply;
+use std::alloc::Global;
+use std::sync::Wait;
+
+/// A session, as what answers its lines: by the front, under its number. What changes is its seat.
+#[derive(Drop)]
+pub(crate) struct Session<'a, A: Drop, R> {
+    pub(crate) front: &'a Front<A>,
+    pub(crate) rt: &'a R,
+    pub(crate) number: u32,
+}
+
+impl<A: Access<Any> + Drop, R: Wait> Answerer for Session<'_, A, R> {
+    ghost use Rattle.ring_service.specs.Sessions.{AnswersIn};
+
+    type State = A::Seat;
+
+    type Answer = Reply;
+
+    ghost holds = { λ session seat. A.has_seat session.front.now seat };
+
+    ghost answers = { λ session line seat reply now. AnswersIn session.number line (A.mine seat) reply (A.mine now) };
+
+    #[tactic(auto, using(crate::proofs::Replying::unread_line))]
+    fn answer(&self, state: &mut A::Seat, _alloc: Global, line: &[u8]) -> Reply {
+        match parse_command(line) {
+            Some(command) => self
+                .front
+                .answer(self.rt, state, self.number, command)
+                .into_reply(),
+            None => Reply::Refused(Refusal::BadLine),
+        }
+    }
+
+    fn answer_long(&self, _state: &mut A::Seat) -> Reply {
+        Reply::Refused(Refusal::BadLine)
+    }
+}
