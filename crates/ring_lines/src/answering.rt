@@ -85,3 +85,6 @@ pub fn answer_lines<A: Answerer, R: Intake, W: Outlet>(
         count += 1;
     }
 }
+
+#[cfg(test)]
+mod tests;
