@@ -277,6 +277,7 @@ module _ {E S M : Type 0} (t : E → Table S M) (object : Object E) (worlds : Li
     pub noted : (greatest : E → Bool) (noting : Noting) (object' : Object E) → NotesOf greatest name report object noting object'
         → IsHeld t object' (with_world name (after_receipt world i side p) worlds)
         × ((node : ℕ) → position_of node world.charter.roster ≡ Some i → InGroup name (MovesOf greatest node) object object')
+        × (noting ≡ Noted)
     noted greatest Noted object' notes =
         let moves = notes.1 in
         let same : moves.before ≡ group = same_found (find name object) moves.before group moves.found at in
@@ -302,6 +303,7 @@ module _ {E S M : Type 0} (t : E → Table S M) (object : Object E) (worlds : Li
             );
             rest = object_is;
           },
+          refl,
         )
     noted greatest Known object' notes =
         let of = notes.2 in

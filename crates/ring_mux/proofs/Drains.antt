@@ -15,7 +15,7 @@ use Rattle.ring_world.proofs.Links.{same_or_not}
 use Rattle.ring_terms.specs.Commands.{running_refusal}
 use Rattle.ring_terms.specs.Object.{GroupView, InGroup, Object, OfGroup, TermView, find, last_term, with_group}
 use Rattle.ring_mux.specs.declared.carried.Carried.TheVariants.{Moved}
-use Rattle.ring_mux.specs.Journeys.{Carries, CarriesAmong, MakesAmong, Travels, with_world}
+use Rattle.ring_mux.specs.Journeys.{Carries, CarriesAmong, CarriesTimes, MakesAmong, with_world}
 use Rattle.ring_mux.specs.Steps.{MovesOf, MovesTimes}
 use Rattle.ring_mux.specs.Views.{Held, IsHeld, IsSeat, IsSoundHeld, IsWorldOf, world_in}
 use Rattle.ring_mux.proofs.Outcomes.{of_found}
@@ -120,32 +120,18 @@ module _ {E S M : Type 0} (t : E → Table S M) (object : Object E) (worlds : Li
     pending_at w found = rw (same_found (world_in name worlds) w kept.world found kept.found) (some_below t kept.world (size_of kept.world) position side ready.inside ready.waits)
 
     -- a delivery there is one more of the drain's
-    pub travels_on : (two_way greatest : E → Bool) (n : ℕ) (start new : Held E M) → IsRing kept.world.charter.roster
+    pub carries_on : (two_way greatest : E → Bool) (n : ℕ) (start new : Held E M) → IsRing kept.world.charter.roster
         → InGroup name (MovesTimes greatest n) start.object object
-        → Travels t name n start.worlds worlds
+        → CarriesTimes t greatest name n start (record { object = object; worlds = worlds })
         → ((w : Running E M) → world_in name worlds ≡ Some w → Carries t two_way greatest name position side w (record { object = object; worlds = worlds }) Moved new)
-        → InGroup name (MovesTimes greatest (suc n)) start.object new.object × Travels t name (suc n) start.worlds new.worlds × OfGroup name (λ g. running_refusal g ≡ None) new.object
-    travels_on two_way greatest n start new is_ring moves travels carries =
+        → InGroup name (MovesTimes greatest (suc n)) start.object new.object × CarriesTimes t greatest name (suc n) start new × OfGroup name (λ g. running_refusal g ≡ None) new.object
+    carries_on two_way greatest n start new is_ring moves made carries =
         let carried = (carries kept.world kept.found).1 in
         let same : carried.before ≡ kept.world = same_found (world_in name worlds) carried.before kept.world carried.found kept.found in
         let node : ℕ = get_or kept.world.charter.roster position 0 in
         let step = (carried.object) node (rw same (position_here kept.world.charter.roster position is_ring ready.inside)) in (
           one_moved greatest name n node start.object object new.object moves step,
-          (
-            worlds,
-            travels,
-            record {
-              before = carried.before;
-              after = carried.after;
-              position = position;
-              side = side;
-              report = carried.report;
-              found = carried.found;
-              ready = rw same ready;
-              moved = carried.moved;
-              worlds = carried.worlds;
-            },
-          ),
+          (record { object = object; worlds = worlds }, made, record { position = position; side = side; carried = carried; ready = rw same ready }),
           still_runs greatest name node object new.object runs step,
         )
 
@@ -153,7 +139,7 @@ module _ {E S M : Type 0} (t : E → Table S M) (object : Object E) (worlds : Li
 pub record HasDrained {E S M : Type 0} (t : E → Table S M) (fits : E → List ℕ → ℕ → Side → ℕ → M → Type 0) (winner : E → List ℕ → ℕ) (greatest : E → Bool) (name : List ℕ) (n : ℕ)
     (object : Object E) (worlds : List (List ℕ × Running E M)) (object' : Object E) (world' : Running E M) : Type 0 where
   pub moves : InGroup name (MovesTimes greatest n) object object'
-  pub travels : Travels t name n worlds (with_world name world' worlds)
+  pub made : CarriesTimes t greatest name n (record { object = object; worlds = worlds }) (record { object = object'; worlds = with_world name world' worlds })
   pub runs : OfGroup name (λ g. running_refusal g ≡ None) object'
   pub found : world_in name (with_world name world' worlds) ≡ Some world'
   pub kept : IsSoundHeld t fits winner object' (with_world name world' worlds)
@@ -170,7 +156,7 @@ module _ {E S M : Type 0} (t : E → Table S M) (fits : E → List ℕ → ℕ �
       let same : with_world name world worlds ≡ worlds = set_value_same (bytes_eq name) worlds world found in
       record {
         moves = none_moved greatest name object runs.group runs.found;
-        travels = same;
+        made = ap (λ (l : List (List ℕ × Running E M)). record { object = object; worlds = l }) same;
         runs = runs;
         found = written_found name worlds world world found;
         kept = rw same kept;
@@ -189,12 +175,12 @@ module _ {E S M : Type 0} (t : E → Table S M) (fits : E → List ℕ → ℕ �
       let seat = seat_ready t object' now before.kept.held name before.runs position side (rw (← here) at ready) in
       let carried = carries name now before.kept before.found seat in
       let twice : with_world name world'' now ≡ with_world name world'' worlds = written_twice name worlds world' world'' in
-      let on = travels_on t object' now before.kept.held name before.runs position side (rw (← here) at ready) two_way greatest n (record { object = object; worlds = worlds }) (record { object = object''; worlds = with_world name world'' now })
-      (rw (← here) at ring) before.moves before.travels
+      let on = carries_on t object' now before.kept.held name before.runs position side (rw (← here) at ready) two_way greatest n (record { object = object; worlds = worlds }) (record { object = object''; worlds = with_world name world'' now })
+      (rw (← here) at ring) before.moves before.made
       (of_found name now world' before.found (λ w. Carries t two_way greatest name position side w (record { object = object'; worlds = now }) Moved (record { object = object''; worlds = with_world name world'' now })) (carried.0)) in
       record {
         moves = on.0;
-        travels = rw twice at on.1;
+        made = rw twice at on.1;
         runs = on.2;
         found = written_found name worlds world world'' found;
         kept = rw twice at carried.1;
@@ -208,8 +194,8 @@ module _ {E S M : Type 0} (t : E → Table S M) (fits : E → List ℕ → ℕ �
       let here = kept_world t object' (with_world name world' worlds) now.kept.held name now.runs world' now.found in (
         record {
           within = few;
+          made = now.made;
           object = now.moves;
-          worlds = now.travels;
           runs = now.runs;
           ended = λ h. inr (quiet_at t object' (with_world name world' worlds) now.kept.held name now.runs (rw (← here) at none));
           stopped = λ h. cc;
@@ -222,7 +208,7 @@ module _ {E S M : Type 0} (t : E → Table S M) (fits : E → List ℕ → ℕ �
       MakesAmong t fits winner greatest count object world count false object' world'
   makes_all count object world object' world' drained = λ name worlds kept found runs.
       let now = drained name worlds kept found runs in (
-        record { within = omega arith; object = now.moves; worlds = now.travels; runs = now.runs; ended = λ h. inl refl; stopped = λ h. cc },
+        record { within = omega arith; made = now.made; object = now.moves; runs = now.runs; ended = λ h. inl refl; stopped = λ h. cc },
         now.kept,
       )
 
@@ -243,8 +229,8 @@ module _ {E S M : Type 0} (t : E → Table S M) (fits : E → List ℕ → ℕ �
       let same_worlds : with_world name world'' worlds ≡ now = sym twice ∙ ap (λ (h : Held E M). h.worlds) (after.0) in (
         rw (same_object, same_worlds) (record {
           within = omega (arith, few);
+          made = before.made;
           object = before.moves;
-          worlds = before.travels;
           runs = before.runs;
           ended = λ h. cc;
           stopped = λ h. (few, pending_at t object' now before.kept.held name before.runs position side (rw (← here) at ready));

@@ -8,7 +8,7 @@ use Rattle.ring_election.specs.Tables.{Table}
 use Rattle.ring_node.specs.declared.packet.Packet.{Packet}
 use Rattle.ring_world.specs.Worlds.{Running, delivered_of, most_deliveries, pending_of, receipts_in, size_of}
 use Rattle.ring_world.proofs.Work.{work_bounded}
-use Rattle.ring_mux.specs.Journeys.{Makes, Travels}
+use Rattle.ring_mux.specs.Journeys.{CarriesTimes, Makes}
 use Rattle.ring_mux.specs.Views.{AreSound, Held, world_in}
 use Rattle.ring_mux.specs.WorldSteps.{LeavesNothing}
 use Rattle.ring_mux.specs.declared.reply.Reply.TheVariants.{Drained}
@@ -30,22 +30,24 @@ record HasTaken {E M : Type 0} (name : List ℕ) (n : ℕ) (world : Running E M)
   taken : delivered_of after ≡ delivered_of world + n
 
 module _ {E S M : Type 0} (t : E → Table S M) (name : List ℕ) where
-  has_taken : (n : ℕ) (old new : List (List ℕ × Running E M)) → Travels t name n old new → (world : Running E M) → world_in name old ≡ Some world → length world.journals ≡ size_of world → HasTaken name n world new
-  has_taken zero old new same world found count = record { after = world; found = ap (world_in name) same ∙ found; charter = refl; count = count; taken = omega arith }
-  has_taken (suc n) old new travels world found count =
-      let before = has_taken n old (travels.0) (travels.1) world found count in
-      let once = travels.2 in
-      let same : once.before ≡ before.after = same_found (world_in name (travels.0)) once.before before.after once.found before.found in
+  has_taken : (greatest : E → Bool) (n : ℕ) (old new : Held E M) → CarriesTimes t greatest name n old new → (world : Running E M) → world_in name old.worlds ≡ Some world → length world.journals ≡ size_of world → HasTaken name n world new.worlds
+  has_taken greatest zero old new same world found count = record { after = world; found = ap (λ (h : Held E M). world_in name h.worlds) same ∙ found; charter = refl; count = count; taken = omega arith }
+  has_taken greatest (suc n) old new carries world found count =
+      let before = has_taken greatest n old (carries.0) (carries.1) world found count in
+      let position = carries.2.position in
+      let ready = carries.2.ready in
+      let once = carries.2.carried in
+      let same : once.before ≡ before.after = same_found (world_in name (carries.0).worlds) once.before before.after once.found before.found in
       let moved = once.moved.journals in
-      let inside : once.position < length once.before.journals = let there = once.ready.inside in let long = rw (← same) at before.count in omega (arith, there, long) in
-      let more : delivered_of once.after ≡ delivered_of once.before + 1 = ap (λ (w : Running E M). delivered_of w) moved ∙ receipts_in-set once.before.journals once.position (once.side, once.moved.packet) inside in
+      let inside : position < length once.before.journals = let there = ready.inside in let long = rw (← same) at before.count in omega (arith, there, long) in
+      let more : delivered_of once.after ≡ delivered_of once.before + 1 = ap (λ (w : Running E M). delivered_of w) moved ∙ receipts_in-set once.before.journals position (carries.2.side, once.moved.packet) inside in
       let here : delivered_of once.before ≡ delivered_of world + n = ap (λ (w : Running E M). delivered_of w) same ∙ before.taken in
       record {
         after = once.after;
-        found = ap (world_in name) once.worlds ∙ written_found name (travels.0) once.before once.after once.found;
+        found = ap (world_in name) once.worlds ∙ written_found name ((carries.0).worlds) once.before once.after once.found;
         charter = ap (λ (w : Running E M). w.charter) moved ∙ ap (λ (w : Running E M). w.charter) same ∙ before.charter;
         count =
-            rw moved (length-set once.before.journals once.position _
+            rw moved (length-set once.before.journals position _
             ∙ ap (λ (w : Running E M). length w.journals) same
             ∙ before.count
             ∙ ap (λ (w : Running E M). size_of w) (sym same));
@@ -61,7 +63,7 @@ module _ {E S M : Type 0} (t : E → Table S M) (name : List ℕ) where
       → LeavesNothing bound name count old.worlds (Drained done left starved)
   leaves_nothing fits winner bound bounded greatest count done left starved old new sound_old sound_new makes counted = record {
     each = λ world found many done' left' says.
-        let taken = has_taken done old.worlds new.worlds makes.worlds world found (sound_old.each name world found).count in
+        let taken = has_taken greatest done old new makes.made world found (sound_old.each name world found).count in
         let left_is : left ≡ left' = cc in
         let calm : starved ≡ false = cc in
         let work = work_bounded t fits winner taken.after (sound_new.each name taken.after taken.found) bound (bounded taken.after.charter.algorithm) in

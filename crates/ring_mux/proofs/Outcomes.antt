@@ -12,10 +12,11 @@ use Rattle.ring_node.specs.Reports.{Told}
 use Rattle.ring_node.specs.declared.charter.Charter.{Charter}
 use Rattle.ring_world.specs.Worlds.{HasMoved, IsSoundWorld, Running, after_receipt, link_refusal, node_at, size_of}
 use Rattle.ring_terms.specs.declared.standing.Noting.{Noting}
+use Rattle.ring_terms.specs.declared.standing.Noting.TheVariants.{Noted}
 use Rattle.ring_terms.specs.Notes.{Notes, NotesOf}
 use Rattle.ring_terms.specs.Object.{InGroup, Object}
 use Rattle.ring_mux.specs.declared.carried.Carried.TheVariants.{Moved}
-use Rattle.ring_mux.specs.Journeys.{Carries, with_world}
+use Rattle.ring_mux.specs.Journeys.{Carries, Files, with_world}
 use Rattle.ring_mux.specs.Steps.{MovesOf}
 use Rattle.ring_mux.specs.Views.{Held, IsHeld, IsSeat, world_in}
 use Rattle.ring_mux.proofs.Carrying.{held_silent, noted, same_found, seat_inside, silent_knows, told_knows, world_of}
@@ -58,9 +59,9 @@ module _ {E S M : Type 0} (t : E → Table S M) (object : Object E) (worlds : Li
         rw (written, moved.journals)
         (held_silent t object worlds held name world found (after_receipt world i side moved.packet) refl (silent_knows t world i within side moved.packet (told ∙ none)))
 
-    pub carries_unheard : (two_way greatest : E → Bool) → link_refusal (two_way world.charter.algorithm) side ≡ None
+    pub carries_unheard : report ≡ None → (two_way greatest : E → Bool) → link_refusal (two_way world.charter.algorithm) side ≡ None
         → (w : Running E M) → world_in name worlds ≡ Some w → Carries t two_way greatest name i side w (record { object = object; worlds = worlds }) Moved (record { object = object; worlds = worlds' })
-    carries_unheard two_way greatest open_link =
+    carries_unheard none two_way greatest open_link =
         of_found name worlds world found (λ w. Carries t two_way greatest name i side w (record { object = object; worlds = worlds }) Moved (record { object = object; worlds = worlds' })) (
           open_link,
           record {
@@ -70,6 +71,7 @@ module _ {E S M : Type 0} (t : E → Table S M) (object : Object E) (worlds : Li
             found = found;
             moved = moved;
             worlds = written;
+            filed = rw none refl;
             object = λ node placed. record {
               before = seat.group;
               after = seat.group;
@@ -88,10 +90,15 @@ module _ {E S M : Type 0} (t : E → Table S M) (object : Object E) (worlds : Li
 
     -- a delivery that tells something, which is noted
     module _ (news : Told E) (heard : report ≡ Some news) (greatest : E → Bool) (noting : Noting) (object' : Object E) (notes : Notes greatest news object noting object') where
-      both : IsHeld t object' (with_world name (after_receipt world i side moved.packet) worlds) × ((node : ℕ) → position_of node world.charter.roster ≡ Some i → InGroup name (MovesOf greatest node) object object')
+      both : IsHeld t object' (with_world name (after_receipt world i side moved.packet) worlds)
+          × ((node : ℕ) → position_of node world.charter.roster ≡ Some i → InGroup name (MovesOf greatest node) object object')
+          × (noting ≡ Noted)
       both =
           noted t object worlds held name world found i within side moved.packet seat.group seat.says.term seat.found seat.says.found seat.says.says ring news (told ∙ heard) greatest noting object'
           (subst (λ (n : List ℕ). NotesOf greatest n news object noting object') (heard_group news heard) notes)
+
+      filed : Files greatest report object object'
+      filed = rw heard (subst (λ (n : Noting). Notes greatest news object n object') both.2 notes)
 
       pub held_heard : IsHeld t object' worlds'
       held_heard = rw (written, moved.journals) (both.0)
@@ -100,4 +107,4 @@ module _ {E S M : Type 0} (t : E → Table S M) (object : Object E) (worlds : Li
           → (w : Running E M) → world_in name worlds ≡ Some w → Carries t two_way greatest name i side w (record { object = object; worlds = worlds }) Moved (record { object = object'; worlds = worlds' })
       carries_heard two_way open_link =
           of_found name worlds world found (λ w. Carries t two_way greatest name i side w (record { object = object; worlds = worlds }) Moved (record { object = object'; worlds = worlds' }))
-          (open_link, record { before = world; after = after; report = report; found = found; moved = moved; worlds = written; object = both.1 })
+          (open_link, record { before = world; after = after; report = report; found = found; moved = moved; worlds = written; filed = filed; object = both.1 })

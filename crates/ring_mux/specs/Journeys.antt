@@ -9,7 +9,9 @@ use Rattle.ring_election.specs.Tables.{Table}
 use Rattle.ring_node.specs.declared.charter.Charter.{Charter}
 use Rattle.ring_node.specs.Reports.{Told}
 use Rattle.ring_world.specs.Worlds.{HasMoved, IsFirstLink, Running, in_flight, link_refusal, pending_of}
+use Rattle.ring_terms.specs.declared.standing.Noting.TheVariants.{Noted}
 use Rattle.ring_terms.specs.Commands.{running_refusal}
+use Rattle.ring_terms.specs.Notes.{Notes}
 use Rattle.ring_terms.specs.Object.{InGroup, Object, OfGroup, names}
 use Rattle.ring_mux.specs.declared.carried.Carried.{Carried}
 use Rattle.ring_mux.specs.declared.carried.Carried.TheVariants.{Moved, Idle, Refused}
@@ -24,8 +26,14 @@ with_world name world worlds = set_value (bytes_eq name) worlds world
 abbrev pub begun_of : {E M : Type 0} → Charter E → Running E M
 begun_of charter = record { charter = charter; journals = replicate (length charter.roster) [] }
 
--- a delivery on the link into a position of a group's world: that world moves and no other, and the
--- object by a step at the member of that position
+-- what a delivery files in the object: nothing where it tells nothing, else its report, by which the
+-- member that it names becomes informed
+abbrev pub Files : {E : Type 0} → (E → Bool) → Option (Told E) → Object E → Object E → Type 0
+Files greatest None old new = new ≡ old
+Files greatest (Some report) old new = Notes greatest report old Noted new
+
+-- a delivery on the link into a position of a group's world: that world moves and no other, and what
+-- the receipt tells is filed in the object, which is a step at the member of that position
 pub record HasCarried {E S M : Type 0} (t : E → Table S M) (greatest : E → Bool) (name : List ℕ) (i : ℕ) (side : Side) (old new : Held E M) : Type 0 where
   pub before : Running E M
   pub after : Running E M
@@ -33,6 +41,7 @@ pub record HasCarried {E S M : Type 0} (t : E → Table S M) (greatest : E → B
   pub found : world_in name old.worlds ≡ Some before
   pub moved : HasMoved t before i side report after
   pub worlds : new.worlds ≡ with_world name after old.worlds
+  pub filed : Files greatest report old.object new.object
   pub object : (node : ℕ) → position_of node before.charter.roster ≡ Some i → InGroup name (MovesOf greatest node) old.object new.object
 
 -- what a delivery on a link of a group's world does
@@ -51,29 +60,24 @@ CarriesAmong {E} {S} {M} t fits winner two_way greatest i side object world done
     × IsSoundHeld t fits winner object' (with_world name world' worlds)
     × (names object' ≡ names object)
 
--- one delivery in a group's world at its first ready link: no other world changes
-pub record TravelsOnce {E S M : Type 0} (t : E → Table S M) (name : List ℕ) (old new : List (List ℕ × Running E M)) : Type 0 where
-  pub before : Running E M
-  pub after : Running E M
+-- one delivery of a drain, on the link that is ready first in a group's world
+pub record CarriesOnce {E S M : Type 0} (t : E → Table S M) (greatest : E → Bool) (name : List ℕ) (old new : Held E M) : Type 0 where
   pub position : ℕ
   pub side : Side
-  pub report : Option (Told E)
-  pub found : world_in name old ≡ Some before
-  pub ready : IsFirstLink t before position side
-  pub moved : HasMoved t before position side report after
-  pub worlds : new ≡ with_world name after old
+  pub carried : HasCarried t greatest name position side old new
+  pub ready : IsFirstLink t carried.before position side
 
--- so many deliveries in a group's world, one after another, each at the link that was ready then: no
--- other world changes
-abbrev pub Travels : {E S M : Type 0} → (E → Table S M) → List ℕ → ℕ → List (List ℕ × Running E M) → List (List ℕ × Running E M) → Type 0
-Travels t name zero old new = new ≡ old
-Travels {E} {S} {M} t name (suc n) old new = (mid : List (List ℕ × Running E M)) × Travels t name n old mid × TravelsOnce t name mid new
+-- so many deliveries of a drain, one after another: each moves the world and files what it tells before
+-- the next
+abbrev pub CarriesTimes : {E S M : Type 0} → (E → Table S M) → (E → Bool) → List ℕ → ℕ → Held E M → Held E M → Type 0
+CarriesTimes t greatest name zero old new = new ≡ old
+CarriesTimes {E} {S} {M} t greatest name (suc n) old new = (mid : Held E M) × CarriesTimes t greatest name n old mid × CarriesOnce t greatest name mid new
 
 -- what the deliveries of a drain did: how many were made, and whether one was refused memory
 pub record Makes {E S M : Type 0} (t : E → Table S M) (greatest : E → Bool) (name : List ℕ) (count done : ℕ) (starved : Bool) (old new : Held E M) : Type 0 where
   pub within : done ≤ count
+  pub made : CarriesTimes t greatest name done old new
   pub object : InGroup name (MovesTimes greatest done) old.object new.object
-  pub worlds : Travels t name done old.worlds new.worlds
   pub runs : OfGroup name (λ group. running_refusal group ≡ None) new.object
   pub ended : starved ≡ false → (done ≡ count) ⊎ ((w : Running E M) → world_in name new.worlds ≡ Some w → pending_of t w ≡ 0)
   pub stopped : starved ≡ true → (done < count) × ((w : Running E M) → world_in name new.worlds ≡ Some w → 0 < pending_of t w)

@@ -5,7 +5,7 @@ ghost use Rattle.ring_terms.specs.Object.{OfGroup, OfLast, names};
 ghost use Rattle.ring_mux.specs.Quiet.{QuietIsKnown};
 ghost use Rattle.ring_mux.specs.Replies.{done_reply, told_reply};
 ghost use Rattle.ring_mux.specs.Steps.{KnownIfNone, Run, Step, StepOf, standing_reply};
-ghost use Rattle.ring_mux.specs.Views.{HasGrown, IsAt, IsPendingIn};
+ghost use Rattle.ring_mux.specs.Views.{HasGrown, IsAt, IsHeld, IsPendingIn};
 ghost use Rattle.ring_mux.specs.WorldSteps.{CommandOfWorlds, LeavesNothing, RunOfWorlds, StartOfWorlds, StepOfWorlds};
 
 use crate::carried::Carried;
@@ -59,10 +59,12 @@ impl<E: RingElection> Mux<E> {
     }
 
     /// One event: its reply is a step of the election object, and what it does below is a step of the
-    /// worlds. Afterwards each running term with nothing in flight is known at all its members.
+    /// worlds. Afterwards a member of a running term is informed exactly where its own node knows the
+    /// leader, and a term with nothing in flight is known at all its members.
     pub fn step(&mut self, alloc: Global, event: Event<E>) -> Reply
         ensures object { Step E.is_two_way E.is_greatest self.old.object event result self.new.object }
         ensures worlds { StepOfWorlds E.table E.is_two_way E.is_greatest self.old event result self.new }
+        ensures informed { IsHeld E.table self.new.object self.new.worlds }
         ensures quiet { QuietIsKnown E.table self.new }
     {
         let reply = match event {
@@ -77,11 +79,13 @@ impl<E: RingElection> Mux<E> {
     }
 
     /// Events one after another, one reply each: a run of the election object, and of the worlds.
-    /// Afterwards each running term with nothing in flight is known at all its members. Room for all
-    /// replies is found first: refused memory means that no event was taken.
+    /// Afterwards a member of a running term is informed exactly where its own node knows the leader,
+    /// and a term with nothing in flight is known at all its members. Room for all replies is found
+    /// first: refused memory means that no event was taken.
     pub fn run(&mut self, alloc: Global, events: &[Event<E>]) -> Result<Vec<Reply>, NoMemory>
         ensures run { IfOk result (λ replies. Run E.is_two_way E.is_greatest self.old.object events.now replies.items self.new.object) }
         ensures worlds { IfOk result (λ replies. RunOfWorlds E.table E.is_two_way E.is_greatest self.old events.now replies.items self.new) }
+        ensures informed { IsHeld E.table self.new.object self.new.worlds }
         ensures quiet { QuietIsKnown E.table self.new }
         ensures err { OnErr result (self.new ≡ self.old) }
     {
@@ -166,11 +170,13 @@ impl<E: RingElection> Mux<E> {
     /// Makes deliveries at the first ready link of a group's running term, until so many are made,
     /// nothing is ready, or one is refused memory; those that were made stand. Refused, the first that
     /// holds: `NoGroup`, `NoTerm`. A drain of more than the algorithm's bound and the length of the ring
-    /// together leaves nothing, unless it was refused memory.
+    /// together leaves nothing, unless it was refused memory. What a delivery tells is filed before the
+    /// next one: a member is informed exactly where its own node knows the leader.
     pub fn drain(&mut self, group: GroupName, count: u32) -> Reply
         ensures object { Step E.is_two_way E.is_greatest self.old.object (Event.Drain group count) result self.new.object }
         ensures worlds { StepOfWorlds E.table E.is_two_way E.is_greatest self.old (Event.Drain group count) result self.new }
         ensures bounded { LeavesNothing E.bound group count self.old.worlds result }
+        ensures informed { IsHeld E.table self.new.object self.new.worlds }
     {
         let place = match self.place(group) {
             Ok(place) => place,

@@ -3,6 +3,7 @@ pub mod Beginnings
 pub mod Bits
 pub mod Deliveries
 pub mod Links
+pub mod Placing
 pub mod Quiet
 pub mod Settlements
 pub mod Tallies

@@ -1,33 +1,37 @@
--- Settled terms: the search for the one node of a position, the comparison of a sort of packet, and
--- why every node knows where all positions are settled.
-use Rattle.std.proofs.Common.{◌≡◌, ◌≢◌, ◌+◌, ◌<◌, ◌≤◌, ◌==◌, ◌↔◌, ℕ, zero, suc, true, false, cond, IsTrue, List, [], ◌∷◌, length, drop, Option, Some, None, is_some, MatchOption, slice_get, refl, sym, ap, ap₂, ◌∙◌, subst, arith, inl, inr}
+-- Settled terms: the comparison of a sort of packet, and why every node knows where all positions are
+-- settled.
+use Rattle.std.proofs.Common.{◌≡◌, ◌≢◌, ◌+◌, ◌<◌, ◌≤◌, ◌==◌, ◌↔◌, ℕ, zero, suc, Bool, true, false, cond, IsTrue, List, [], ◌∷◌, length, drop, Option, Some, None, not, is_some, option_map, slice_get, slice_index, refl, sym, ap, ap₂, ◌∙◌, subst, arith, inl, inr}
 use Rattle.std.proofs.lemmas.Bool.Decides.{nat_tests}
-use Rattle.std.proofs.lemmas.Option.{same_Some, slice_get_within}
+use Rattle.std.proofs.lemmas.List.{drop_all}
+use Rattle.std.proofs.lemmas.Option.{get_or_from_slice_get, same_Some, slice_get_within}
 use Rattle.ring_id.specs.declared.side.Side.{Side}
 use Rattle.ring_id.specs.declared.side.Side.TheVariants.{Left, Right}
-use Rattle.ring_id.specs.Sides.{other}
+use Rattle.ring_id.specs.Sides.{other, same_side}
 use Rattle.ring_roster.specs.Ring.{IsRing, neighbour}
 use Rattle.ring_election.specs.Families.{FamilyFits}
 use Rattle.ring_election.specs.Laws.{Deciding}
 use Rattle.ring_election.specs.Tables.{Table}
+use Rattle.ring_election.specs.Traces.{taken_from}
 use Rattle.ring_election.proofs.Rings.{neighbour-below}
 use Rattle.ring_node.specs.declared.charter.Charter.{Charter}
 use Rattle.ring_node.specs.declared.packet.Packet.{Packet}
 use Rattle.ring_node.specs.Journals.{algo_part}
-use Rattle.ring_node.specs.Nodes.{IsFaithful, Seated, known_of, sent_of, taken_of}
+use Rattle.ring_node.specs.Nodes.{IsFaithful, Seated, known_of, member_of, sent_of, taken_of}
+use Rattle.ring_node.specs.Reports.{Told}
 use Rattle.ring_world.specs.declared.sort.Sort.{Sort}
 use Rattle.ring_world.specs.declared.sort.Sort.TheVariants.{Message, Announcement}
-use Rattle.ring_world.specs.Settlements.{AllFaithful, EachKnows, IsAlone, IsFed, IsSettled, IsSettledAt}
+use Rattle.ring_world.specs.Settlements.{AllFaithful, EachKnows, EachReports, IsAlone, IsFed, IsNextOf, IsSettled, IsSettledAt}
+use Rattle.ring_world.specs.Places.{IsShared}
 use Rattle.ring_world.specs.Sorts.{is_of, of_sort}
 use Rattle.ring_world.proofs.Links.{same_or_not}
 use Rattle.ring_world.proofs.Quiet.{IsMatched, matched_informed}
 
 -- ---- The packets of a sort
 
-drop_at : {M : Type 0} (ps : List (Packet M)) (k : ℕ) (p : Packet M) → slice_get ps k ≡ Some p → drop k ps ≡ p ∷ drop (k + 1) ps
-drop_at [] k p h = cc
-drop_at {M} (x ∷ ps) zero p h = let same : x ≡ p = cc in ap (λ (z : Packet M). z ∷ ps) same
-drop_at (x ∷ ps) (suc k) p h = let more : suc k + 1 ≡ suc (k + 1) = omega arith in rw more (drop_at ps k p h)
+drop_at : {A : Type 0} (xs : List A) (k : ℕ) (x : A) → slice_get xs k ≡ Some x → drop k xs ≡ x ∷ drop (k + 1) xs
+drop_at [] k x h = cc
+drop_at {A} (y ∷ xs) zero x h = let same : y ≡ x = cc in ap (λ (z : A). z ∷ xs) same
+drop_at (y ∷ xs) (suc k) x h = let more : suc k + 1 ≡ suc (k + 1) = omega arith in rw more (drop_at xs k x h)
 
 -- a packet of the sort is the first of them from its place on
 pub of_sort_here : {M : Type 0} (sort : Sort) (ps : List (Packet M)) (k : ℕ) (p : Packet M) → slice_get ps k ≡ Some p → is_of sort p ≡ true → of_sort sort (drop k ps) ≡ p ∷ of_sort sort (drop (k + 1) ps)
@@ -38,6 +42,52 @@ of_sort_here sort ps k p there is =
 pub of_sort_past : {M : Type 0} (sort : Sort) (ps : List (Packet M)) (k : ℕ) (p : Packet M) → slice_get ps k ≡ Some p → is_of sort p ≡ false → of_sort sort (drop k ps) ≡ of_sort sort (drop (k + 1) ps)
 of_sort_past sort ps k p there is =
     ap (of_sort sort) (drop_at ps k p there) ∙ ap (λ b. cond b (p ∷ of_sort sort (drop (k + 1) ps)) (of_sort sort (drop (k + 1) ps))) is
+
+module _ {M : Type 0} (sort : Sort) (side : Side) (js : List (Side × Packet M)) (k : ℕ) (r : Side × Packet M) (there : slice_get js k ≡ Some r) where
+  -- the packet of a receipt from the side is the next that was taken there
+  taken_here : same_side side r.0 ≡ true → taken_from side (drop k js) ≡ r.1 ∷ taken_from side (drop (k + 1) js)
+  taken_here here = ap (taken_from side) (drop_at js k r there) ∙ ap (λ b. cond b (r.1 ∷ taken_from side (drop (k + 1) js)) (taken_from side (drop (k + 1) js))) here
+
+  -- and it is the next of its sort
+  pub taken_next : same_side side r.0 ≡ true → is_of sort r.1 ≡ true → of_sort sort (taken_from side (drop k js)) ≡ r.1 ∷ of_sort sort (taken_from side (drop (k + 1) js))
+  taken_next here is =
+      ap (of_sort sort) (taken_here here)
+      ∙ ap (λ b. cond b (r.1 ∷ of_sort sort (taken_from side (drop (k + 1) js))) (of_sort sort (taken_from side (drop (k + 1) js)))) is
+
+  -- one of the other sort is passed over
+  pub taken_other : same_side side r.0 ≡ true → is_of sort r.1 ≡ false → of_sort sort (taken_from side (drop k js)) ≡ of_sort sort (taken_from side (drop (k + 1) js))
+  taken_other here is =
+      ap (of_sort sort) (taken_here here)
+      ∙ ap (λ b. cond b (r.1 ∷ of_sort sort (taken_from side (drop (k + 1) js))) (of_sort sort (taken_from side (drop (k + 1) js)))) is
+
+  -- so is a receipt from the other side
+  pub taken_elsewhere : same_side side r.0 ≡ false → of_sort sort (taken_from side (drop k js)) ≡ of_sort sort (taken_from side (drop (k + 1) js))
+  taken_elsewhere away =
+      ap (of_sort sort)
+      (ap (taken_from side) (drop_at js k r there) ∙ ap (λ b. cond b (r.1 ∷ taken_from side (drop (k + 1) js)) (taken_from side (drop (k + 1) js))) away)
+
+-- a side is itself, and another is not
+pub side_itself : (side : Side) → same_side side side ≡ true
+side_itself Left = refl
+side_itself Right = refl
+
+pub sides_differ : (side from : Side) → (from ≡ side → ⊥) → same_side side from ≡ false
+sides_differ Left Left differ = absurd (differ refl)
+sides_differ Left Right differ = refl
+sides_differ Right Left differ = refl
+sides_differ Right Right differ = absurd (differ refl)
+
+-- where all receipts were passed, nothing is left that was taken
+pub passed_all : {M : Type 0} (sort : Sort) (side : Side) (js : List (Side × Packet M)) (k : ℕ) → length js ≤ k → of_sort sort (taken_from side (drop k js)) ≡ []
+passed_all {M = M} sort side js k all = ap (λ (l : List (Side × Packet M)). of_sort sort (taken_from side l)) (drop_all k js all)
+
+-- then the packets are the same exactly where nothing is left that was sent
+pub none_left : {M : Type 0} (P : Type 0) (sort : Sort) (sent : List (Packet M)) (from : ℕ) (next : Option (ℕ × Packet M)) (ended : Bool) → P ↔ ([] ≡ of_sort sort (drop from sent)) → IsNextOf sort sent from next
+    → is_some next ≡ not ended → IsTrue ended ↔ P
+none_left P sort sent from None true exactly ends is = (λ ended. exactly.1 (sym ends), λ same. refl)
+none_left P sort sent from None false exactly ends is = cc
+none_left P sort sent from (Some next) true exactly more is = cc
+none_left P sort sent from (Some next) false exactly more is = (λ never. cc, λ same. let both = exactly.0 same ∙ more in cc)
 
 module _ {M : Type 0} (P : Type 0) (taken sent : List (Packet M)) (exactly : P ↔ (taken ≡ sent)) where
   -- a packet is left that was taken, and none that was sent
@@ -58,112 +108,12 @@ module _ {M : Type 0} (P : Type 0) (taken sent : List (Packet M)) (exactly : P �
 
 -- ---- The one node of a position
 
--- what is known of an answer, where it is none, where it is some, and through both
-pub at_none : {X : Type 0} (o : Option X) (P : Type 0) (Q : X → Type 0) → is_some o ≡ false → MatchOption o P Q → P
-at_none None P Q none known = known
-at_none (Some x) P Q none known = cc
-
-pub at_some : {X : Type 0} (o : Option X) (P : Type 0) (Q : X → Type 0) → is_some o ≡ true → MatchOption o P Q → (x : X) × Q x
-at_some None P Q some known = cc
-at_some (Some x) P Q some known = (x, known)
-
-pub each_case : {X : Type 0} (o : Option X) (P P' : Type 0) (Q Q' : X → Type 0) → MatchOption o P Q → (P → P') → ((x : X) → Q x → Q' x) → MatchOption o P' Q'
-each_case None P P' Q Q' known none some = none known
-each_case (Some x) P P' Q Q' known none some = some x known
-
--- what is so of the elements below n and of the one at n is so of those below n + 1
-pub each_more : {A : Type 0} (P : A → Type 0) (xs : List A) (n : ℕ) (x : A) → slice_get xs n ≡ Some x → P x → ((k : ℕ) (y : A) → k < n → slice_get xs k ≡ Some y → P y) → (k : ℕ) (y : A) → k < n + 1 → slice_get xs k ≡ Some y → P y
-each_more P xs n x there holds before k y below at =
-    elim (same_or_not k n) [
-      | inr differ ↦ before k y (omega arith) at
-      | inl here ↦ subst P (same_Some x y (sym there ∙ ap (slice_get xs) (sym here) ∙ at)) holds
-    ]
-
--- of the nodes below n none of this charter stands at a position
-pub record NoneBelow {E M : Type 0} (charter : Charter E) (nodes : List (Seated E M)) (n position : ℕ) : Type 0 where
-  pub none : (k : ℕ) (node : Seated E M) → k < n → slice_get nodes k ≡ Some node → node.charter ≡ charter → node.position ≡ position → ⊥
-
--- of the nodes below n this one alone does
-pub record IsAloneBelow {E M : Type 0} (charter : Charter E) (nodes : List (Seated E M)) (n position : ℕ) (node : Seated E M) : Type 0 where
-  pub place : ℕ
-  pub below : place < n
-  pub there : slice_get nodes place ≡ Some node
-  pub charter_is : node.charter ≡ charter
-  pub position_is : node.position ≡ position
-  pub alone : (k : ℕ) (another : Seated E M) → k < n → slice_get nodes k ≡ Some another → another.charter ≡ charter → another.position ≡ position → k ≡ place
-
 module _ {E M : Type 0} (charter : Charter E) (nodes : List (Seated E M)) (position : ℕ) where
   -- two nodes that are alone at a position are one
   pub alone_same : (one another : Seated E M) → IsAlone charter nodes position one → IsAlone charter nodes position another → one ≡ another
   alone_same one another first second =
       let place = second.alone first.place one first.there first.charter_is first.position_is in
       same_Some one another (sym first.there ∙ ap (slice_get nodes) place ∙ second.there)
-
-  module _ (n : ℕ) (node : Seated E M) (there : slice_get nodes n ≡ Some node) where
-    -- one more node, which doesn't stand there
-    pub none_more : NoneBelow charter nodes n position → (node.charter ≡ charter → node.position ≡ position → ⊥) → NoneBelow charter nodes (n + 1) position
-    none_more before away = record {
-      none = λ k another below at is_of_charter is_at.
-          elim (same_or_not k n) [
-            | inr differ ↦ before.none k another (omega arith) at is_of_charter is_at
-            | inl here ↦ let same = same_Some node another (sym there ∙ ap (slice_get nodes) (sym here) ∙ at) in away (ap (λ (x : Seated E M). x.charter) same ∙ is_of_charter) (ap (λ (x : Seated E M). x.position) same ∙ is_at)
-          ];
-    }
-
-    pub alone_more : (found : Seated E M) → IsAloneBelow charter nodes n position found → (node.charter ≡ charter → node.position ≡ position → ⊥) → IsAloneBelow charter nodes (n + 1) position found
-    alone_more found before away = record {
-      place = before.place;
-      below = let low = before.below in omega arith;
-      there = before.there;
-      charter_is = before.charter_is;
-      position_is = before.position_is;
-      alone = λ k another below at is_of_charter is_at.
-          elim (same_or_not k n) [
-            | inr differ ↦ before.alone k another (omega arith) at is_of_charter is_at
-            | inl here ↦
-                let same = same_Some node another (sym there ∙ ap (slice_get nodes) (sym here) ∙ at) in
-                absurd (away (ap (λ (x : Seated E M). x.charter) same ∙ is_of_charter) (ap (λ (x : Seated E M). x.position) same ∙ is_at))
-          ];
-    }
-
-    -- the first that stands there
-    pub first_alone : NoneBelow charter nodes n position → node.charter ≡ charter → node.position ≡ position → IsAloneBelow charter nodes (n + 1) position node
-    first_alone before charter_is position_is = record {
-      place = n;
-      below = omega arith;
-      there = there;
-      charter_is = charter_is;
-      position_is = position_is;
-      alone = λ k another below at is_of_charter is_at.
-          elim (same_or_not k n) [
-            | inr differ ↦ absurd (before.none k another (omega arith) at is_of_charter is_at)
-            | inl here ↦ here
-          ];
-    }
-
-    -- a second that stands there
-    pub two_there : (found : Seated E M) → IsAloneBelow charter nodes n position found → node.charter ≡ charter → node.position ≡ position → (another : Seated E M) → IsAlone charter nodes position another → ⊥
-    two_there found before charter_is position_is another only =
-        let first = only.alone before.place found before.there before.charter_is before.position_is in
-        let second = only.alone n node there charter_is position_is in
-        let low = before.below in
-        omega arith
-
-  -- all nodes were passed, and none stands there
-  pub none_at_all : (n : ℕ) → length nodes ≤ n → NoneBelow charter nodes n position → (node : Seated E M) → IsAlone charter nodes position node → ⊥
-  none_at_all n all before node only =
-      let within = slice_get_within nodes only.place node only.there in
-      before.none only.place node (omega arith) only.there only.charter_is only.position_is
-
-  -- or one does
-  pub alone_at_all : (n : ℕ) → length nodes ≤ n → (node : Seated E M) → IsAloneBelow charter nodes n position node → IsAlone charter nodes position node
-  alone_at_all n all node before = record {
-    place = before.place;
-    there = before.there;
-    charter_is = before.charter_is;
-    position_is = before.position_is;
-    alone = λ k another at is_of_charter is_at. let within = slice_get_within nodes k another at in before.alone k another (omega arith) at is_of_charter is_at;
-  }
 
 -- ---- Positions that are settled
 
@@ -188,6 +138,10 @@ module _ {E S M : Type 0} (t : E → Table S M) (charter : Charter E) (nodes : L
 
     pub settled_each : IsSettledAt t charter nodes position → (side : Side) → IsFed t charter nodes node side
     settled_each settled side = subst (λ (x : Seated E M). IsFed t charter nodes x side) (alone_same charter nodes position settled.node node settled.alone only) (settled.fed side)
+
+-- where no node stands alone at some position, the term is not settled
+pub shared_unsettled : {E S M : Type 0} (t : E → Table S M) (charter : Charter E) (nodes : List (Seated E M)) → IsShared charter nodes → IsSettled t charter nodes → ⊥
+shared_unsettled t charter nodes shared settled = let here = settled.each shared.position shared.inside in shared.shared here.node here.alone
 
 -- ---- Settled means known
 
@@ -259,3 +213,21 @@ module _ {E S M : Type 0} (t : E → Table S M) (fits : E → List ℕ → ℕ �
       let chosen = choose (IsAtRest t charter nodes) (record { charter = charter; position = 0; journal = [] }) (length charter.roster)
       (λ i below. let here = settled.each i below in (here.node, record { alone = here.alone; fed = here.fed })) in
       rest_knows chosen.0 chosen.1 deciding undecided is_ring faithful
+
+  -- where each node of the charter knows the winner, the node of each position reports it
+  pub settled_reports : IsSettled t charter nodes → EachKnows t winner charter nodes → EachReports t winner charter nodes
+  settled_reports settled known = record {
+    each = λ i member there.
+        let here = settled.each i (slice_get_within charter.roster i member there) in
+        let w : ℕ = winner charter.algorithm charter.roster in
+        let told : Charter E → ℕ → Option (Told E) = λ c m. Some (record { charter = c; member = m; leader = w }) in
+        let knows = known.each here.alone.place here.node here.alone.there here.alone.charter_is in
+        record {
+          node = here.node;
+          alone = here.alone;
+          reports =
+              ap (option_map (λ v. record { charter = here.node.charter; member = member_of here.node; leader = v })) knows
+              ∙ ap₂ (λ (c : Charter E) (p : ℕ). told c (slice_index c.roster p)) here.alone.charter_is here.alone.position_is
+              ∙ ap (told charter) (get_or_from_slice_get charter.roster i member 0 there);
+        };
+  }

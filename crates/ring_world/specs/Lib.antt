@@ -1,3 +1,4 @@
+pub mod Places
 pub mod Quiet
 pub mod ReadySets
 pub mod Settlements

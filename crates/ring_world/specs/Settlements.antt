@@ -8,7 +8,7 @@ use Rattle.ring_roster.specs.Ring.{neighbour}
 use Rattle.ring_election.specs.Tables.{Table}
 use Rattle.ring_node.specs.declared.charter.Charter.{Charter}
 use Rattle.ring_node.specs.declared.packet.Packet.{Packet}
-use Rattle.ring_node.specs.Nodes.{IsFaithful, Seated, known_of, sent_of, taken_of}
+use Rattle.ring_node.specs.Nodes.{IsFaithful, Seated, known_of, report_of, sent_of, taken_of}
 use Rattle.ring_world.specs.declared.sort.Sort.{Sort}
 use Rattle.ring_world.specs.Sorts.{of_sort}
 
@@ -40,6 +40,16 @@ module _ {E S M : Type 0} (t : E → Table S M) where
   -- each of these nodes that is of the charter knows the leader, which is the winner of its ring
   pub record EachKnows (winner : E → List ℕ → ℕ) (charter : Charter E) (nodes : List (Seated E M)) : Type 0 where
     pub each : (k : ℕ) (node : Seated E M) → slice_get nodes k ≡ Some node → node.charter ≡ charter → known_of t node ≡ Some (winner charter.algorithm charter.roster)
+
+  -- the node that alone stands at a position reports that its member knows the winner
+  pub record HasReport (winner : E → List ℕ → ℕ) (charter : Charter E) (nodes : List (Seated E M)) (position member : ℕ) : Type 0 where
+    pub node : Seated E M
+    pub alone : IsAlone charter nodes position node
+    pub reports : report_of t node ≡ Some (record { charter = charter; member = member; leader = winner charter.algorithm charter.roster })
+
+  -- and so it is with each member of the ring
+  pub record EachReports (winner : E → List ℕ → ℕ) (charter : Charter E) (nodes : List (Seated E M)) : Type 0 where
+    pub each : (i member : ℕ) → slice_get charter.roster i ≡ Some member → HasReport winner charter nodes i member
 
   -- what the type of each of these nodes keeps
   pub record AllFaithful (fits : E → List ℕ → ℕ → Side → ℕ → M → Type 0) (winner : E → List ℕ → ℕ) (nodes : List (Seated E M)) : Type 0 where

@@ -11,6 +11,7 @@ use Rattle.ring_roster.specs.Ring.{IsRing, neighbour}
 use Rattle.ring_election.specs.Tables.{Table}
 use Rattle.ring_node.specs.declared.charter.Charter.{Charter}
 use Rattle.ring_node.specs.declared.packet.Packet.{Packet}
+use Rattle.ring_node.specs.declared.packet.Packet.TheVariants.{Algo, Leader}
 use Rattle.ring_node.specs.Nodes.{IsFaithful, Seated, receiving, sent_of, taken_of, told_of}
 use Rattle.ring_node.specs.Reports.{Told}
 use Rattle.ring_world.specs.declared.delivery.Delivery.{Delivery}
@@ -54,6 +55,20 @@ receipts_in (journal ∷ journals) = length journal + receipts_in journals
 
 abbrev pub delivered_of : {E M : Type 0} → Running E M → ℕ
 delivered_of world = receipts_in world.journals
+
+-- how many announcements a node has received
+abbrev pub announced_in : {M : Type 0} → List (Side × Packet M) → ℕ
+announced_in [] = 0
+announced_in ((side, Algo m) ∷ receipts) = announced_in receipts
+announced_in ((side, Leader v) ∷ receipts) = announced_in receipts + 1
+
+-- how many announcements were received in all
+abbrev pub announcements_in : {M : Type 0} → List (List (Side × Packet M)) → ℕ
+announcements_in [] = 0
+announcements_in (journal ∷ journals) = announced_in journal + announcements_in journals
+
+abbrev pub announcements_of : {E M : Type 0} → Running E M → ℕ
+announcements_of world = announcements_in world.journals
 
 -- nothing arrives from the right under an algorithm that isn't two-way
 abbrev pub link_refusal : Bool → Side → Option Refusal

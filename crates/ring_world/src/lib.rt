@@ -16,6 +16,7 @@
 mod circle;
 mod delivery;
 mod owners;
+mod places;
 mod ready_set;
 mod settlement;
 mod sort;

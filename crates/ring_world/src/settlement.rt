@@ -1,9 +1,12 @@
-ghost use Rattle.std.specs.Prelude.{◌≡◌, ◌+◌, ◌^◌, ◌<◌, ◌↔◌, IfSome, IsTrue, MatchOption, length};
+ghost use Rattle.std.specs.Prelude.{◌≡◌, ◌+◌, ◌^◌, ◌<◌, ◌↔◌, IfSome, IsTrue, length};
 ghost use Rattle.ring_id.specs.Sides.{other};
-ghost use Rattle.ring_node.specs.Nodes.{IsFaithful, Seated, sent_of, taken_of};
+ghost use Rattle.ring_roster.specs.Ring.{IsRing};
+ghost use Rattle.ring_node.specs.Nodes.{sent_of, taken_of};
+ghost use Rattle.ring_world.specs.Places.{IsPlaced};
 ghost use Rattle.ring_world.specs.Sorts.{of_sort};
-ghost use Rattle.ring_world.specs.Settlements.{AllFaithful, EachKnows, IsAlone, IsFed, IsNextOf, IsSettled, IsSettledAt};
+ghost use Rattle.ring_world.specs.Settlements.{EachKnows, EachReports, IsFed, IsNextOf, IsSettled, IsSettledAt};
 
+use crate::places::Places;
 use crate::sort::Sort;
 use ring_election::RingElection;
 use ring_id::Side;
@@ -22,30 +25,51 @@ pub enum Settlement {
 ///
 /// Among these nodes it looks at those of this charter. `Settled` exactly where each position of the
 /// ring occurs once, and on each link the messages of the algorithm that were taken are those that
-/// were sent, in order, and likewise the announcements. Then each of these nodes knows the leader.
-/// Takes no memory; the time grows with the square of the number of nodes and of the journals.
+/// were sent, in order, and likewise the announcements. Then each of these nodes knows the leader, and
+/// the node of each position reports it. Takes no memory; the time grows with the number of nodes, and
+/// with the ring's length and the journal of each node of the charter.
 pub fn settle<E: RingElection>(charter: &Charter<E>, nodes: &[Node<E>]) -> Settlement
     ensures settled { (result ≡ Settlement.Settled) ↔ IsSettled E.table charter.now nodes.now }
     ensures knows { result ≡ Settlement.Settled → EachKnows E.table E.winner charter.now nodes.now }
+    ensures reports { result ≡ Settlement.Settled → EachReports E.table E.winner charter.now nodes.now }
+{
+    match Places::of(charter, nodes) {
+        Some(places) if are_settled(charter, nodes, &places) => Settlement::Settled,
+        _ => Settlement::Incomplete,
+    }
+}
+
+/// Whether at each position of the ring one of these nodes stands alone, and has taken all that was
+/// sent to it.
+fn are_settled<E: RingElection>(charter: &Charter<E>, nodes: &[Node<E>], places: &Places) -> bool
+    requires { IsPlaced charter.now nodes.now (length nodes.now) places.now.at }
+    ensures settled { IsTrue result ↔ IsSettled E.table charter.now nodes.now }
+    ensures ring { IsRing charter.now.roster }
 {
     for position in 0..charter.roster().len() {
-        if !is_settled_at(charter, nodes, position) {
-            return Settlement::Incomplete;
+        if !is_settled_at(charter, nodes, places, position) {
+            return false;
         }
     }
-    Settlement::Settled
+    true
 }
 
 /// Whether one of these nodes alone stands at this position, and has taken all that was sent to it.
-fn is_settled_at<E: RingElection>(charter: &Charter<E>, nodes: &[Node<E>], position: usize) -> bool
-    requires { position < length charter.now.roster }
-    ensures settled { IsTrue result ↔ IsSettledAt E.table charter.now nodes.now position }
-    ensures faithful { IsTrue result → AllFaithful E.table E.fits E.winner nodes.now }
+fn is_settled_at<E: RingElection>(
+    charter: &Charter<E>,
+    nodes: &[Node<E>],
+    places: &Places,
+    position: usize,
+) -> bool
+    requires inside { position < length charter.now.roster }
+    requires placed { IsPlaced charter.now nodes.now (length nodes.now) places.now.at }
+    ensures { IsTrue result ↔ IsSettledAt E.table charter.now nodes.now position }
 {
-    let Some(node) = only_at(charter, nodes, position) else {
+    let Some(node) = places.find(nodes, position) else {
         return false;
     };
-    is_fed(charter, nodes, node, Side::Left) && is_fed(charter, nodes, node, Side::Right)
+    is_fed(charter, nodes, places, node, Side::Left)
+        && is_fed(charter, nodes, places, node, Side::Right)
 }
 
 /// Whether a node has taken all that its neighbour at a side has sent to it, and that neighbour is
@@ -53,47 +77,20 @@ fn is_settled_at<E: RingElection>(charter: &Charter<E>, nodes: &[Node<E>], posit
 fn is_fed<E: RingElection>(
     charter: &Charter<E>,
     nodes: &[Node<E>],
+    places: &Places,
     node: &Node<E>,
     side: Side,
 ) -> bool
-    requires { node.now.position < length charter.now.roster }
+    requires inside { node.now.position < length charter.now.roster }
+    requires placed { IsPlaced charter.now nodes.now (length nodes.now) places.now.at }
     ensures { IsTrue result ↔ IsFed E.table charter.now nodes.now node.now side }
 {
     let position = charter.roster().neighbour(node.position(), side);
-    let Some(sender) = only_at(charter, nodes, position) else {
+    let Some(sender) = places.find(nodes, position) else {
         return false;
     };
     has_taken(node, sender, side, Sort::Message)
         && has_taken(node, sender, side, Sort::Announcement)
-}
-
-/// The node of this charter at this position, if there is exactly one.
-fn only_at<'a, E: RingElection>(
-    charter: &Charter<E>,
-    nodes: &'a [Node<E>],
-    position: usize,
-) -> Option<&'a Node<E>>
-    ensures alone { MatchOption result ((node : Seated E E.Msg) → IsAlone charter.now nodes.now position node → ⊥) (λ node. IsAlone charter.now nodes.now position node.now) }
-    ensures faithful { IfSome result (λ _. AllFaithful E.table E.fits E.winner nodes.now) }
-{
-    let mut found = None;
-    for node in nodes {
-        if stands_at(node, charter, position) {
-            if found.is_some() {
-                return None;
-            }
-            found = Some(node);
-        }
-    }
-    found
-}
-
-/// Whether a node is of this charter and stands at this position.
-fn stands_at<E: RingElection>(node: &Node<E>, charter: &Charter<E>, position: usize) -> bool
-    ensures there { IsTrue result ↔ ((node.now.charter ≡ charter.now) × (node.now.position ≡ position)) }
-    ensures faithful { IsFaithful E.table E.fits E.winner node.now }
-{
-    node.position() == position && node.charter().same(charter)
 }
 
 /// Whether the packets of this sort that a node took from a side are those that its neighbour there
@@ -102,21 +99,27 @@ fn has_taken<E: RingElection>(node: &Node<E>, sender: &Node<E>, side: Side, sort
     ensures { IsTrue result ↔ (of_sort sort (taken_of node.now side) ≡ of_sort sort (sent_of E.table sender.now (other side))) }
 {
     let mut next = 0;
-    for place in 0..node.taken(side) {
-        let Some(packet) = node.receipt(side, place) else {
-            return false;
-        };
-        if sort.has(packet) {
+    let receipts = node.receipts();
+    for receipt in receipts {
+        let packet = receipt.1;
+        if receipt.0 == side && sort.has(packet) {
             let Some((at, sent)) = next_of(sender, side.other(), sort, next) else {
                 return false;
             };
-            if sent != packet {
+            if !same_packet::<E>(sent, packet) {
                 return false;
             }
             next = at + 1;
         }
     }
     next_of(sender, side.other(), sort, next).is_none()
+}
+
+/// Whether two packets are the same.
+fn same_packet<E: RingElection>(one: Packet<E::Msg>, another: Packet<E::Msg>) -> bool
+    ensures { IsTrue result ↔ (one ≡ another) }
+{
+    one == another
 }
 
 /// The first packet of this sort that a node sent to a side from this place on, with its place.

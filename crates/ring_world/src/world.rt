@@ -4,7 +4,7 @@ ghost use Rattle.ring_roster.specs.Ring.{neighbour};
 ghost use Rattle.ring_node.specs.Envelopes.{IsProper};
 ghost use Rattle.ring_node.specs.Nodes.{next_index, told_of};
 ghost use Rattle.ring_world.specs.Quiet.{AllKnow, IsQuiet};
-ghost use Rattle.ring_world.specs.Worlds.{Delivers, IsReady, IsSoundWorld, after_receipt, delivered_of, in_flight, most_deliveries, node_at, nodes_of, pending_of};
+ghost use Rattle.ring_world.specs.Worlds.{Delivers, IsReady, IsSoundWorld, after_receipt, announcements_of, delivered_of, in_flight, most_deliveries, node_at, nodes_of, pending_of};
 
 use crate::circle::Circle;
 use crate::delivery::Delivery;
@@ -107,9 +107,11 @@ impl<E: RingElection> World<E> {
     }
 
     /// How many packets were taken in all: at most the algorithm's bound and the length of the ring.
+    /// Of these at most one for each position is an announcement.
     pub fn delivered(&self) -> u128
         ensures value { result ≡ delivered_of self.now }
         ensures bounded { result ≤ most_deliveries E.bound self.now }
+        ensures announced { announcements_of self.now ≤ length self.now.charter.roster }
     {
         let mut delivered = 0;
         for position in 0..self.circle.size() {

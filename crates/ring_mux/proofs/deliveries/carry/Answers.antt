@@ -30,7 +30,7 @@ returns-in-Refused g c = λ name worlds kept found seat.
 pub returns-in_default : goal.returns-in_default
 returns-in_default g c = λ name worlds kept found seat.
     let delivers = c.in-Moved.ensures.delivers in (
-      carries_unheard _ _ _ kept.held name _ found c.args.position seat c.args.side _ _ refl _ _ c.deliver.ensures.sound _ (delivers.1) g.E.RingElection.is_two_way g.E.RingElection.is_greatest (delivers.0) _ found,
+      carries_unheard _ _ _ kept.held name _ found c.args.position seat c.args.side _ _ refl _ _ c.deliver.ensures.sound _ (delivers.1) c.in_default.is g.E.RingElection.is_two_way g.E.RingElection.is_greatest (delivers.0) _ found,
       record {
         held = held_unheard _ _ _ kept.held name _ found c.args.position seat c.args.side _ _ refl _ _ c.deliver.ensures.sound _ (delivers.1) c.in_default.is;
         sound = sound_written _ _ _ name worlds _ _ kept.sound found c.deliver.ensures.sound;

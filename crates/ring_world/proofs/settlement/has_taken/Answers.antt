@@ -1,33 +1,51 @@
 -- What was taken next and what was sent next are the same packet, or the lists differ.
-use Rattle.std.proofs.Common.{◌≡◌, rules, sym}
-use Rattle.ring_node.specs.Nodes.{taken_of}
-use Rattle.ring_world.proofs.Settlements.{another_next, of_sort_here, of_sort_past, one_left, passed_over, same_next}
+use Rattle.std.proofs.Common.{◌≡◌, Some, slice_get, rules, refl, sym, ap, ◌∙◌}
+use Rattle.std.proofs.lemmas.Option.{slice_get_read}
+use Rattle.ring_id.specs.Sides.{same_side}
+use Rattle.ring_world.proofs.Settlements.{another_next, none_left, passed_all, passed_over, same_next, side_itself, sides_differ, taken_elsewhere, taken_next, taken_other}
 use Rattle.ring_world.proofs.settlement.has_taken.Goals as goal
-use Rattle.ring_world.proofs.settlement.has_taken.Goals.{then-has+in-Some-next_of+else-ne, else-has}
+use Rattle.ring_world.proofs.settlement.has_taken.Goals.{then-eq+then-has+in-Some+else-not-same_packet, else-eq, else-eq-via-then-eq+else-has, else-eq-via-else-eq}
 
-pub returns-in_default-next_of : goal.returns-in_default-next_of
-returns-in_default-next_of g c =
-    let taken = taken_of c.args.node.now c.args.side in
-    let some = of_sort_here c.args.sort taken c.loop-place.place c.in-Some.packet (sym c.in-Some.ensures) (sym c.if-has.ensures) in
-    one_left _ _ _ c.loop-place.invariant c.in-Some.packet _ some (rw c.other.ensures at c.in_default-next_of.ensures.next)
+pub returns-then-not-same_packet : goal.returns-then-not-same_packet
+returns-then-not-same_packet g c =
+    let js = c.receipts-receipts.result.now in
+    let k = c.loop-receipt.receipt-index in
+    let r = c.receipt-item.result in
+    let there : slice_get js k ≡ Some r = slice_get_read js _ k r refl c.loop-receipt-test.true c.receipt-item.is in
+    let is : r.0 ≡ c.args.side = search rules in
+    let here = ap (same_side c.args.side) is ∙ side_itself c.args.side in
+    let some = taken_next c.args.sort c.args.side js k r there here (sym c.if-has.ensures) in
+    let differ = λ (same : c.in-Some.sent ≡ r.1). let equal = c.if-not-same_packet.ensures.1 same in let never : ⊥ = cc in never in
+    another_next _ _ _ c.loop-receipt.invariant r.1 c.in-Some.sent _ _ some (rw c.other.ensures at c.in-Some.ensures.next) differ
 
-pub returns-then-ne : goal.returns-then-ne
-returns-then-ne g c =
-    let taken = taken_of c.args.node.now c.args.side in
-    let some = of_sort_here c.args.sort taken c.loop-place.place c.in-Some.packet (sym c.in-Some.ensures) (sym c.if-has.ensures) in
-    let differ : c.in-Some-next_of.sent ≡ c.in-Some.packet → ⊥ = search rules in
-    another_next _ _ _ c.loop-place.invariant c.in-Some.packet c.in-Some-next_of.sent _ _ some (rw c.other.ensures at c.in-Some-next_of.ensures.next) differ
-
-pub loop-place-preserved : goal.loop-place-preserved
-loop-place-preserved g c =
-    let taken = taken_of c.args.node.now c.args.side in
-    elim c.if-has.branch [
-      | then-has+in-Some-next_of+else-ne w ↦
-          let some = of_sort_here c.args.sort taken c.loop-place.place c.in-Some.packet (sym c.in-Some.ensures) (sym w.if-has.ensures) in
-          let same : w.in-Some-next_of.sent ≡ c.in-Some.packet = search rules in
+pub loop-receipt-preserved : goal.loop-receipt-preserved
+loop-receipt-preserved g c =
+    let js = c.receipts-receipts.result.now in
+    let k = c.loop-receipt.receipt-index in
+    let r = c.receipt-item.result in
+    let there : slice_get js k ≡ Some r = slice_get_read js _ k r refl c.loop-receipt-test.true c.receipt-item.is in
+    elim c.if-eq.branch [
+      | then-eq+then-has+in-Some+else-not-same_packet w ↦
+          let is : r.0 ≡ c.args.side = search rules in
+          let here = ap (same_side c.args.side) is ∙ side_itself c.args.side in
+          let some = taken_next c.args.sort c.args.side js k r there here (sym w.if-has.ensures) in
+          let same = w.if-not-same_packet.ensures.0 refl in
+          rw w.next-is (same_next _ _ _ c.loop-receipt.invariant r.1 w.in-Some.sent _ _ some (rw w.other.ensures at w.in-Some.ensures.next) same)
+      | else-eq w ↦
           rw w.next-is
-          (same_next _ _ _ c.loop-place.invariant c.in-Some.packet w.in-Some-next_of.sent _ _ some (rw w.other.ensures at w.in-Some-next_of.ensures.next) same)
-      | else-has w ↦
-          rw w.next-is
-          (passed_over _ _ _ c.loop-place.invariant _ (of_sort_past c.args.sort taken c.loop-place.place c.in-Some.packet (sym c.in-Some.ensures) (sym w.if-has.ensures)))
+          (elim w.else-eq.branch [
+            | else-eq-via-then-eq+else-has w' ↦
+                let is : r.0 ≡ c.args.side = search rules in
+                let here = ap (same_side c.args.side) is ∙ side_itself c.args.side in
+                passed_over _ _ _ c.loop-receipt.invariant _ (taken_other c.args.sort c.args.side js k r there here (sym w'.if-has.ensures))
+            | else-eq-via-else-eq w' ↦
+                let differ : r.0 ≡ c.args.side → ⊥ = search rules in
+                passed_over _ _ _ c.loop-receipt.invariant _ (taken_elsewhere c.args.sort c.args.side js k r there (sides_differ c.args.side r.0 differ))
+          ])
     ]
+
+pub returns : goal.returns
+returns g c =
+    let js = c.receipts-receipts.result.now in
+    let all = passed_all c.args.sort c.args.side js c.loop-receipt.receipt-index c.loop-receipt-test.false in
+    none_left _ c.args.sort _ c.loop-receipt.next c.next_of-2.result c.is_none.result (rw all at c.loop-receipt.invariant) (rw c.other-2.ensures at c.next_of-2.ensures.next) c.is_none.ensures

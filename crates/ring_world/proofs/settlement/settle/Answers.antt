@@ -1,32 +1,25 @@
--- All positions are settled, and so every node of the charter knows.
-use Rattle.std.proofs.Common.{refl, arith, inl, inr}
-use Rattle.ring_world.proofs.Links.{same_or_not}
-use Rattle.ring_world.proofs.Settlements.{settled_knows}
+-- All positions are settled, and so every node of the charter knows; a shared position never is.
+use Rattle.std.proofs.Common.{refl}
+use Rattle.ring_world.proofs.Settlements.{settled_knows, settled_reports, shared_unsettled}
 use Rattle.ring_world.proofs.settlement.settle.Goals as goal
 
-pub loop-position-preserved : goal.loop-position-preserved
-loop-position-preserved g c = record {
-  settled = λ i below.
-      elim (same_or_not i c.loop-position.position) [
-        | inl here ↦ rw here (c.if-not-is_settled_at.ensures.settled.0 refl)
-        | inr differ ↦ c.loop-position.invariant.settled i (omega arith)
-      ];
-  faithful = λ some. c.if-not-is_settled_at.ensures.faithful refl;
-}
-
-pub returns-clause-settled : goal.returns-clause-settled
-returns-clause-settled g c =
-    let size = rw c.roster.ensures at c.len-position-end.ensures.value in
-    (λ answer. record { each = λ i below. c.loop-position.invariant.settled i (omega arith) }, λ settled. refl)
-
-pub returns-clause-knows : goal.returns-clause-knows
-returns-clause-knows g c = λ answer.
+pub returns-in-Some-clause-knows : goal.returns-in-Some-clause-knows
+returns-in-Some-clause-knows g c = λ answer.
     let charter = c.args.charter.now in
-    let size = rw c.roster.ensures at c.len-position-end.ensures.value in
-    let is_ring = rw c.roster.ensures at c.len-position-end.ensures.ring in
     settled_knows g.E.RingElection.table g.E.RingElection.fits g.E.RingElection.winner charter c.args.nodes.now
     (g.met.E.RingElection.deciding charter.algorithm)
     (g.met.E.RingElection.lawful charter.algorithm).start_undecided
-    is_ring
-    (c.loop-position.invariant.faithful (let some = is_ring.some in omega arith))
-    ((returns-clause-settled g c).0 answer)
+    c.if-are_settled.ensures.ring
+    c.in-Some.ensures.faithful
+    (c.if-are_settled.ensures.settled.0 refl)
+
+pub returns-in-Some-clause-reports : goal.returns-in-Some-clause-reports
+returns-in-Some-clause-reports g c = λ answer.
+    settled_reports g.E.RingElection.table g.E.RingElection.fits g.E.RingElection.winner c.args.charter.now c.args.nodes.now
+    (c.if-are_settled.ensures.settled.0 refl)
+    (returns-in-Some-clause-knows g c answer)
+
+pub returns-in_default-2-clause-settled : goal.returns-in_default-2-clause-settled
+returns-in_default-2-clause-settled g c =
+    let shared = rw c.in_default.is at c.of.ensures.places in
+    (λ never. cc, λ settled. absurd (shared_unsettled g.E.RingElection.table c.args.charter.now c.args.nodes.now shared settled))

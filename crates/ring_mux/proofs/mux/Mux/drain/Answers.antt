@@ -77,3 +77,14 @@ returns-clause-bounded g c =
     (leaves_nothing g.E.RingElection.table c.args.group g.E.RingElection.fits g.E.RingElection.winner g.E.RingElection.bound g.met.E.RingElection.bounded g.E.RingElection.is_greatest c.args.count
     c.carry_many-done.result.0 c.pending.result c.carry_many-done.result.1 _ _ c.self.invariant.held.sound made.1.sound made.0
     (λ w at. c.pending.ensures.value ∙ ap (pending_of g.E.RingElection.table) (same_found _ _ _ found at)))
+
+pub returns-clause-informed : goal.returns-clause-informed
+returns-clause-informed g c = (invariant_of-self-2 g c).held.held
+
+pub returns-in-Err-clause-informed : goal.returns-in-Err-clause-informed
+returns-in-Err-clause-informed g c = rw (← c.self.view_is) c.self.invariant.held.held
+
+pub returns-in_default-clause-informed : goal.returns-in_default-clause-informed
+returns-in_default-clause-informed g c =
+    let at = rw (← c.self.view_is) at c.in-Ok.ensures.1 in
+    absurd (slot_filled g.E.RingElection.table c.self.inside.book c.self.inside.worlds.items c.self.invariant.held.held c.args.group c.in-Ok.place at.0 at.1 c.index_mut.result.now c.index_mut.ensures.value c.in_default.is)

@@ -13,10 +13,14 @@ returns-in_default-clause-quiet g c =
     (quiet_is_known g.E.RingElection.table g.E.RingElection.fits g.E.RingElection.winner g.met.E.RingElection.deciding (λ a. (g.met.E.RingElection.lawful a).start_undecided) c.self.inside.book
     (placed (names c.self.inside.book) c.self.inside.worlds.items) c.self.invariant.held)
 
+pub returns-in_default-clause-informed : goal.returns-in_default-clause-informed
+returns-in_default-clause-informed g c = rw (← c.self.view_is) c.self.invariant.held.held
+
 pub loop-event-init : goal.loop-event-init
 loop-event-init g c = record {
   run = rw c.in-Ok.ensures.items refl;
   worlds = rw c.in-Ok.ensures.items refl;
+  informed = rw (← c.self.view_is) c.self.invariant.held.held;
   quiet =
       rw (← c.self.view_is)
       (quiet_is_known g.E.RingElection.table g.E.RingElection.fits g.E.RingElection.winner g.met.E.RingElection.deciding (λ a. (g.met.E.RingElection.lawful a).start_undecided) c.self.inside.book
@@ -33,6 +37,7 @@ loop-event-preserved g c = record {
   worlds =
       rw (take_more c.args.events.now c.loop-event.event-index c.event-item.result c.loop-event-test.true, ← c.event-item.is, c.push_reserved.ensures.items)
       (RunOfWorlds-push g.E.RingElection.table g.E.RingElection.is_two_way g.E.RingElection.is_greatest _ _ _ _ _ _ _ c.loop-event.invariant.worlds (c.step-reply.ensures.object, c.step-reply.ensures.worlds));
+  informed = c.step-reply.ensures.informed;
   quiet = c.step-reply.ensures.quiet;
   count = search rules;
   room = search rules;

@@ -9,3 +9,6 @@ returns-clause-quiet g c =
     rw (← c.self-2.view_is)
     (quiet_is_known g.E.RingElection.table g.E.RingElection.fits g.E.RingElection.winner g.met.E.RingElection.deciding (λ a. (g.met.E.RingElection.lawful a).start_undecided) c.self-2.inside.book
     (placed (names c.self-2.inside.book) c.self-2.inside.worlds.items) c.self-2.invariant.held)
+
+pub returns-clause-informed : goal.returns-clause-informed
+returns-clause-informed g c = rw (← c.self-2.view_is) c.self-2.invariant.held.held

@@ -3,7 +3,7 @@ use Rattle.std.proofs.Common.{◌≡◌, take, ap, ◌∙◌, arith}
 use Rattle.std.proofs.lemmas.List.{take_all}
 use Rattle.ring_world.specs.Worlds.{node_at, receipts_in}
 use Rattle.ring_world.proofs.Links.{length-both_sides, receipts_in-take}
-use Rattle.ring_world.proofs.Work.{work_bounded}
+use Rattle.ring_world.proofs.Work.{announcements_bounded, work_bounded}
 use Rattle.ring_world.proofs.world.World.delivered.Goals as goal
 
 pub loop-position-preserved : goal.loop-position-preserved
@@ -32,3 +32,8 @@ returns-clause-bounded g c =
     rw (returns-clause-value g c)
     (work_bounded g.E.RingElection.table g.E.RingElection.fits g.E.RingElection.winner world size.sound g.E.RingElection.bound
     (g.met.E.RingElection.bounded world.charter.algorithm))
+
+pub returns-clause-announced : goal.returns-clause-announced
+returns-clause-announced g c =
+    let size = rw c.self.view_is at c.size-position-end.ensures in
+    announcements_bounded g.E.RingElection.table g.E.RingElection.fits g.E.RingElection.winner c.args.self.now size.sound
