@@ -1,4 +1,5 @@
 pub mod Chartering
+pub mod Finishing
 pub mod Following
 pub mod Outcomes
 pub mod Replying

@@ -1,17 +1,21 @@
-ghost use Rattle.std.specs.Prelude.{◌≡◌, ◌↔◌, [], map, replicate, IfOk, IsTrue, None};
+ghost use Rattle.std.specs.Prelude.{◌≡◌, ◌↔◌, [], map, replicate, IfOk, IsTrue, None, OnErr, OnOk, Some};
 ghost use Rattle.ring_mux.specs.declared.event.Command.TheVariants as command;
-ghost use Rattle.ring_terms.specs.Charters.{next_charter};
+ghost use Rattle.ring_node.specs.Nodes.{report_of};
+ghost use Rattle.ring_node.specs.declared.charter.Charter.{Charter};
+ghost use Rattle.ring_world.specs.Settlements.{EachReports};
+ghost use Rattle.ring_terms.specs.Charters.{next_charter, running_in};
 ghost use Rattle.ring_terms.specs.Commands.{in_group, start_refusal};
 ghost use Rattle.ring_terms.specs.Object.{OfGroup};
+ghost use Rattle.ring_service.specs.Finishing.{AllInformed, Finishes, FilesOne};
 ghost use Rattle.ring_service.specs.Histories.{IsLegal, starved};
 ghost use Rattle.ring_service.specs.Tables.{Calls, Files, GivesCharters};
 
-use crate::entry::{Entry, filed_from};
+use crate::entry::{Entry, filed_from, is_refused};
 use crate::twice::perform;
 use ring_election::RingElection;
 use ring_id::{GroupName, NoMemory, Refusal};
 use ring_mux::{Command, Reply};
-use ring_node::{Charter, Report};
+use ring_node::{Charter, Node, Report};
 use ring_terms::Book;
 use ring_workers::Filed;
 use std::alloc::Global;
@@ -148,6 +152,40 @@ impl<E: RingElection> Table<E> {
             noting,
         });
         filed_from(noting)
+    }
+
+    /// Files the reports of nodes that come back from elsewhere: of each node that knows the leader of its
+    /// term, in order.
+    ///
+    /// Where the reports of the nodes of a running term tell of each member of its ring, as `settle` says of
+    /// nodes that are settled, each member of that term is informed afterwards. Refused for want of memory
+    /// alone: then the reports before that one are filed.
+    pub fn finish(&mut self, nodes: &[Node<E>]) -> Result<(), NoMemory>
+        ensures files { Finishes E.table E.is_greatest nodes.now self.old result self.new }
+        ensures informed { OnOk result ((charter : Charter E) → EachReports E.table E.winner charter nodes.now →
+            running_in charter.group self.old.book ≡ Some charter → AllInformed charter (E.winner charter.algorithm charter.roster) self.new.book) }
+    {
+        for node in nodes {
+            self.finish_one(node)?;
+        }
+        Ok(())
+    }
+
+    // Files what a node knows.
+    fn finish_one(&mut self, node: &Node<E>) -> Result<(), NoMemory>
+        ensures ok { OnOk result (FilesOne E.is_greatest (report_of E.table node.now) self.old self.new) }
+        ensures err { OnErr result (self.new ≡ self.old) }
+    {
+        let Ok(copy) = Arc::try_clone(node.charter()) else {
+            return Err(NoMemory);
+        };
+        let Some(report) = node.report(copy) else {
+            return Ok(());
+        };
+        if is_refused(&self.report(&report)) {
+            return Err(NoMemory);
+        }
+        Ok(())
     }
 }
 
