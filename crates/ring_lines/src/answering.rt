@@ -60,7 +60,7 @@ pub fn answer_lines<A: Answerer, R: Intake, W: Outlet>(
 ) -> Result<u64, LineFault>
     requires { A.holds answerer.now state.old }
     ensures kept { A.holds answerer.now state.new }
-    ensures lines { AnswersLines R.read_gives W.write_gives (A.answers answerer.now) A.Answer.spelling reader.old writer.old state.old reads result reader.new writer.new state.new }
+    ensures lines { AnswersLines R.read_gives W.write_gives (A.answers answerer.now) A.Answer.spelling A.Answer.is_legal reader.old writer.old state.old reads result reader.new writer.new state.new }
 {
     let Ok(mut lines) = LineBuffer::new(alloc, reads) else {
         return Err(LineFault::NoMemory);
