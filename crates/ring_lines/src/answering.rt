@@ -46,10 +46,10 @@ pub trait Answerer {
 /// Answers each line of the reader by the spelling of one answer to the writer, in order.
 ///
 /// Before each read call exactly the answers to the lines that were read whole are written, and each
-/// line gets its answer in the state that the lines before it left. `Ok` is the number
-/// of lines, and comes at the end of the input alone. At `Read` and at `Endless` the lines that an LF
-/// ends are answered; at `Write` a front of the answers was written; at `NoMemory` nothing was read
-/// or answered. Makes at most `reads` read calls.
+/// line gets its answer in the state that the lines before it left. `Ok` is the number of lines, and
+/// comes at the end of the input alone. At `Read` and at `Endless` the lines that an LF ends are
+/// answered; at `Write` a front of the answers was written; at `NoMemory` nothing was read or answered.
+/// Unless writing failed, each answer is legal. Makes at most `reads` read calls.
 pub fn answer_lines<A: Answerer, R: Intake, W: Outlet>(
     alloc: Global,
     answerer: &A,
@@ -60,7 +60,7 @@ pub fn answer_lines<A: Answerer, R: Intake, W: Outlet>(
 ) -> Result<u64, LineFault>
     requires { A.holds answerer.now state.old }
     ensures kept { A.holds answerer.now state.new }
-    ensures lines { AnswersLines R.read_gives W.write_gives (A.answers answerer.now) A.Answer.spelling reader.old writer.old state.old reads result reader.new writer.new state.new }
+    ensures lines { AnswersLines R.read_gives W.write_gives (A.answers answerer.now) A.Answer.spelling A.Answer.is_legal reader.old writer.old state.old reads result reader.new writer.new state.new }
 {
     let Ok(mut lines) = LineBuffer::new(alloc, reads) else {
         return Err(LineFault::NoMemory);

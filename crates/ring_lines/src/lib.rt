@@ -4,7 +4,9 @@
 //! call with its answer, so they can speak of the bytes, of how many calls were made and of which
 //! one failed. A `LineReader` gives the lines of what it reads, in order: a text is cut after each
 //! LF, and a rest that is not empty is a line. It stops for good at the end of the input, at a
-//! failed read, and when the read calls that it was granted are used up.
+//! failed read, and when the read calls that it was granted are used up. `answer_lines` answers each
+//! line by what an `Answerer` says to it, and writes the answers before it reads on; `replay` does so
+//! with a mux.
 #![tactic(auto)]
 
 mod answering;

@@ -43,7 +43,8 @@ impl Answerer for Replayer {
 /// worlds, and any other line by `no bad-line`. Before each read call exactly the replies to the lines
 /// that were read whole are written. `Ok` is the number of lines, and comes at the end of the input
 /// alone. At `Read` and at `Endless` the lines that an LF ends are answered; at `Write` a front of the
-/// replies was written; at `NoMemory` nothing was read. Makes at most `reads` read calls.
+/// replies was written; at `NoMemory` nothing was read. Unless writing failed, each reply is one of the
+/// grammar, so no two of them share a line. Makes at most `reads` read calls.
 pub fn replay<R: Intake, W: Outlet>(
     alloc: Global,
     reader: &mut R,

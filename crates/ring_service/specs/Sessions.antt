@@ -9,7 +9,7 @@ use Rattle.ring_mux.specs.declared.event.Command.{Command}
 use Rattle.ring_mux.specs.declared.event.Event.TheVariants.{Client}
 use Rattle.ring_mux.specs.declared.reply.Reply.{Reply}
 use Rattle.ring_mux.specs.declared.reply.Reply.TheVariants.{Refused}
-use Rattle.ring_grammar.specs.Spelling.{Spells, reply_line}
+use Rattle.ring_grammar.specs.Spelling.{IsReply as IsLegalReply, Spells, reply_line}
 use Rattle.ring_lines.specs.Ends.{Reading, Writing}
 use Rattle.ring_lines.specs.Rounds.{AnswersLines}
 use Rattle.ring_lines.specs.declared.answers.LineFault.{LineFault}
@@ -53,4 +53,4 @@ AnswersIn session line mine answer now = (gained : List (Entry Any)) × RepliesT
 -- A session: its lines are answered by rounds, each from where the lines before it left its seat.
 abbrev pub Serves : {S V T : Type 0} → (S → Reading → S → Type 0) → (V → Writing → V → Type 0) → (T → List (Entry Any)) → ℕ → T → S → V → ℕ → Result ℕ LineFault → T → S → V → Type 0
 Serves reading writing mine session seat reader writer reads result seat_now reader_now writer_now =
-    AnswersLines reading writing (λ line old answer new. AnswersIn session line (mine old) answer (mine new)) reply_line reader writer seat reads result reader_now writer_now seat_now
+    AnswersLines reading writing (λ line old answer new. AnswersIn session line (mine old) answer (mine new)) reply_line IsLegalReply reader writer seat reads result reader_now writer_now seat_now
