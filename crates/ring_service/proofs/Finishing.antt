@@ -55,10 +55,10 @@ kept_in name other Does Says old new keeps inside of =
             says = keeps inside.before inside.after inside.does (subst Says (sym one) of.says);
           }
       | inr differ ↦ record {
-          group = of.group;
-          found = at ∙ ap (λ b. cond b (Some inside.after) (find other old)) differ ∙ of.found;
-          says = of.says;
-        }
+        group = of.group;
+        found = at ∙ ap (λ b. cond b (Some inside.after) (find other old)) differ ∙ of.found;
+        says = of.says;
+      }
     ]
 
 module _ {E : Type 0} (greatest : Bool) (node leader : ℕ) (before after : GroupView E) (informs : Informs greatest node leader before after) where

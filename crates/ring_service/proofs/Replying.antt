@@ -27,14 +27,17 @@ begins_answers session group copies mine (Unplaced refusal) charters now b = (b.
 -- a line that spells a command is answered by what the access answers to it
 pub answers_line : (session : ℕ) (line : List ℕ) (command : Command Any) (mine : List (Entry Any)) (answer : Answer) (now : List (Entry Any)) →
     Spells line (Client command) → Answers any_two_way any_greatest session command mine answer now → AnswersIn session line mine (reply_of answer) now
-answers_line session line command mine (Placed reply place) now spelled a =
-    (Call session command reply ∷ [], inl (record {
-      command = command;
-      spelled = spelled;
-      step = a.0;
-      good = λ bad. step_not any_two_way any_greatest a.0.old a.0.new command (rw bad at a.0.call.step);
-      entry = refl;
-    }), a.1)
+answers_line session line command mine (Placed reply place) now spelled a = (
+  Call session command reply ∷ [],
+  inl (record {
+    command = command;
+    spelled = spelled;
+    step = a.0;
+    good = λ bad. step_not any_two_way any_greatest a.0.old a.0.new command (rw bad at a.0.call.step);
+    entry = refl;
+  }),
+  a.1,
+)
 answers_line session line command mine (Unplaced refusal) now spelled a =
     ([], inr (inl (record { command = command; spelled = spelled; refusal = refusal; refused = refl; because = a.0; none = refl })), a.1 ∙ sym (append-nil mine))
 

@@ -42,10 +42,7 @@ impl Crew {
         A: Access<Any> + Send + Sync + Drop + 'static,
         G: Gate + Send + Sync + Drop + 'static,
         R: Threads + Wait + Clock + Copy + Send + Drop + 'static,
-    >(
-        &mut self,
-        kit: Kit<A, G, R>,
-    ) -> Result<(), StartFault>
+    >(&mut self, kit: Kit<A, G, R>) -> Result<(), StartFault>
     where
         A::Seat: Send + 'static,
         requires threads { vec_len self.old.threads < vec_capacity self.old.threads }
@@ -87,7 +84,14 @@ pub(crate) struct Kit<A: Access<Any> + Drop, G: Drop, R: Drop> {
 impl<A: Access<Any> + Drop, G: Gate + Drop, R: Wait + Clock + Drop> Kit<A, G, R> {
     // Runs the worker to its end, and lets its passes go.
     fn run(self) -> Handed<Any> {
-        let Kit { rt, worker, receiver, senders, gate, desk } = self;
+        let Kit {
+            rt,
+            worker,
+            receiver,
+            senders,
+            gate,
+            desk,
+        } = self;
         let (mut receiver, mut senders) = (receiver, senders);
         run_worker(&rt, worker, &mut receiver, &mut senders, &*gate, desk)
     }

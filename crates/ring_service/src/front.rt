@@ -116,13 +116,7 @@ impl<A: Access<Any> + Drop> Front<A> {
     // A start, of which each worker is told. The room for that is found before the command, and no other
     // session tells the workers anything until it is done.
     #[tactic(auto, using(crate::proofs::Replying::begins_answers))]
-    fn begin<R: Wait>(
-        &self,
-        rt: &R,
-        seat: &mut A::Seat,
-        session: u32,
-        group: GroupName,
-    ) -> Answer
+    fn begin<R: Wait>(&self, rt: &R, seat: &mut A::Seat, session: u32, group: GroupName) -> Answer
         requires { A.has_seat self.now seat.old }
         ensures seat { A.has_seat self.now seat.new }
         ensures entry { Answers any_two_way any_greatest session (command.Start group) (A.mine seat.old) result (A.mine seat.new) }
@@ -132,9 +126,7 @@ impl<A: Access<Any> + Drop> Front<A> {
         let Ok(()) = posts.find_room() else {
             return Answer::Unplaced(Refusal::NoMemory);
         };
-        let (answer, charters) = self
-            .access
-            .begin(rt, seat, session, group, posts.workers());
+        let (answer, charters) = self.access.begin(rt, seat, session, group, posts.workers());
         posts.add(charters);
         posts.try_waiting(rt);
         self.waits.store(!posts.is_idle(), Ordering::SeqCst);
@@ -150,3 +142,6 @@ impl<A: Access<Any> + Drop> Front<A> {
         }
     }
 }
+
+#[cfg(test)]
+mod tests;

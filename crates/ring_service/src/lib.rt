@@ -1,9 +1,12 @@
-//! The service: one table with its history, and sessions that are answered from it.
+//! The service: a table with its history, the sessions that are answered from it, and the workers that run
+//! its elections.
 //!
 //! A `Table` is a book of groups and terms, and the list of all that was asked of it. Each call and
 //! each filed report adds one entry, or is refused memory and changes nothing; the history, replayed
-//! from no groups at all, gives the book and every reply. A `Service` has one table under a lock, and
-//! its `Front` serves sessions over any reader and writer, in as many threads as there are sessions.
+//! from no groups at all, gives the book and every reply. By an `Access` many share a table, each through
+//! a seat that knows its own entries; a `LockedTable` is a table under a lock. A `Service` serves sessions
+//! over any access, in as many threads as there are sessions, and tells its workers of each term that a
+//! session starts. These run in threads of their own, and file what their nodes come to know.
 #![tactic(auto)]
 
 mod access;
@@ -23,6 +26,6 @@ pub use entry::{Entry, is_refused};
 pub use front::Front;
 pub use locked::{LockedSeat, LockedTable};
 pub use posts::Waiting;
+pub use ring_workers::Filed;
 pub use service::{Closing, Service, StartFault};
 pub use table::{Table, is_starved};
-pub use ring_workers::Filed;

@@ -72,8 +72,7 @@ impl Posts {
             let Some(charter) = charters.pop() else {
                 return;
             };
-            self.waiting
-                .push_back_reserved(Waiting { worker, charter });
+            self.waiting.push_back_reserved(Waiting { worker, charter });
         }
     }
 
@@ -85,8 +84,7 @@ impl Posts {
                 return;
             };
             if let Some(charter) = put_begin(rt, &mut self.passes[worker], charter) {
-                self.waiting
-                    .push_back_reserved(Waiting { worker, charter });
+                self.waiting.push_back_reserved(Waiting { worker, charter });
             }
         }
     }

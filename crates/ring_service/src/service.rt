@@ -187,3 +187,5 @@ where
     Ok(())
 }
 
+#[cfg(test)]
+mod tests;

@@ -166,7 +166,9 @@ impl<E: RingElection> Table<E> {
             running_in charter.group self.old.book ≡ Some charter → AllInformed charter (E.winner charter.algorithm charter.roster) self.new.book) }
     {
         for node in nodes {
-            self.finish_one(node)?;
+            let Ok(()) = self.finish_one(node) else {
+                return Err(NoMemory);
+            };
         }
         Ok(())
     }

@@ -1,9 +1,11 @@
 use super::Table;
+use crate::entry::Entry;
 use ring_any::Any;
 use ring_id::{GroupName, NoMemory, Refusal};
 use ring_lines::{parse_command, print_reply};
 use ring_mux::Reply;
 use ring_node::Report;
+use ring_terms::Noting;
 use ring_workers::Filed;
 use ring_world::{Delivery, World};
 use std::alloc::Global;
@@ -83,5 +85,47 @@ fn a_start_hands_out_charters(rt: HostRuntime) -> Result<(), Fail> {
     }
     assert!(rt; matches!(&reply, Reply::Term(_)));
     assert_eq!(rt; charters.len(), 2);
+    Ok(())
+}
+
+// Delivers all that is in flight, each delivery once more where memory was refused.
+fn run_to_rest(world: &mut World<Any>) -> Result<(), Fail> {
+    for _ in 0..100 {
+        let Some((position, side)) = world.ready() else {
+            return Ok(());
+        };
+        let _ = world.deliver(position, side);
+    }
+    Err("no rest".into())
+}
+
+#[test]
+fn finish_files_what_the_nodes_know(rt: HostRuntime) -> Result<(), Fail> {
+    let alloc = rt.alloc();
+    let group = GroupName::from_bytes(b"a").map_err(|_| "no name")?;
+    let mut table = Table::new(alloc);
+    expect(alloc, &mut table, 1, b"create a chang", b"ok\n")?;
+    expect(alloc, &mut table, 1, b"join a 7", b"ok\n")?;
+    expect(alloc, &mut table, 1, b"start a", b"term 1\n")?;
+    let charter = Arc::try_clone(table.book().running(group).map_err(|_| "no term")?)?;
+    let mut world = match World::begin(alloc, Arc::try_clone(&charter)?) {
+        Ok(world) => world,
+        Err(NoMemory) => World::begin(alloc, Arc::try_clone(&charter)?).map_err(|_| "no memory")?,
+    };
+    run_to_rest(&mut world)?;
+    if table.finish(world.nodes()) == Err(NoMemory) {
+        assert_eq!(rt; table.finish(world.nodes()), Ok(()));
+    }
+    assert_eq!(rt; table.history().len(), 4);
+    assert!(rt;
+        matches!(
+            table.history().last(),
+            Some(Entry::Filing {
+                noting: Noting::Noted,
+                ..
+            })
+        )
+    );
+    expect(alloc, &mut table, 2, b"who a 7", b"leader 1 7\n")?;
     Ok(())
 }
