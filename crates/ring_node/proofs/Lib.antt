@@ -1,2 +1,4 @@
+pub mod Announcing
+pub mod Gaining
 pub mod Receipts
 pub mod Steps

@@ -1,6 +1,6 @@
 -- What follows from a node's journal, the list of all that it received: each receipt is the side from
 -- which it came and its packet.
-use Rattle.std.specs.Prelude.{◌+◌, ℕ, List, [], ◌∷◌, ◌++◌, Option, Some, None}
+use Rattle.std.specs.Prelude.{◌+◌, ℕ, suc, List, [], ◌∷◌, ◌++◌, Option, Some, None, option_map}
 use Rattle.ring_id.specs.declared.side.Side.{Side}
 use Rattle.ring_id.specs.declared.side.Side.TheVariants.{Left, Right}
 use Rattle.ring_election.specs.Tables.{Table, to_side}
@@ -40,15 +40,21 @@ leader_count [] = 0
 leader_count (Algo m ∷ ps) = leader_count ps
 leader_count (Leader v ∷ ps) = leader_count ps + 1
 
--- the leader that is known after a step, if none was known before it
-abbrev pub news : Option ℕ → Option ℕ → Option ℕ
-news None after = after
-news (Some v) after = None
-
 -- what is known, if it was known, else what comes in
 abbrev pub kept_or : Option ℕ → Option ℕ → Option ℕ
 kept_or None coming = coming
 kept_or (Some v) coming = Some v
+
+-- the place of the last announcement among packets, if there is one
+abbrev pub leader_place : {M : Type 0} → List (Packet M) → Option ℕ
+leader_place [] = None
+leader_place (Algo m ∷ ps) = option_map suc (leader_place ps)
+leader_place (Leader v ∷ ps) = kept_or (option_map suc (leader_place ps)) (Some 0)
+
+-- the leader that is known after a step, if none was known before it
+abbrev pub news : Option ℕ → Option ℕ → Option ℕ
+news None after = after
+news (Some v) after = None
 
 -- the announcement to the right of a leader that is news
 abbrev pub announcement : {M : Type 0} → Side → Option ℕ → List (Packet M)

@@ -1,6 +1,7 @@
 -- Nodes: what a node stands for, and what a call of `take` may answer.
-use Rattle.std.specs.Prelude.{◌≡◌, ◌<◌, ℕ, List, [], ◌∷◌, ◌++◌, length, take, Option, Some, option_map, Result, Ok, Err, slice_get, slice_index}
+use Rattle.std.specs.Prelude.{◌≡◌, ◌<◌, ◌≤◌, ℕ, List, [], ◌∷◌, ◌++◌, length, take, Option, Some, option_map, Result, Ok, Err, slice_get, slice_index}
 use Rattle.ring_id.specs.declared.side.Side.{Side}
+use Rattle.ring_id.specs.declared.side.Side.TheVariants.{Left, Right}
 use Rattle.ring_id.specs.Sides.{other}
 use Rattle.ring_roster.specs.Ring.{IsRing, neighbour}
 use Rattle.ring_election.specs.Families.{AllFit}
@@ -63,6 +64,25 @@ module _ {E S M : Type 0} (t : E → Table S M) where
   envelope_of node side place =
       option_map (λ packet. record { charter = node.charter; from = node.position; side = side; index = index_after (take place (sent_of node side)) packet; packet = packet })
       (slice_get (sent_of node side) place)
+
+-- these packets, with at most so many more behind them
+pub record Extends {M : Type 0} (old : List (Packet M)) (most : ℕ) (new : List (Packet M)) : Type 0 where
+  pub more : List (Packet M)
+  pub behind : new ≡ old ++ more
+  pub few : length more ≤ most
+
+-- What a receipt adds. What the node has sent to a side stays, and behind it comes at most one packet
+-- more to the left, and at most two to the right. What it has taken from the side of the receipt gains
+-- the packet alone, and what it has taken from the other side stays.
+pub record Gains {E S M : Type 0} (t : E → Table S M) (old : Seated E M) (from : Side) (packet : Packet M) (new : Seated E M) : Type 0 where
+  pub left : Extends (sent_of t old Left) 1 (sent_of t new Left)
+  pub right : Extends (sent_of t old Right) 2 (sent_of t new Right)
+  pub taken : taken_of new from ≡ taken_of old from ++ packet ∷ []
+  pub stays : taken_of new (other from) ≡ taken_of old (other from)
+
+-- a node has sent at most one packet to each side
+pub record HasSentFew {E S M : Type 0} (t : E → Table S M) (node : Seated E M) : Type 0 where
+  pub each : (side : Side) → length (sent_of t node side) ≤ 1
 
 -- all that a node took fits its ring, and the leader that it knows is the ring's winner
 pub record IsFaithful {E S M : Type 0} (t : E → Table S M) (fits : E → List ℕ → ℕ → Side → ℕ → M → Type 0) (winner : E → List ℕ → ℕ) (node : Seated E M) : Type 0 where

@@ -3,8 +3,7 @@ ghost use Rattle.ring_id.specs.Sides.{other};
 ghost use Rattle.ring_roster.specs.Ring.{neighbour};
 ghost use Rattle.ring_node.specs.Envelopes.{AllSendable, IsProper, IsSendable, index_after};
 ghost use Rattle.ring_election.specs.Traces.{taken_from};
-ghost use Rattle.ring_node.specs.Journals.{algo_count};
-ghost use Rattle.ring_node.specs.Nodes.{IsFaithful, IsFault, IsForNode, IsNext, Takes, envelope_of, known_of, member_of, news_of, next_index, receiving, report_of, sent_of, taken_of};
+ghost use Rattle.ring_node.specs.Nodes.{Gains, HasSentFew, IsFaithful, IsFault, IsForNode, IsNext, Takes, envelope_of, known_of, member_of, news_of, next_index, receiving, report_of, sent_of, taken_of};
 ghost use Rattle.ring_node.specs.Reports.{IsTruthful};
 
 use crate::charter::Charter;
@@ -60,6 +59,7 @@ impl<E: RingElection> Node<E> {
         requires { position < length charter.value.roster }
         ensures node { IfOk result (λ node. node ≡ record { charter = charter.value; position = position; journal = [] }) }
         ensures faithful { IfOk result (IsFaithful E.table E.fits E.winner) }
+        ensures few { IfOk result (HasSentFew E.table) }
     {
         let me = charter.roster().at(position).unwrap();
         let (state, sends) = charter.algorithm().start(alloc, me);
@@ -130,6 +130,13 @@ impl<E: RingElection> Node<E> {
         nth_from(&self.journal, side, place)
     }
 
+    /// All that it has received, in order: the side from which each packet came, and the packet.
+    pub fn receipts(&self) -> &[(Side, Packet<E::Msg>)]
+        ensures { result.now ≡ self.now.journal }
+    {
+        &self.journal
+    }
+
     /// The envelope of the packet that it sent to a side at this place; none past the last. `copy` is
     /// an owner of this node's charter, since making one can be refused.
     pub fn envelope(&self, copy: Arc<Charter<E>>, side: Side, place: usize) -> Option<Envelope<E>>
@@ -138,7 +145,7 @@ impl<E: RingElection> Node<E> {
     {
         let packet = self.packet(side, place)?;
         let index = match packet {
-            Packet::Algo(_) => count_algos(&self.port(side).sent[..place]),
+            Packet::Algo(_) => self.port(side).algos_before(place),
             Packet::Leader(_) => 0,
         };
         Some(Envelope::new(copy, self.position, side, index, packet))
@@ -155,13 +162,16 @@ impl<E: RingElection> Node<E> {
     }
 
     /// Takes an envelope. The answer is this node's report, which is there exactly where this receipt
-    /// is the first by which the node knows the leader. Faults, the first that holds: `Stranger`,
-    /// `Repeat`, `Gap`, `NoMemory`; a fault gives the envelope back and leaves the node unchanged.
+    /// is the first by which the node knows the leader. What it has sent stays, and behind it come at
+    /// most one packet more to the left and two to the right. Faults, the first that holds:
+    /// `Stranger`, `Repeat`, `Gap`, `NoMemory`; a fault gives the envelope back and leaves the node
+    /// unchanged.
     pub fn take(
         &mut self,
         envelope: Envelope<E>,
     ) -> Result<Option<Report<E>>, (TakeFault, Envelope<E>)>
-        ensures { Takes E.table self.old envelope result self.new }
+        ensures takes { Takes E.table self.old envelope result self.new }
+        ensures gains { OnOk result (Gains E.table self.old (other envelope.side) envelope.packet self.new) }
     {
         if let Some(fault) = self.fault_of(&envelope) {
             return Err((fault, envelope));
@@ -179,6 +189,7 @@ impl<E: RingElection> Node<E> {
     pub fn accept(&mut self, from: Side, packet: Packet<E::Msg>) -> Result<Option<NodeId>, NoMemory>
         requires { IsProper (E.fits self.old.charter.algorithm) (E.winner self.old.charter.algorithm) self.old.charter.roster (neighbour (length self.old.charter.roster) self.old.position from) (other from) (next_index self.old from packet) packet }
         ensures journal { OnOk result (self.new ≡ receiving self.old from packet) }
+        ensures gains { OnOk result (Gains E.table self.old from packet self.new) }
         ensures news { IfOk result (λ leader. leader ≡ news_of E.table self.old self.new) }
         ensures truthful { IfOk result (λ leader. IfSome leader (IsTruthful (E.winner self.old.charter.algorithm) self.old.charter.roster (member_of self.old))) }
         ensures faithful { OnOk result (IsFaithful E.table E.fits E.winner self.new) }
@@ -251,18 +262,4 @@ fn nth_from<M: Copy>(journal: &[(Side, Packet<M>)], side: Side, place: usize) ->
         }
     }
     None
-}
-
-/// How many of these packets are messages of the algorithm.
-fn count_algos<M: Copy>(packets: &[Packet<M>]) -> usize
-    ensures { result ≡ algo_count packets.now }
-{
-    let mut count = 0;
-    for packet in packets {
-        match packet {
-            Packet::Algo(_) => count += 1,
-            Packet::Leader(_) => {}
-        }
-    }
-    count
 }

@@ -1,6 +1,6 @@
-ghost use Rattle.std.specs.Prelude.{◌≡◌, ◌+◌, ◌^◌, ◌<◌, ◌≤◌, ◌++◌, ◌∷◌, [], slice_get, vec_capacity, vec_len, IfOk, IfSome, OnOk, true};
+ghost use Rattle.std.specs.Prelude.{◌≡◌, ◌+◌, ◌^◌, ◌<◌, ◌≤◌, ◌++◌, ◌∷◌, [], slice_get, take, vec_capacity, vec_len, IfOk, IfSome, OnOk, true};
 ghost use Rattle.ring_election.specs.Traces.{taken_from};
-ghost use Rattle.ring_node.specs.Journals.{algo_count, leader_count};
+ghost use Rattle.ring_node.specs.Journals.{algo_count, leader_count, leader_place};
 ghost use Rattle.ring_node.specs.Ports.{all_algos, all_leaders};
 
 use crate::packet::Packet;
@@ -8,12 +8,15 @@ use crate::room::find_room;
 use ring_id::{NoMemory, NodeId};
 use std::alloc::Global;
 
-/// One side of a node: what it sent there, and how many packets of each sort it took from there.
+/// One side of a node: what it sent there, where among that its announcement stands, and how many
+/// packets of each sort it took from there.
 #[derive(Drop)]
 pub struct Port<M> {
     pub sent: Vec<Packet<M>>,
+    pub announced: Option<usize>,
     pub algos: usize,
     pub leaders: usize,
+    ghost announced_is: { announced ≡ leader_place sent.items },
 }
 
 impl<M: Copy> Port<M> {
@@ -25,6 +28,7 @@ impl<M: Copy> Port<M> {
     {
         let mut port = Port {
             sent: Vec::new(alloc),
+            announced: None,
             algos: 0,
             leaders: 0,
         };
@@ -71,6 +75,7 @@ impl<M: Copy> Port<M> {
         ensures leaders { self.new.leaders ≡ self.old.leaders }
     {
         if let Some(leader) = leader {
+            self.announced = Some(self.sent.len());
             self.sent.push_reserved(Packet::Leader(*leader));
         }
     }
@@ -80,6 +85,19 @@ impl<M: Copy> Port<M> {
         ensures { result ≡ slice_get self.now.sent.items place }
     {
         self.sent.get(place).copied()
+    }
+
+    /// How many messages of the algorithm were sent here before this place, of packets among which is
+    /// at most one announcement.
+    pub fn algos_before(&self, place: usize) -> usize
+        requires within { place ≤ vec_len self.now.sent }
+        requires once { leader_count self.now.sent.items ≤ 1 }
+        ensures { result ≡ algo_count (take place self.now.sent.items) }
+    {
+        match self.announced {
+            Some(announced) if announced < place => place - 1,
+            _ => place,
+        }
     }
 
     /// Counts a packet that was taken here.

@@ -7,6 +7,7 @@ use Rattle.ring_election.specs.Traces.{taken_from}
 use Rattle.ring_node.specs.declared.packet.Packet.{Packet}
 use Rattle.ring_node.specs.Journals.{algo_count, kept_or, leader_count, news}
 use Rattle.ring_node.specs.Ports.{all_leaders}
+use Rattle.ring_node.proofs.Gaining.{receiving_gains}
 use Rattle.ring_node.proofs.Receipts.{counts-length, length-taken_from}
 use Rattle.ring_node.proofs.Steps.{news_is_winner, news_next, nothing_left, port_after, seated_after, truthful_news}
 use Rattle.ring_node.proofs.node.Node.accept.Goals as goal
@@ -63,6 +64,9 @@ invariant_of-self-2 g c =
 
 pub returns-clause-journal : goal.returns-clause-journal
 returns-clause-journal g c = rw (← c.self.view_is, c.push_reserved.ensures.items, c.find_room.ensures.items) refl
+
+pub returns-clause-gains : goal.returns-clause-gains
+returns-clause-gains g c = rw (← c.self.view_is, c.push_reserved.ensures.items, c.find_room.ensures.items) (receiving_gains _ _ _ _)
 
 pub returns-clause-news : goal.returns-clause-news
 returns-clause-news g c =
