@@ -18,18 +18,18 @@ among_rest y h = record { place = suc h.place; there = h.there }
 pub among_cons : {A : Type 0} (y : A) (xs : List A) (x : A) → IsOneOf (y ∷ xs) x → (y ≡ x) ⊎ IsOneOf xs x
 among_cons {A} y xs x h = at h.place h.there
   where
-  at : (place : ℕ) → slice_get (y ∷ xs) place ≡ Some x → (y ≡ x) ⊎ IsOneOf xs x
-  at zero e = let f : y ≡ x = cc in inl f
-  at (suc k) e = inr (record { place = k; there = e })
+    at : (place : ℕ) → slice_get (y ∷ xs) place ≡ Some x → (y ≡ x) ⊎ IsOneOf xs x
+    at zero e = let f : y ≡ x = cc in inl f
+    at (suc k) e = inr (record { place = k; there = e })
 
 -- an element of the first of two lists
 pub among_left : {A : Type 0} (xs ys : List A) (x : A) → IsOneOf xs x → IsOneOf (xs ++ ys) x
 among_left xs ys x h = record { place = h.place; there = at xs h.place h.there }
   where
-  at : (zs : List _) (k : ℕ) → slice_get zs k ≡ Some x → slice_get (zs ++ ys) k ≡ Some x
-  at [] k e = cc
-  at (z ∷ zs) zero e = e
-  at (z ∷ zs) (suc k) e = at zs k e
+    at : (zs : List _) (k : ℕ) → slice_get zs k ≡ Some x → slice_get (zs ++ ys) k ≡ Some x
+    at [] k e = cc
+    at (z ∷ zs) zero e = e
+    at (z ∷ zs) (suc k) e = at zs k e
 
 -- an element of the second
 pub among_right : {A : Type 0} (xs ys : List A) (x : A) → IsOneOf ys x → IsOneOf (xs ++ ys) x
@@ -57,7 +57,7 @@ among_last xs x = among_right xs (x ∷ []) x (among_first x [])
 pub among_map : {A B : Type 0} (f : A → B) (xs : List A) (x : A) → IsOneOf xs x → IsOneOf (map f xs) (f x)
 among_map f xs x h = record { place = h.place; there = at xs h.place h.there }
   where
-  at : (zs : List _) (k : ℕ) → slice_get zs k ≡ Some x → slice_get (map f zs) k ≡ Some (f x)
-  at [] k e = cc
-  at (z ∷ zs) zero e = let same : z ≡ x = cc in ap (λ a. Some (f a)) same
-  at (z ∷ zs) (suc k) e = at zs k e
+    at : (zs : List _) (k : ℕ) → slice_get zs k ≡ Some x → slice_get (map f zs) k ≡ Some (f x)
+    at [] k e = cc
+    at (z ∷ zs) zero e = let same : z ≡ x = cc in ap (λ a. Some (f a)) same
+    at (z ∷ zs) (suc k) e = at zs k e

@@ -1,0 +1,6 @@
+mod Among
+mod Seatings
+mod Goings
+mod Taking
+mod Groups
+mod Holdings

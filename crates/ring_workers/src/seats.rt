@@ -230,7 +230,10 @@ impl<E: RingElection> Seats<E> {
         let Some(member) = self.charter.roster().at(position) else {
             return false;
         };
-        self.owner.of(member) == self.owner.number && !self.is_seated(position)
+        if self.owner.of(member) != self.owner.number {
+            return false;
+        }
+        !self.is_seated(position)
     }
 
     /// How many nodes the owner owns that are not seated.
