@@ -2,5 +2,4 @@ mod Among
 mod Seatings
 mod Goings
 mod Taking
-mod Groups
 mod Holdings
