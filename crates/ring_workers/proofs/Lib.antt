@@ -3,3 +3,4 @@ mod Seatings
 mod Goings
 mod Taking
 mod Holdings
+mod Groups

@@ -31,9 +31,19 @@ take_before : {A : Type 0} (xs : List A) (x : A) → take (length xs) (xs ++ x �
 take_before [] x = refl
 take_before (z ∷ xs) x = ap (λ l. z ∷ l) (take_before xs x)
 
+-- a place is below a number, or not
+below_or : (k n : ℕ) → (k < n) ⊎ (n ≤ k)
+below_or k zero = inr (omega arith)
+below_or zero (suc n) = inl (omega arith)
+below_or (suc k) (suc n) =
+    elim (below_or k n) [
+      | inl below ↦ (let h : suc k < suc n = omega arith in inl h)
+      | inr past ↦ (let h : suc n ≤ suc k = omega arith in inr h)
+    ]
+
 module _ {E S M : Type 0} (t : E → Table S M) where
   -- what an envelope says, of the packets that a node has sent to its side
-  says : Seated E M → Side → ℕ → List (Packet M) → Option (Sent E M)
+  abbrev says : Seated E M → Side → ℕ → List (Packet M) → Option (Sent E M)
   says node side place sent =
       option_map (λ packet. record { charter = node.charter; from = node.position; side = side; index = index_after (take place sent) packet; packet = packet })
       (slice_get sent place)
@@ -53,3 +63,77 @@ module _ {E S M : Type 0} (t : E → Table S M) where
 
       posted : (e : Sent E M) → IsSent t node e → ((before : Seated E M) × IsOneOf [] before × IsSent t before e) ⊎ IsOneOf (left.more ++ right.more) e
       posted e sent = inr (at sent.side sent.place e sent.sent)
+
+  -- an envelope of what was sent, when more has been sent
+  says_before : (node : Seated E M) (side : Side) (place : ℕ) (sent more : List (Packet M)) → place < length sent → says node side place (sent ++ more) ≡ says node side place sent
+  says_before node side place sent more within =
+      ap (λ o. option_map (λ packet. record { charter = node.charter; from = node.position; side = side; index = index_after (take place (sent ++ more)) packet; packet = packet }) o) (get_before sent more place within)
+      ∙ ap (λ l. option_map (λ packet. record { charter = node.charter; from = node.position; side = side; index = index_after l packet; packet = packet }) (slice_get sent place)) (take-append-le place sent more (omega arith))
+
+  -- what a node that took a packet has sent, it had sent before, or it is what joined the outbox
+  sent_or_new : (old new : Seated E M) (side : Side) (more : List (Packet M)) → new.charter ≡ old.charter → new.position ≡ old.position → sent_of t new side ≡ sent_of t old side ++ more
+      → (waiting after : List (Sent E M)) (posts : Posts (envelope_of t new side) (length (sent_of t old side)) waiting after)
+      → (place : ℕ) (e : Sent E M) → envelope_of t new side place ≡ Some e → IsSent t old e ⊎ IsOneOf posts.more e
+  sent_or_new old new side more charter position grown waiting after posts place e sent =
+      elim (below_or place (length (sent_of t old side))) [
+        | inl within ↦ inl (record {
+          side = side;
+          place = place;
+          sent = sym (says_before old side place (sent_of t old side) more within) ∙ ap (says old side place) (sym grown) ∙ sym (same_says charter position) ∙ sent;
+        })
+        | inr past ↦ inr (posts.each place e past sent)
+      ]
+    where
+      same_says : new.charter ≡ old.charter → new.position ≡ old.position → says new side place (sent_of t new side) ≡ says old side place (sent_of t new side)
+      same_says p q = λ i. option_map (λ packet. record { charter = p i; from = q i; side = side; index = index_after (take place (sent_of t new side)) packet; packet = packet }) (slice_get (sent_of t new side) place)
+
+  -- a node that takes an envelope: what it sends because of it has joined the outbox
+  pub goes_hand : (old new : Seated E M) (envelope : Sent E M) (u w : List (Sent E M)) → HasTakenOver t old envelope new u w → Gains t old (other envelope.side) envelope.packet new
+      → Goes t (old ∷ []) (new ∷ []) u w
+  goes_hand old new envelope u w taken gains = record {
+    more = taken.left.more ++ taken.right.more;
+    behind = taken.right.behind ∙ ap (λ l. l ++ taken.right.more) taken.left.behind ∙ append_assoc u taken.left.more taken.right.more;
+    stays = λ node h. (new, among_first new [], subst (λ n. Grows n new) (among_one old node h) grows);
+    posted = λ node h e sent. posted e (subst (λ n. IsSent t n e) (sym (among_one new node h)) sent);
+  }
+    where
+      grows : Grows old new
+      grows = record {
+        more = (other envelope.side, envelope.packet) ∷ [];
+        charter_is = ap (λ n. n.charter) taken.journal;
+        position_is = ap (λ n. n.position) taken.journal;
+        journal_is = ap (λ n. n.journal) taken.journal;
+      }
+
+      at : (side : Side) (place : ℕ) (e : Sent E M) → envelope_of t new side place ≡ Some e → IsSent t old e ⊎ IsOneOf (taken.left.more ++ taken.right.more) e
+      at Left place e h =
+          elim (sent_or_new old new Left gains.left.more grows.charter_is grows.position_is gains.left.behind u taken.between taken.left place e h) [
+            | inl before ↦ inl before
+            | inr among ↦ inr (among_left taken.left.more taken.right.more e among)
+          ]
+      at Right place e h =
+          elim (sent_or_new old new Right gains.right.more grows.charter_is grows.position_is gains.right.behind taken.between w taken.right place e h) [
+            | inl before ↦ inl before
+            | inr among ↦ inr (among_right taken.left.more taken.right.more e among)
+          ]
+
+      posted : (e : Sent E M) → IsSent t new e → ((before : Seated E M) × IsOneOf (old ∷ []) before × IsSent t before e) ⊎ IsOneOf (taken.left.more ++ taken.right.more) e
+      posted e sent =
+          elim (at sent.side sent.place e sent.sent) [
+            | inl before ↦ inl (old, among_first old [], before)
+            | inr among ↦ inr among
+          ]
+
+  -- the envelope is a receipt of the node that took it
+  pub received_hand : (old new : Seated E M) (envelope : Sent E M) (u w : List (Sent E M)) → HasTakenOver t old envelope new u w → Gains t old (other envelope.side) envelope.packet new
+      → HasReceived (new ∷ []) envelope
+  received_hand old new envelope u w taken gains = record {
+    node = new;
+    there = among_first new [];
+    led = record { charter = taken.led.charter ∙ sym (ap (λ n. n.charter) taken.journal); link = taken.led.link ∙ sym (ap (λ n. n.position) taken.journal) };
+    place = length (taken_of old (other envelope.side));
+    taken = ap (λ l. slice_get l (length (taken_of old (other envelope.side)))) gains.taken ∙ get_behind (taken_of old (other envelope.side)) envelope.packet;
+    index = subst (λ (l : List (Packet M)). IsNext l envelope.index envelope.packet)
+        (sym (ap (λ l. take (length (taken_of old (other envelope.side))) l) gains.taken ∙ take_before (taken_of old (other envelope.side)) envelope.packet))
+        taken.next;
+  }
