@@ -64,10 +64,6 @@ pub record IsOlder {E : Type 0} (charters : List (Charter E)) (charter : Charter
 pub record AllSeated {E M : Type 0} (number workers : ℕ) (nodes : List (Seated E M)) (charter : Charter E) : Type 0 where
   pub each : (position member : ℕ) → slice_get charter.roster position ≡ Some member → owner_of workers member ≡ number → HasNodeAt nodes charter position
 
--- no group has this name
-pub record HasNoGroup {E M : Type 0} (groups : List (List ℕ × Seating E M)) (name : List ℕ) : Type 0 where
-  pub each : (g : List ℕ × Seating E M) → IsOneOf groups g → g.0 ≡ name → ⊥
-
 -- at this place stand seats of the charter's group and term
 pub record HasGroupAt {E M : Type 0} (groups : List (List ℕ × Seating E M)) (place : ℕ) (charter : Charter E) : Type 0 where
   pub name : List ℕ
@@ -75,6 +71,14 @@ pub record HasGroupAt {E M : Type 0} (groups : List (List ℕ × Seating E M)) (
   pub there : slice_get groups place ≡ Some (name, seats)
   pub group : seats.charter.group ≡ charter.group
   pub term : seats.charter.term ≡ charter.term
+
+-- at this place stand seats of the charter's group and of an older term
+pub record HasOlderAt {E M : Type 0} (groups : List (List ℕ × Seating E M)) (place : ℕ) (charter : Charter E) : Type 0 where
+  pub name : List ℕ
+  pub seats : Seating E M
+  pub there : slice_get groups place ≡ Some (name, seats)
+  pub group : seats.charter.group ≡ charter.group
+  pub term : seats.charter.term < charter.term
 
 module _ {E S M : Type 0} (t : E → Table S M) where
   -- What handling an item of this charter does to all nodes: nodes of another term of its group may be dropped,

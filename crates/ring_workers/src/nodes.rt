@@ -1,5 +1,7 @@
-ghost use Rattle.std.specs.Prelude.{◌≡◌, ◌+◌, ◌≤◌, ◌++◌, ℕ, [], length, vec_capacity, vec_len, IfErr, IfOk, IfSome, MatchOption};
-ghost use Rattle.ring_workers.specs.Holdings.{AllOwned, HasGroupAt, HasNoGroup, IsOlder, NoTwoAlike, Steps, charters_of, nodes_of};
+ghost use Rattle.std.specs.Prelude.{◌≡◌, ◌+◌, ◌≤◌, ◌++◌, [], length, None, vec_capacity, vec_len, IfErr, IfOk, IfSome, MatchOption, OnOk};
+ghost use Rattle.ring_workers.specs.Holdings.{AllOwned, HasGroupAt, HasOlderAt, IsOlder, NoTwoAlike, Steps, charters_of, nodes_of};
+ghost use Rattle.std.specs.Map.{lookup};
+ghost use Rattle.std.specs.Str.{bytes_eq};
 ghost use Rattle.ring_workers.specs.Fates.{IsEnvelopeFate, IsFate};
 ghost use Rattle.ring_workers.specs.Owners.{owner_of, receiver_of};
 
@@ -116,22 +118,42 @@ impl<E: RingElection> Nodes<E> {
         let Some(place) = self.groups.get_index_of(&charter.group()) else {
             return self.add(alloc, charter);
         };
-        let Some(seats) = self.groups.get_index_mut(place) else {
+        let Some((_, seats)) = self.groups.get_index(place) else {
             unreachable!()
         };
-        let held = seats.charter().term();
-        if charter.term() < held {
+        let held = seats.charter().term().get();
+        let wanted = charter.term().get();
+        if wanted < held {
             return Ok(None);
         }
-        if held < charter.term() {
-            *seats = Seats::new(alloc, self.owner, charter)?;
+        if held < wanted {
+            self.replace(alloc, place, charter)?;
         }
         Ok(Some(place))
     }
 
+    /// Puts empty seats of a charter in place of those of an older term of its group.
+    fn replace(
+        &mut self,
+        alloc: Global,
+        place: usize,
+        charter: &Arc<Charter<E>>,
+    ) -> Result<(), NoMemory>
+        requires { HasOlderAt self.old.groups place charter.now.value }
+        ensures steps { Steps E.table charter.now.value self.old self.new [] [] }
+        ensures place { OnOk result (HasGroupAt self.new.groups place charter.now.value) }
+    {
+        let seats = Seats::new(alloc, self.owner, charter)?;
+        let Some(held) = self.groups.get_index_mut(place) else {
+            unreachable!()
+        };
+        *held = seats;
+        Ok(())
+    }
+
     /// Adds empty seats of a charter whose group has none.
     fn add(&mut self, alloc: Global, charter: &Arc<Charter<E>>) -> Result<Option<usize>, NoMemory>
-        requires { HasNoGroup self.old.groups charter.now.value.group }
+        requires { lookup (bytes_eq charter.now.value.group) self.old.groups ≡ None }
         ensures steps { Steps E.table charter.now.value self.old self.new [] [] }
         ensures place { IfOk result (λ place. MatchOption place ⊥ (λ i. HasGroupAt self.new.groups i charter.now.value)) }
     {
