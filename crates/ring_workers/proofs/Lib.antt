@@ -1,6 +1,12 @@
 mod Among
-mod Seatings
 mod Goings
-mod Taking
-mod Holdings
 mod Groups
+mod Growing
+mod Handling
+mod Holdings
+mod Posting
+mod Running
+mod Seatings
+mod Sending
+mod Taking
+mod Turning

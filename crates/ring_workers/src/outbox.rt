@@ -45,7 +45,8 @@ pub(crate) fn send<E: RingElection, R: Wait>(
     senders: &mut Vec<SenderPass<Item<E>>>,
 )
     requires { vec_len senders.old ≡ owner.now.workers }
-    ensures { Sends owner.now.workers outbox.old.items outbox.new.items senders.old.items senders.new.items }
+    ensures sends { Sends owner.now.workers outbox.old.items outbox.new.items senders.old.items senders.new.items }
+    ensures count { vec_len senders.new ≡ vec_len senders.old }
 {
     for _ in 0..outbox.len() {
         let Some(envelope) = outbox.pop_front() else {
