@@ -4,6 +4,7 @@ mod Groups
 mod Growing
 mod Handling
 mod Holdings
+mod Moving
 mod Posting
 mod Running
 mod Seatings
