@@ -44,9 +44,9 @@ seated_unless_free {E} {M} seats position seating taken inside owned =
     let within : position < length seats.places = omega (arith, seating.size) in
     at (get_or seats.places position None) (slice_get-get_or seats.places position None within)
   where
-  at : (o : Option (Seated E M)) → slice_get seats.places position ≡ Some o → HasNodeAt (seated_in seats.places) seats.charter position
-  at None h = absurd (taken (record { inside = inside; owned = owned; empty = h }))
-  at (Some node) h = node_there seats.number seats.workers seats.charter seats.places position node seating h
+    at : (o : Option (Seated E M)) → slice_get seats.places position ≡ Some o → HasNodeAt (seated_in seats.places) seats.charter position
+    at None h = absurd (taken (record { inside = inside; owned = owned; empty = h }))
+    at (Some node) h = node_there seats.number seats.workers seats.charter seats.places position node seating h
 
 module _ {E S M : Type 0} (t : E → Table S M) where
   -- the nodes at the positions below a number are seated, where the owner owns them
@@ -74,16 +74,17 @@ module _ {E S M : Type 0} (t : E → Table S M) where
     below = below;
   }
     where
-    earlier : (position member : ℕ) → position < to → slice_get new.charter.roster position ≡ Some member → owner_of new.workers member ≡ new.number → HasNodeAt (seated_in new.places) new.charter position
-    earlier position member less at owned =
-        let h = far.below position member less (subst (λ ch. slice_get ch.roster position ≡ Some member) keeps.charter_is at) (sym (ap (λ n. owner_of n member) keeps.workers_is) ∙ owned ∙ keeps.number_is) in
-        subst (λ ch. HasNodeAt (seated_in new.places) ch position) (sym keeps.charter_is) (seated_later (seated_in mid.places) (seated_in new.places) mid.charter position h (goes.stays h.node h.there))
-    below : (position member : ℕ) → position < to + 1 → slice_get new.charter.roster position ≡ Some member → owner_of new.workers member ≡ new.number → HasNodeAt (seated_in new.places) new.charter position
-    below position member less at owned =
-        elim (below_or position to less) [
-          | inl before ↦ earlier position member before at owned
-          | inr last ↦ subst (λ p. HasNodeAt (seated_in new.places) new.charter p) (sym last) seated
-        ]
+      earlier : (position member : ℕ) → position < to → slice_get new.charter.roster position ≡ Some member → owner_of new.workers member ≡ new.number → HasNodeAt (seated_in new.places) new.charter position
+      earlier position member less at owned =
+          let h = far.below position member less (subst (λ ch. slice_get ch.roster position ≡ Some member) keeps.charter_is at) (sym (ap (λ n. owner_of n member) keeps.workers_is) ∙ owned ∙ keeps.number_is) in
+          subst (λ ch. HasNodeAt (seated_in new.places) ch position) (sym keeps.charter_is) (seated_later (seated_in mid.places) (seated_in new.places) mid.charter position h (goes.stays h.node h.there))
+
+      below : (position member : ℕ) → position < to + 1 → slice_get new.charter.roster position ≡ Some member → owner_of new.workers member ≡ new.number → HasNodeAt (seated_in new.places) new.charter position
+      below position member less at owned =
+          elim (below_or position to less) [
+            | inl before ↦ earlier position member before at owned
+            | inr last ↦ subst (λ p. HasNodeAt (seated_in new.places) new.charter p) (sym last) seated
+          ]
 
   -- one more was seated before, or another owns it
   pub so_far_skipped : (old new : Seating E M) (u w : List (Sent E M)) (to : ℕ) → SeatedSoFar old new u w to → (IsFree new to → ⊥) → SeatedSoFar old new u w (to + 1)
@@ -96,7 +97,7 @@ module _ {E S M : Type 0} (t : E → Table S M) where
           | inl before ↦ far.below position member before at owned
           | inr last ↦ subst (λ p. HasNodeAt (seated_in new.places) new.charter p) (sym last)
               (seated_unless_free new to far.kept taken (subst (λ p. p < length new.charter.roster) last (slice_get_within new.charter.roster position member at))
-                (ap (owner_of new.workers) (get_or_from_slice_get new.charter.roster to member 0 (subst (λ p. slice_get new.charter.roster p ≡ Some member) last at)) ∙ owned))
+              (ap (owner_of new.workers) (get_or_from_slice_get new.charter.roster to member 0 (subst (λ p. slice_get new.charter.roster p ≡ Some member) last at)) ∙ owned))
         ];
   }
 

@@ -25,7 +25,7 @@ loop-position-preserved g c =
       | then-is_free+in_ok-seat w ↦
           rw (w.self-is, w.outbox-is)
           (so_far_seated g.E.RingElection.table c.args.self.now c.loop-position.self w.seat.new.self c.args.outbox.now.items c.loop-position.outbox.items w.seat.new.outbox.items c.loop-position.position
-            c.loop-position.invariant w.seat.ensures.term w.seat.ensures.kept w.seat.ensures.goes w.in_ok-seat.ensures.seated)
+          c.loop-position.invariant w.seat.ensures.term w.seat.ensures.kept w.seat.ensures.goes w.in_ok-seat.ensures.seated)
       | else-is_free w ↦
           rw (w.self-is, w.outbox-is)
           (so_far_skipped g.E.RingElection.table c.args.self.now c.loop-position.self c.args.outbox.now.items c.loop-position.outbox.items c.loop-position.position c.loop-position.invariant w.if-is_free.ensures)

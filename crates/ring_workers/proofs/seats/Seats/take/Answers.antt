@@ -38,7 +38,7 @@ returns-clause-kept g c =
     let placed = c.self.invariant.0.each c.args.position c.in-Some.node there in
     seating_set c.self.inside.owner.number c.self.inside.owner.workers c.self.inside.charter.value c.self.inside.places.items c.args.position c.hand_to.new.node c.self.invariant.0
     (placed_handed g.E.RingElection.table c.self.inside.places.items c.args.position c.in-Some.node c.hand_to.new.node there c.args.envelope c.find_room.new.outbox.items c.hand_to.new.outbox.items
-      c.hand_to.result c.hand_to.ensures.handed c.self.inside.owner.number c.self.inside.owner.workers c.self.inside.charter.value placed)
+    c.hand_to.result c.hand_to.ensures.handed c.self.inside.owner.number c.self.inside.owner.workers c.self.inside.charter.value placed)
 
 pub invariant_of-self-2 : goal.invariant_of-self-2
 invariant_of-self-2 g c =
@@ -55,8 +55,8 @@ returns-clause-goes g c =
     let there = here ∙ ap Some (sym (c.index_mut.ensures.value ∙ get_or_from_slice_get c.self.inside.places.items c.args.position (Some h.node) c.index_mut.result.now here) ∙ c.in-Some.is) in
     subst (λ s. Goes g.E.RingElection.table (seated_in s.places) (seated_in (set c.self.inside.places.items c.args.position (Some c.hand_to.new.node))) c.args.outbox.now.items c.hand_to.new.outbox.items) c.self.view_is
     (subst (λ u. Goes g.E.RingElection.table (seated_in c.self.inside.places.items) (seated_in (set c.self.inside.places.items c.args.position (Some c.hand_to.new.node))) u c.hand_to.new.outbox.items) c.find_room.ensures.outbox
-      (goes_handed g.E.RingElection.table c.self.inside.places.items c.args.position c.in-Some.node c.hand_to.new.node there c.args.envelope c.find_room.new.outbox.items c.hand_to.new.outbox.items
-        c.hand_to.result c.hand_to.ensures.handed c.hand_to.ensures.gains))
+    (goes_handed g.E.RingElection.table c.self.inside.places.items c.args.position c.in-Some.node c.hand_to.new.node there c.args.envelope c.find_room.new.outbox.items c.hand_to.new.outbox.items
+    c.hand_to.result c.hand_to.ensures.handed c.hand_to.ensures.gains))
 
 pub returns-clause-received : goal.returns-clause-received
 returns-clause-received g c =
