@@ -186,7 +186,7 @@ module _ {E M : Type 0} where
       ]
 
   -- what stands there is what was written
-  get_set_value-same : (groups : List (List ℕ × Seating E M)) (place : ℕ) (name : List ℕ) (seats new : Seating E M) → slice_get groups place ≡ Some (name, seats) → slice_get (set_value_at groups place new) place ≡ Some (name, new)
+  pub get_set_value-same : (groups : List (List ℕ × Seating E M)) (place : ℕ) (name : List ℕ) (seats new : Seating E M) → slice_get groups place ≡ Some (name, seats) → slice_get (set_value_at groups place new) place ≡ Some (name, new)
   get_set_value-same [] place name seats new h = absurd (none-some (name, seats) h)
   get_set_value-same (e ∷ groups) zero name seats new h = ap (λ v. Some (v.0, new)) (same_Some e (name, seats) h)
   get_set_value-same (e ∷ groups) (suc place) name seats new h = get_set_value-same groups place name seats new h
@@ -202,7 +202,7 @@ module _ {E M : Type 0} where
         | inr new ↦ inr (ap suc new.0, new.1)
       ]
 
-  get_pushed : (groups : List (List ℕ × Seating E M)) (e : List ℕ × Seating E M) → slice_get (groups ++ e ∷ []) (length groups) ≡ Some e
+  pub get_pushed : (groups : List (List ℕ × Seating E M)) (e : List ℕ × Seating E M) → slice_get (groups ++ e ∷ []) (length groups) ≡ Some e
   get_pushed [] e = refl
   get_pushed (z ∷ groups) e = get_pushed groups e
 

@@ -1,5 +1,5 @@
 -- A node is seated, or takes an envelope: what it sends joins the outbox.
-use Rattle.std.proofs.Common.{◌≡◌, ◌+◌, ◌<◌, ◌≤◌, ℕ, zero, suc, List, [], ◌∷◌, ◌++◌, length, take, Option, Some, None, slice_get, refl, sym, ap, ◌∙◌, subst, inl, inr, ◌⊎◌, arith, append_assoc, nat_lt}
+use Rattle.std.proofs.Common.{◌≡◌, ◌+◌, ◌<◌, ◌≤◌, ℕ, zero, suc, List, [], ◌∷◌, ◌++◌, length, set, take, Option, Some, None, slice_get, refl, sym, ap, ◌∙◌, subst, inl, inr, ◌⊎◌, arith, append_assoc, nat_lt}
 use Rattle.std.specs.Prelude.{option_map}
 use Rattle.std.proofs.lemmas.List.{append-nil, take-append-le}
 use Rattle.std.proofs.lemmas.Option.{none-some, slice_get_past, slice_get_within}
@@ -14,6 +14,9 @@ use Rattle.ring_workers.specs.Goings.{Goes, Grows, HasReceived, HasTakenOver, Is
 use Rattle.ring_workers.specs.Lists.{IsOneOf}
 use Rattle.ring_workers.specs.Posts.{Posts}
 use Rattle.ring_workers.proofs.Among.{among_none, among_first, among_one, among_left, among_right}
+use Rattle.ring_workers.proofs.Goings.{goes_among, goes_none, received_among}
+use Rattle.ring_workers.proofs.Seatings.{seated_in-append, split_at}
+use Rattle.ring_workers.specs.Seatings.{seated_in}
 
 -- what stands in a list stands there when the list is longer
 get_before : {A : Type 0} (xs ys : List A) (k : ℕ) → k < length xs → slice_get (xs ++ ys) k ≡ slice_get xs k
@@ -137,3 +140,48 @@ module _ {E S M : Type 0} (t : E → Table S M) where
         (sym (ap (λ l. take (length (taken_of old (other envelope.side))) l) gains.taken ∙ take_before (taken_of old (other envelope.side)) envelope.packet))
         taken.next;
   }
+
+-- what was written at a place stands there
+pub get_set-same : {A : Type 0} (xs : List A) (place : ℕ) (y : A) → place < length xs → slice_get (set xs place y) place ≡ Some y
+get_set-same [] place y h = absurd (omega arith)
+get_set-same (z ∷ xs) zero y h = refl
+get_set-same (z ∷ xs) (suc k) y h = get_set-same xs k y (omega arith)
+
+-- what is seated around a place
+seated_around : {A : Type 0} (before after : List (Option A)) (x : A) → seated_in (before ++ Some x ∷ after) ≡ seated_in before ++ ((x ∷ []) ++ seated_in after)
+seated_around before after x = seated_in-append before (Some x ∷ after)
+
+module _ {E S M : Type 0} (t : E → Table S M) where
+  -- nothing happens
+  pub goes_still : (old new : List (Seated E M)) (u w : List (Sent E M)) → new ≡ old → w ≡ u → Goes t old new u w
+  goes_still old new u w same still = subst (λ l. Goes t old l u w) (sym same) (subst (λ l. Goes t old old u l) (sym still) (goes_none t old u))
+
+  -- a node is seated at an empty place
+  pub goes_seated : (places : List (Option (Seated E M))) (place : ℕ) (node : Seated E M) (u v w : List (Sent E M)) → slice_get places place ≡ Some None
+      → Posts (envelope_of t node Left) 0 u v → Posts (envelope_of t node Right) 0 v w → Goes t (seated_in places) (seated_in (set places place (Some node))) u w
+  goes_seated places place node u v w empty left right =
+      let s = split_at places place None empty in
+      let before : seated_in places ≡ seated_in s.before ++ ([] ++ seated_in s.after) = ap seated_in s.whole ∙ seated_in-append s.before (None ∷ s.after) in
+      let after : seated_in (set places place (Some node)) ≡ seated_in s.before ++ ((node ∷ []) ++ seated_in s.after) = ap seated_in (s.written (Some node)) ∙ seated_around s.before s.after node in
+      subst (λ l. Goes t l (seated_in (set places place (Some node))) u w) (sym before)
+      (subst (λ l. Goes t (seated_in s.before ++ ([] ++ seated_in s.after)) l u w) (sym after)
+      (goes_among t (seated_in s.before) [] (node ∷ []) (seated_in s.after) u w (goes_seat t node u v w left right)))
+
+  -- the node at a place takes an envelope
+  pub goes_taken : (places : List (Option (Seated E M))) (place : ℕ) (old new : Seated E M) (envelope : Sent E M) (u w : List (Sent E M)) → slice_get places place ≡ Some (Some old)
+      → HasTakenOver t old envelope new u w → Gains t old (other envelope.side) envelope.packet new → Goes t (seated_in places) (seated_in (set places place (Some new))) u w
+  goes_taken places place old new envelope u w there taken gains =
+      let s = split_at places place (Some old) there in
+      let before : seated_in places ≡ seated_in s.before ++ ((old ∷ []) ++ seated_in s.after) = ap seated_in s.whole ∙ seated_around s.before s.after old in
+      let after : seated_in (set places place (Some new)) ≡ seated_in s.before ++ ((new ∷ []) ++ seated_in s.after) = ap seated_in (s.written (Some new)) ∙ seated_around s.before s.after new in
+      subst (λ l. Goes t l (seated_in (set places place (Some new))) u w) (sym before)
+      (subst (λ l. Goes t (seated_in s.before ++ ((old ∷ []) ++ seated_in s.after)) l u w) (sym after)
+      (goes_among t (seated_in s.before) (old ∷ []) (new ∷ []) (seated_in s.after) u w (goes_hand t old new envelope u w taken gains)))
+
+  -- the envelope is then a receipt
+  pub received_taken : (places : List (Option (Seated E M))) (place : ℕ) (old new : Seated E M) (envelope : Sent E M) (u w : List (Sent E M)) → slice_get places place ≡ Some (Some old)
+      → HasTakenOver t old envelope new u w → Gains t old (other envelope.side) envelope.packet new → HasReceived (seated_in (set places place (Some new))) envelope
+  received_taken places place old new envelope u w there taken gains =
+      let s = split_at places place (Some old) there in
+      let after : seated_in (set places place (Some new)) ≡ seated_in s.before ++ ((new ∷ []) ++ seated_in s.after) = ap seated_in (s.written (Some new)) ∙ seated_around s.before s.after new in
+      subst (λ l. HasReceived l envelope) (sym after) (received_among (seated_in s.before) (new ∷ []) (seated_in s.after) envelope (received_hand t old new envelope u w taken gains))

@@ -6,20 +6,6 @@ use Rattle.ring_workers.specs.declared.seats.Fate.{Fate}
 use Rattle.ring_workers.specs.declared.seats.Fate.TheVariants.{Done, Older, Strange}
 use Rattle.ring_workers.specs.Goings.{HasReceived}
 use Rattle.ring_workers.specs.Holdings.{AllSeated, Holding, IsOlder, charters_of, nodes_of}
-use Rattle.ring_workers.specs.Seatings.{Seating, seated_in}
-
--- what became of a charter that begins, at the seats of its group and term: each node that the worker owns is
--- seated, or nothing is known
-abbrev pub IsBeginFate : {E M : Type 0} → Seating E M → Charter E → Fate → Type 0
-IsBeginFate new charter Done = AllSeated new.number new.workers (seated_in new.places) charter
-IsBeginFate new charter Older = ⊥
-IsBeginFate new charter Strange = Unit {0}
-
--- what became of an envelope, at the seats of its group and term: it is a receipt, or nothing is known
-abbrev pub IsReceiptFate : {E M : Type 0} → Seating E M → Sent E M → Fate → Type 0
-IsReceiptFate new envelope Done = HasReceived (seated_in new.places) envelope
-IsReceiptFate new envelope Older = ⊥
-IsReceiptFate new envelope Strange = Unit {0}
 
 -- what became of a charter that begins: each node that the worker owns is seated, or a newer term was held, or
 -- nothing is known

@@ -1,8 +1,9 @@
-ghost use Rattle.std.specs.Prelude.{◌≡◌, ◌+◌, ◌≤◌, ◌++◌, [], length, None, vec_capacity, vec_len, IfErr, IfOk, IfSome, MatchOption, OnOk};
-ghost use Rattle.ring_workers.specs.Holdings.{AllOwned, HasGroupAt, HasOlderAt, IsOlder, NoTwoAlike, Steps, charters_of, nodes_of};
+ghost use Rattle.std.specs.Prelude.{◌≡◌, ◌+◌, ◌≤◌, ◌++◌, [], length, None, vec_capacity, vec_len, IfErr, IfOk, IfSome, IsTrue, MatchOption, OnOk};
+ghost use Rattle.ring_workers.specs.Holdings.{AllOwned, AllSeated, HasGroupAt, HasOlderAt, IsOlder, NoTwoAlike, Steps, charters_of, nodes_of};
 ghost use Rattle.std.specs.Map.{lookup};
 ghost use Rattle.std.specs.Str.{bytes_eq};
 ghost use Rattle.ring_workers.specs.Fates.{IsEnvelopeFate, IsFate};
+ghost use Rattle.ring_workers.specs.Goings.{HasReceived};
 ghost use Rattle.ring_workers.specs.Owners.{owner_of, receiver_of};
 
 use crate::owner::Owner;
@@ -72,10 +73,10 @@ impl<E: RingElection> Nodes<E> {
         let Some(place) = self.turn_to(alloc, charter)? else {
             return Ok(Fate::Older);
         };
-        let Some(seats) = self.groups.get_index_mut(place) else {
-            unreachable!()
-        };
-        seats.begin(alloc, charter, outbox)
+        match self.begin_at(alloc, place, charter, outbox)? {
+            true => Ok(Fate::Done),
+            false => Ok(Fate::Strange),
+        }
     }
 
     /// Hands an envelope to the node to which its link leads, which the owner owns. Older nodes of the
@@ -98,6 +99,44 @@ impl<E: RingElection> Nodes<E> {
             Ok(None) => return Ok((Fate::Older, None)),
             Err(NoMemory) => return Err(envelope),
         };
+        match self.hand_over_at(alloc, place, envelope, outbox)? {
+            (true, report) => Ok((Fate::Done, report)),
+            (false, report) => Ok((Fate::Strange, report)),
+        }
+    }
+
+    /// Begins a charter at the place of its group, which holds seats of its term.
+    fn begin_at(
+        &mut self,
+        alloc: Global,
+        place: usize,
+        charter: &Arc<Charter<E>>,
+        outbox: &mut VecDeque<Envelope<E>>,
+    ) -> Result<bool, NoMemory>
+        requires { HasGroupAt self.old.groups place charter.now.value }
+        ensures steps { Steps E.table charter.now.value self.old self.new outbox.old.items outbox.new.items }
+        ensures seated { IfOk result (λ own. IsTrue own → AllSeated self.new.number self.new.workers (nodes_of self.new) charter.now.value) }
+    {
+        let Some(seats) = self.groups.get_index_mut(place) else {
+            unreachable!()
+        };
+        seats.begin(alloc, charter, outbox)
+    }
+
+    /// Hands an envelope over at the place of its group, which holds seats of its term.
+    fn hand_over_at(
+        &mut self,
+        alloc: Global,
+        place: usize,
+        envelope: Envelope<E>,
+        outbox: &mut VecDeque<Envelope<E>>,
+    ) -> Result<(bool, Option<Report<E>>), Envelope<E>>
+        requires group { HasGroupAt self.old.groups place envelope.charter }
+        requires owned { owner_of self.old.workers (receiver_of envelope) ≡ self.old.number }
+        ensures steps { Steps E.table envelope.charter self.old self.new outbox.old.items outbox.new.items }
+        ensures received { IfOk result (λ r. IsTrue r.0 → HasReceived (nodes_of self.new) envelope) }
+        ensures back { IfErr result (λ back. back ≡ envelope) }
+    {
         let Some(seats) = self.groups.get_index_mut(place) else {
             unreachable!()
         };

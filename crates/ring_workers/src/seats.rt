@@ -1,6 +1,6 @@
-ghost use Rattle.std.specs.Prelude.{◌≡◌, ◌+◌, ◌<◌, ◌≤◌, ◌++◌, ◌⊎◌, length, slice_get, slice_index, vec_capacity, vec_len, IfErr, IfOk, MatchBool, OnOk};
+ghost use Rattle.std.specs.Prelude.{◌≡◌, ◌+◌, ◌<◌, ◌≤◌, ◌++◌, ◌⊎◌, length, slice_get, slice_index, vec_capacity, vec_len, IfErr, IfOk, IsTrue, MatchBool, OnOk};
 ghost use Rattle.ring_workers.specs.Goings.{Goes, HasReceived};
-ghost use Rattle.ring_workers.specs.Fates.{IsBeginFate, IsReceiptFate};
+ghost use Rattle.ring_workers.specs.Holdings.{AllSeated};
 ghost use Rattle.ring_workers.specs.Owners.{owner_of, position_of, receiver_of};
 ghost use Rattle.ring_workers.specs.Seatings.{HasNodeAt, IsFree, IsSeating, KeepsTerm, empty_seating, seated_in};
 
@@ -81,21 +81,21 @@ impl<E: RingElection> Seats<E> {
     }
 
     /// Seats each node of the term that the owner owns and that is not seated, where the charter is the
-    /// term's own. Room for what they send is found first. Refused for want of memory, the nodes seated
-    /// so far stay.
+    /// term's own, which is the answer. Room for what they send is found first. Refused for want of
+    /// memory, the nodes seated so far stay.
     pub fn begin(
         &mut self,
         alloc: Global,
         charter: &Charter<E>,
         outbox: &mut VecDeque<Envelope<E>>,
-    ) -> Result<Fate, NoMemory>
+    ) -> Result<bool, NoMemory>
         ensures term { KeepsTerm self.old self.new }
         ensures kept { IsSeating self.new.number self.new.workers self.new.charter self.new.places }
         ensures goes { Goes E.table (seated_in self.old.places) (seated_in self.new.places) outbox.old.items outbox.new.items }
-        ensures fate { IfOk result (IsBeginFate self.new charter.now) }
+        ensures seated { IfOk result (λ own. IsTrue own → AllSeated self.new.number self.new.workers (seated_in self.new.places) charter.now) }
     {
         if !self.charter.same(charter) {
-            return Ok(Fate::Strange);
+            return Ok(false);
         }
         let more = self.count_free().saturating_mul(SENT_AT_SEAT);
         find_room(&self.charter, &mut self.copies, outbox, more)?;
@@ -104,40 +104,64 @@ impl<E: RingElection> Seats<E> {
                 self.seat(alloc, position, outbox)?;
             }
         }
-        Ok(Fate::Done)
+        Ok(true)
     }
 
     /// Hands an envelope of this group and term to the node to which its link leads, which is seated
-    /// first where it is not. `Strange` where the envelope is of another charter or not the next of its
-    /// link. Room for all that it can cause is found first. Refused for want of memory, the envelope comes
-    /// back; a node that was seated for it stays.
+    /// first where it is not. The answer is whether the node took it, and its report; it does not where
+    /// the envelope is of another charter or not the next of its link. Room for all that it can cause is
+    /// found first. Refused for want of memory, the envelope comes back; a node that was seated for it
+    /// stays.
     pub fn hand_over(
         &mut self,
         alloc: Global,
         envelope: Envelope<E>,
         outbox: &mut VecDeque<Envelope<E>>,
-    ) -> Result<(Fate, Option<Report<E>>), Envelope<E>>
+    ) -> Result<(bool, Option<Report<E>>), Envelope<E>>
         requires { owner_of self.old.workers (receiver_of envelope) ≡ self.old.number }
         ensures term { KeepsTerm self.old self.new }
         ensures kept { IsSeating self.new.number self.new.workers self.new.charter self.new.places }
         ensures goes { Goes E.table (seated_in self.old.places) (seated_in self.new.places) outbox.old.items outbox.new.items }
-        ensures fate { IfOk result (λ r. IsReceiptFate self.new envelope r.0) }
+        ensures received { IfOk result (λ r. IsTrue r.0 → HasReceived (seated_in self.new.places) envelope) }
         ensures back { IfErr result (λ back. back ≡ envelope) }
     {
         let position = position(&envelope);
-        if !self.is_seated(position) {
-            if !self.charter.same(envelope.charter()) {
-                return Ok((Fate::Strange, None));
-            }
-            if self.seat_for_receipt(alloc, position, outbox).is_err() {
-                return Err(envelope);
-            }
+        match self.make_seat(alloc, position, envelope.charter(), outbox) {
+            Ok(true) => {}
+            Ok(false) => return Ok((false, None)),
+            Err(NoMemory) => return Err(envelope),
         }
         match self.take(position, envelope, outbox) {
-            Ok(report) => Ok((Fate::Done, report)),
+            Ok(report) => Ok((true, report)),
             Err((TakeFault::NoMemory, back)) => Err(back),
-            Err(_) => Ok((Fate::Strange, None)),
+            Err(_) => Ok((false, None)),
         }
+    }
+
+    /// Seats the node at this position of a charter where none is seated there and the charter is the
+    /// term's own. The answer is whether a node is seated there.
+    fn make_seat(
+        &mut self,
+        alloc: Global,
+        position: usize,
+        charter: &Charter<E>,
+        outbox: &mut VecDeque<Envelope<E>>,
+    ) -> Result<bool, NoMemory>
+        requires inside { position < length charter.now.roster }
+        requires owned { owner_of self.old.workers (slice_index charter.now.roster position) ≡ self.old.number }
+        ensures term { KeepsTerm self.old self.new }
+        ensures kept { IsSeating self.new.number self.new.workers self.new.charter self.new.places }
+        ensures goes { Goes E.table (seated_in self.old.places) (seated_in self.new.places) outbox.old.items outbox.new.items }
+        ensures seated { IfOk result (λ there. IsTrue there → HasNodeAt (seated_in self.new.places) self.new.charter position) }
+    {
+        if self.is_seated(position) {
+            return Ok(true);
+        }
+        if !self.charter.same(charter) {
+            return Ok(false);
+        }
+        self.seat_for_receipt(alloc, position, outbox)?;
+        Ok(true)
     }
 
     /// Seats the node at this position, with room for what it sends and for what it sends because of one
