@@ -1,9 +1,12 @@
 -- Groups: what happens to one group's seats happens to all that is held.
 use Rattle.std.proofs.Common.{◌≡◌, ◌+◌, ◌<◌, ◌≤◌, ℕ, zero, suc, List, [], ◌∷◌, ◌++◌, length, Option, Some, None, slice_get, refl, sym, ap, ◌∙◌, subst, inl, inr, ◌⊎◌, arith, append_assoc, true≢false}
 use Rattle.indexmap.specs.IndexMap.{set_value_at}
-use Rattle.std.specs.Map.{keys_of, lookup}
+use Rattle.std.specs.Map.{keys_of, lookup, values_of}
 use Rattle.std.specs.Str.{bytes_eq}
-use Rattle.std.specs.Prelude.{Bool, cond, true, false, position}
+use Rattle.std.specs.Prelude.{Bool, cond, true, false, position, IfOk, IsTrue, Result, Ok, Err}
+use Rattle.ring_id.specs.declared.refusal.NoMemory.{NoMemory}
+use Rattle.ring_node.specs.Reports.{Told}
+use Rattle.ring_workers.specs.Owners.{owner_of}
 use Rattle.std.proofs.lemmas.List.Quantifiers.{position-Some}
 use Rattle.std.proofs.lemmas.Slice.Eq.{bytes_eq-Decides}
 use Rattle.std.proofs.lemmas.List.{append-nil}
@@ -12,8 +15,8 @@ use Rattle.ring_election.specs.Tables.{Table}
 use Rattle.ring_node.specs.declared.charter.Charter.{Charter}
 use Rattle.ring_node.specs.Envelopes.{Sent}
 use Rattle.ring_node.specs.Nodes.{Seated}
-use Rattle.ring_workers.specs.Goings.{Goes, Grows, IsSent}
-use Rattle.ring_workers.specs.Holdings.{Holding, IsGroupAt, IsHolding, Steps, charters_in, charters_of, nodes_in, nodes_of}
+use Rattle.ring_workers.specs.Goings.{Goes, Grows, HasReceived, IsSent}
+use Rattle.ring_workers.specs.Holdings.{AllSeated, Holding, IsGroupAt, IsHolding, Steps, charters_in, charters_of, nodes_in, nodes_of}
 use Rattle.ring_workers.specs.Lists.{IsOneOf}
 use Rattle.ring_workers.specs.Seatings.{IsSeating, KeepsTerm, Seating, empty_seating, seated_in}
 use Rattle.ring_workers.proofs.Among.{among_none, among_first, among_rest, among_cons, among_one, among_left, among_right, among_append}
@@ -374,3 +377,50 @@ module _ {E S M : Type 0} (t : E → Table S M) where
     where
       same_nodes : nodes_in (groups ++ (name, new) ∷ []) ≡ nodes_in groups
       same_nodes = nodes_in-append groups ((name, new) ∷ []) ∙ ap (λ l. nodes_in groups ++ (l ++ [])) (none_seated number workers charter new empty) ∙ append-nil (nodes_in groups)
+
+module _ {E M : Type 0} where
+  -- the seats at a place are the value there
+  pub value_there : (groups : List (List ℕ × Seating E M)) (place : ℕ) (name : List ℕ) (seats found : Seating E M) → slice_get groups place ≡ Some (name, seats) → Some found ≡ slice_get (values_of groups) place → found ≡ seats
+  value_there [] place name seats found there h = absurd (none-some (name, seats) there)
+  value_there (g ∷ groups) zero name seats found there h = same_Some found g.1 h ∙ ap (λ v. v.1) (same_Some g (name, seats) there)
+  value_there (g ∷ groups) (suc place) name seats found there h = value_there groups place name seats found there h
+
+  -- a group stays one where its seats keep their owner and term
+  pub group_kept : (number workers : ℕ) (name : List ℕ) (seats new : Seating E M) → IsGroupAt number workers name seats → KeepsTerm seats new → IsSeating new.number new.workers new.charter new.places → IsGroupAt number workers name new
+  group_kept number workers name seats new group keeps seated = record {
+    named = ap (λ ch. ch.group) keeps.charter_is ∙ group.named;
+    number_is = keeps.number_is ∙ group.number_is;
+    workers_is = keeps.workers_is ∙ group.workers_is;
+    seated = seated;
+  }
+
+  -- the nodes of a group are held
+  pub among_groups : (groups : List (List ℕ × Seating E M)) (place : ℕ) (name : List ℕ) (seats : Seating E M) → slice_get groups place ≡ Some (name, seats) → (node : Seated E M) → IsOneOf (seated_in seats.places) node → IsOneOf (nodes_in groups) node
+  among_groups [] place name seats there node h = absurd (none-some (name, seats) there)
+  among_groups (g ∷ groups) zero name seats there node h =
+      among_left (seated_in g.1.places) (nodes_in groups) node (subst (λ v. IsOneOf (seated_in v.1.places) node) (sym (same_Some g (name, seats) there)) h)
+  among_groups (g ∷ groups) (suc place) name seats there node h = among_right (seated_in g.1.places) (nodes_in groups) node (among_groups groups place name seats there node h)
+
+  module _ (number workers : ℕ) (groups : List (List ℕ × Seating E M)) (place : ℕ) (name : List ℕ) (seats : Seating E M) (there : slice_get groups place ≡ Some (name, seats))
+      (number_is : seats.number ≡ number) (workers_is : seats.workers ≡ workers) where
+    -- all nodes of a charter are held where all are seated
+    all_held : (charter : Charter E) → AllSeated seats.number seats.workers (seated_in seats.places) charter → AllSeated number workers (nodes_in groups) charter
+    all_held charter all = record {
+      each = λ position member at owned.
+          let h = all.each position member at (ap (λ n. owner_of n member) workers_is ∙ owned ∙ sym number_is) in
+          record { node = h.node; there = among_groups groups place name seats there h.node h.there; charter_is = h.charter_is; position_is = h.position_is };
+    }
+
+    pub all_held_if : (charter : Charter E) (result : Result Bool NoMemory) → IfOk result (λ own. IsTrue own → AllSeated seats.number seats.workers (seated_in seats.places) charter)
+        → IfOk result (λ own. IsTrue own → AllSeated number workers (nodes_in groups) charter)
+    all_held_if charter (Ok own) h = λ yes_own. all_held charter (h yes_own)
+    all_held_if charter (Err fault) h = tt
+
+    -- a receipt of a node that is seated is a receipt of one that is held
+    received_held : (e : Sent E M) → HasReceived (seated_in seats.places) e → HasReceived (nodes_in groups) e
+    received_held e h = record { node = h.node; there = among_groups groups place name seats there h.node h.there; led = h.led; place = h.place; taken = h.taken; index = h.index }
+
+    pub received_held_if : (e : Sent E M) (result : Result (Bool × Option (Told E)) (Sent E M)) → IfOk result (λ r. IsTrue r.0 → HasReceived (seated_in seats.places) e)
+        → IfOk result (λ r. IsTrue r.0 → HasReceived (nodes_in groups) e)
+    received_held_if e (Ok r) h = λ took. received_held e (h took)
+    received_held_if e (Err back) h = tt

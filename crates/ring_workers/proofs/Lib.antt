@@ -11,3 +11,4 @@ mod Seatings
 mod Sending
 mod Taking
 mod Turning
+mod Beginning

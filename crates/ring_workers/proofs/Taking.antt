@@ -1,6 +1,6 @@
 -- A node is seated, or takes an envelope: what it sends joins the outbox.
 use Rattle.std.proofs.Common.{◌≡◌, ◌+◌, ◌<◌, ◌≤◌, ℕ, zero, suc, List, [], ◌∷◌, ◌++◌, length, set, take, Option, Some, None, slice_get, refl, sym, ap, ◌∙◌, subst, inl, inr, ◌⊎◌, arith, append_assoc, nat_lt}
-use Rattle.std.specs.Prelude.{option_map}
+use Rattle.std.specs.Prelude.{option_map, Result, Ok, Err, OnOk}
 use Rattle.std.proofs.lemmas.List.{append-nil, take-append-le}
 use Rattle.std.proofs.lemmas.Option.{none-some, slice_get_past, slice_get_within}
 use Rattle.ring_id.specs.declared.side.Side.{Side}
@@ -9,14 +9,18 @@ use Rattle.ring_id.specs.Sides.{other}
 use Rattle.ring_election.specs.Tables.{Table}
 use Rattle.ring_node.specs.declared.packet.Packet.{Packet}
 use Rattle.ring_node.specs.Envelopes.{Sent, index_after}
-use Rattle.ring_node.specs.Nodes.{Extends, Gains, IsForNode, IsNext, Seated, envelope_of, receiving, sent_of, taken_of}
-use Rattle.ring_workers.specs.Goings.{Goes, Grows, HasReceived, HasTakenOver, IsSent}
+use Rattle.ring_node.specs.Nodes.{Extends, Gains, IsForNode, IsNext, Seated, envelope_of, member_of, receiving, sent_of, taken_of}
+use Rattle.ring_workers.specs.Goings.{Goes, Grows, HandsTo, HasReceived, HasTakenOver, IsSent}
+use Rattle.ring_workers.specs.Owners.{owner_of}
+use Rattle.ring_node.specs.declared.charter.Charter.{Charter}
+use Rattle.ring_node.specs.declared.fault.TakeFault.{TakeFault}
+use Rattle.ring_node.specs.Reports.{Told}
 use Rattle.ring_workers.specs.Lists.{IsOneOf}
 use Rattle.ring_workers.specs.Posts.{Posts}
 use Rattle.ring_workers.proofs.Among.{among_none, among_first, among_one, among_left, among_right}
 use Rattle.ring_workers.proofs.Goings.{goes_among, goes_none, received_among}
 use Rattle.ring_workers.proofs.Seatings.{seated_in-append, split_at}
-use Rattle.ring_workers.specs.Seatings.{seated_in}
+use Rattle.ring_workers.specs.Seatings.{IsPlaced, seated_in}
 
 -- what stands in a list stands there when the list is longer
 get_before : {A : Type 0} (xs ys : List A) (k : ℕ) → k < length xs → slice_get (xs ++ ys) k ≡ slice_get xs k
@@ -185,3 +189,36 @@ module _ {E S M : Type 0} (t : E → Table S M) where
       let s = split_at places place (Some old) there in
       let after : seated_in (set places place (Some new)) ≡ seated_in s.before ++ ((new ∷ []) ++ seated_in s.after) = ap seated_in (s.written (Some new)) ∙ seated_around s.before s.after new in
       subst (λ l. HasReceived l envelope) (sym after) (received_among (seated_in s.before) (new ∷ []) (seated_in s.after) envelope (received_hand t old new envelope u w taken gains))
+
+module _ {E S M : Type 0} (t : E → Table S M) (places : List (Option (Seated E M))) (place : ℕ) (old new : Seated E M) (there : slice_get places place ≡ Some (Some old))
+    (envelope : Sent E M) (u w : List (Sent E M)) where
+  -- what was written back changes nothing
+  written_back : new ≡ old → set places place (Some new) ≡ places
+  written_back same =
+      let s = split_at places place (Some old) there in
+      ap (λ n. set places place (Some n)) same ∙ s.written (Some old) ∙ sym s.whole
+
+  -- the node at a place is handed an envelope, which it takes or not
+  pub goes_handed : (result : Result (Option (Told E)) (TakeFault × Sent E M)) → HandsTo t old envelope result new u w → OnOk result (Gains t old (other envelope.side) envelope.packet new)
+      → Goes t (seated_in places) (seated_in (set places place (Some new))) u w
+  goes_handed (Ok report) handed gains = goes_taken t places place old new envelope u w there handed gains
+  goes_handed (Err fault) handed gains = goes_still t (seated_in places) (seated_in (set places place (Some new))) u w (ap seated_in (written_back handed.1)) handed.2
+
+  -- the envelope is a receipt where it was taken
+  pub received_handed : (result : Result (Option (Told E)) (TakeFault × Sent E M)) → HandsTo t old envelope result new u w → OnOk result (Gains t old (other envelope.side) envelope.packet new)
+      → OnOk result (HasReceived (seated_in (set places place (Some new))) envelope)
+  received_handed (Ok report) handed gains = received_taken t places place old new envelope u w there handed gains
+  received_handed (Err fault) handed gains = tt
+
+  -- the node stays at its place
+  pub placed_handed : (result : Result (Option (Told E)) (TakeFault × Sent E M)) → HandsTo t old envelope result new u w
+      → (number workers : ℕ) (charter : Charter E) → IsPlaced number workers charter place old → IsPlaced number workers charter place new
+  placed_handed (Ok report) handed number workers charter placed =
+      let charter_is = ap (λ n. n.charter) handed.journal in
+      let position_is = ap (λ n. n.position) handed.journal in
+      record {
+        charter_is = charter_is ∙ placed.charter_is;
+        position_is = position_is ∙ placed.position_is;
+        owned = ap (λ n. owner_of workers (member_of n)) handed.journal ∙ placed.owned;
+      }
+  placed_handed (Err fault) handed number workers charter placed = subst (λ n. IsPlaced number workers charter place n) (sym handed.1) placed
