@@ -7,3 +7,5 @@ mod gates;
 mod one_worker;
 #[cfg(test)]
 mod rings;
+#[cfg(test)]
+mod two_workers;
