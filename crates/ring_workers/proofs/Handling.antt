@@ -1,0 +1,83 @@
+-- Handling: what a worker has in hand before and after one item.
+use Rattle.std.proofs.Common.{◌≡◌, ◌≤◌, ℕ, List, [], ◌∷◌, ◌++◌, Option, Some, None, refl, sym, ap, ◌∙◌, subst, inl, inr, ◌⊎◌, arith}
+use Rattle.std.proofs.lemmas.List.{append-nil}
+use Rattle.ring_election.specs.Tables.{Table}
+use Rattle.ring_inbox.specs.Values.{ReceiverLog, SenderLog}
+use Rattle.ring_node.specs.declared.charter.Charter.{Charter}
+use Rattle.ring_node.specs.Envelopes.{Sent}
+use Rattle.ring_node.specs.Nodes.{Seated}
+use Rattle.ring_workers.specs.declared.handed.Handed.{Handed}
+use Rattle.ring_workers.specs.declared.item.Item.{Item}
+use Rattle.ring_workers.specs.declared.item.Item.TheVariants.{Begin, Packet, Stop}
+use Rattle.ring_workers.specs.Fates.{IsBegun, IsDelivered}
+use Rattle.ring_workers.specs.Goings.{Grows, HasReceived}
+use Rattle.ring_workers.specs.Handed.{Hands}
+use Rattle.ring_workers.specs.Holdings.{AllOwned, AllSeated, Holding, IsOlder, NoTwoAlike, Steps, charters_of, nodes_of}
+use Rattle.ring_workers.specs.Runs.{Ran, Turns}
+use Rattle.ring_workers.specs.Sends.{Sends}
+use Rattle.ring_workers.proofs.Turning.{ran_send}
+
+-- nothing changes
+pub steps_none : {E S M : Type 0} (t : E → Table S M) (charter : Charter E) (holding : Holding E M) (waiting : List (Sent E M)) → Steps t charter holding holding waiting waiting
+steps_none t charter holding waiting = record {
+  number_is = refl;
+  workers_is = refl;
+  more = [];
+  behind = sym (append-nil waiting);
+  stays = λ node there _. (node, there, record { more = []; charter_is = refl; position_is = refl; journal_is = sym (append-nil node.journal) });
+  posted = λ node there e sent. inl (node, there, sent);
+  source = λ c there. inl there;
+}
+
+-- the item is in hand still
+pub turns_held : {E S M : Type 0} (t : E → Table S M) (item : Item E M S) (holding : Holding E M) (waiting : List (Sent E M)) (dropped : ℕ)
+    → Turns t item holding holding waiting waiting dropped dropped (Some item)
+turns_held t (Begin b) holding waiting dropped = record { steps = steps_none t b.value holding waiting; grows = omega arith; end = inl refl }
+turns_held t (Packet e) holding waiting dropped = record { steps = steps_none t e.charter holding waiting; grows = omega arith; end = inl refl }
+turns_held t Stop holding waiting dropped = record { steps = (refl, refl); grows = omega arith; end = inl refl }
+
+-- a charter has begun: so it is said of the item
+pub begun_handled : {E M : Type 0} (old new : Holding E M) (dropped : ℕ) (charter : Charter E) → IsBegun old new dropped charter
+    → dropped ≡ 0 → (c : Charter E) → Some charter ≡ Some c → IsOlder (charters_of old) c ⊎ AllSeated new.number new.workers (nodes_of new) charter
+begun_handled old new dropped charter begun none c is =
+    let same : charter ≡ c = cc in
+    elim (begun none) [
+      | inl older ↦ inl (subst (λ (d : Charter _). IsOlder (charters_of old) d) same older)
+      | inr seated ↦ inr seated
+    ]
+
+-- an envelope was delivered: so it is said of the item
+pub delivered_handled : {E M : Type 0} (old new : Holding E M) (dropped : ℕ) (envelope : Sent E M) → IsDelivered old new dropped envelope
+    → dropped ≡ 0 → (c : Charter E) → Some envelope.charter ≡ Some c → IsOlder (charters_of old) c ⊎ HasReceived (nodes_of new) envelope
+delivered_handled old new dropped envelope delivered none c is =
+    let same : envelope.charter ≡ c = cc in
+    elim (delivered none) [
+      | inl older ↦ inl (subst (λ (d : Charter _). IsOlder (charters_of old) d) same older)
+      | inr received ↦ inr received
+    ]
+
+-- what waited was sent on, by an owner that counts as many workers
+pub ran_sent : {E S M : Type 0} (t : E → Table S M) (number workers counted : ℕ) (from to : ReceiverLog (Item E M S)) (old mid new : List (SenderLog (Item E M S)))
+    (holding : Holding E M) (outbox after : List (Sent E M)) (dropped : ℕ) (held : Option (Item E M S))
+    → Ran t number workers from to old mid holding outbox dropped held → counted ≡ holding.workers → Sends counted outbox after mid new
+    → Ran t number workers from to old new holding after dropped held
+ran_sent t number workers counted from to old mid new holding outbox after dropped held ran own sends =
+    ran_send t number workers from to old mid new holding outbox after dropped held ran
+    (subst (λ (w : ℕ). Sends w outbox after mid new) (own ∙ ran.workers_is) sends)
+
+-- what a worker hands over is what it has in hand
+pub hands_over : {E S M : Type 0} (t : E → Table S M) (number workers : ℕ) (from to : ReceiverLog (Item E M S)) (old new : List (SenderLog (Item E M S)))
+    (holding : Holding E M) (outbox : List (Sent E M)) (dropped : ℕ) (held : Option (Item E M S)) (handed : Handed E M S)
+    → Ran t number workers from to old new holding outbox dropped held
+    → handed.number ≡ holding.number → handed.workers ≡ holding.workers
+    → handed.nodes ≡ holding → handed.outbox.items ≡ outbox → handed.dropped ≡ dropped → handed.held ≡ held
+    → AllOwned holding.number holding.workers (nodes_of holding) → NoTwoAlike (nodes_of holding)
+    → Hands t number workers from to old new handed
+hands_over {E} {S} {M} t number workers from to old new holding outbox dropped held handed ran number_is workers_is nodes_is outbox_is dropped_is held_is owned apart = record {
+  number_is = number_is ∙ ran.number_is;
+  workers_is = workers_is ∙ ran.workers_is;
+  owned = subst (λ (h : Holding E M). AllOwned number workers (nodes_of h)) (sym nodes_is)
+      (subst (λ (n : ℕ). AllOwned n workers (nodes_of holding)) ran.number_is (subst (λ (w : ℕ). AllOwned holding.number w (nodes_of holding)) ran.workers_is owned));
+  apart = subst (λ (h : Holding E M). NoTwoAlike (nodes_of h)) (sym nodes_is) apart;
+  ran = rw (nodes_is, outbox_is, dropped_is, held_is) ran;
+}

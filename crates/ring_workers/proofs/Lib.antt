@@ -1,0 +1,14 @@
+mod Among
+mod Goings
+mod Groups
+mod Growing
+mod Handling
+mod Holdings
+mod Moving
+mod Posting
+mod Running
+mod Seatings
+mod Sending
+mod Taking
+mod Turning
+mod Beginning

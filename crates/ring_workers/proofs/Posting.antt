@@ -1,0 +1,49 @@
+-- Posting: the envelopes from a place on join a list, one at a time.
+use Rattle.std.proofs.Common.{◌≡◌, ◌+◌, ◌<◌, ◌≤◌, ℕ, List, [], ◌∷◌, ◌++◌, Option, Some, None, refl, sym, ap, ◌∙◌, inl, inr, ◌⊎◌, append_assoc, length, slice_get, zero, suc, arith}
+use Rattle.std.specs.Prelude.{IsSome, option_map}
+use Rattle.std.proofs.lemmas.List.{append-nil}
+use Rattle.std.proofs.lemmas.Bool.{cases_eq, cases_lt}
+use Rattle.ring_workers.specs.Lists.{IsOneOf}
+use Rattle.ring_workers.specs.Posts.{Posted, Posts}
+use Rattle.ring_workers.proofs.Among.{among_last, among_left}
+
+-- none has joined
+pub posted_none : {A : Type 0} (envelope : ℕ → Option A) (from : ℕ) (old : List A) → Posted envelope from from old old
+posted_none envelope from old = record {
+  more = [];
+  behind = sym (append-nil old);
+  each = λ k e above below _. absurd (omega arith);
+}
+
+-- the next one has joined
+pub posted_next : {A : Type 0} (envelope : ℕ → Option A) (from to : ℕ) (old new : List A) (e : A)
+    → Posted envelope from to old new → envelope to ≡ Some e → Posted envelope from (to + 1) old (new ++ e ∷ [])
+posted_next {A} envelope from to old new e posted is = record {
+  more = posted.more ++ e ∷ [];
+  behind = ap (λ l. l ++ e ∷ []) posted.behind ∙ append_assoc old posted.more (e ∷ []);
+  each = λ k d above below there. elim (cases_eq k to) [
+    | inl same ↦
+        let at : envelope to ≡ Some d = ap envelope (sym same) ∙ there in
+        let one : e ≡ d = cc in
+        rw (← one) (among_last posted.more e)
+    | inr differ ↦ among_left posted.more (e ∷ []) d (posted.each k d above (omega arith) there)
+  ];
+}
+
+-- all have joined
+pub posts_all : {A : Type 0} (envelope : ℕ → Option A) (from to : ℕ) (old new : List A)
+    → Posted envelope from to old new → ((k : ℕ) → to ≤ k → envelope k ≡ None) → Posts envelope from old new
+posts_all envelope from to old new posted none = record {
+  more = posted.more;
+  behind = posted.behind;
+  each = λ k e above there. elim (cases_lt k to) [
+    | inl below ↦ posted.each k e above below there
+    | inr past ↦ let no : None ≡ Some e = sym (none k past) ∙ there in cc
+  ];
+}
+
+-- within a list there is an element, and what it is mapped to
+pub mapped_within : {A B : Type 0} (f : A → B) (xs : List A) (k : ℕ) → k < length xs → IsSome (option_map f (slice_get xs k))
+mapped_within f [] k within = absurd (omega arith)
+mapped_within f (x ∷ xs) zero within = refl
+mapped_within f (x ∷ xs) (suc k) within = mapped_within f xs k (omega arith)

@@ -1,0 +1,41 @@
+-- Position after position, the nodes that the owner owns are seated.
+use Rattle.std.proofs.Common.{◌≡◌, ◌+◌, ◌≤◌, length, sym, ap, ◌∙◌, subst, arith}
+use Rattle.ring_workers.specs.Seatings.{IsSeating, seated_in}
+use Rattle.ring_workers.proofs.Beginning.{SeatedSoFar, so_far_all, so_far_first, so_far_seated, so_far_skipped}
+use Rattle.ring_workers.proofs.Goings.{goes_none, goes_on}
+use Rattle.ring_workers.proofs.Taking.{goes_still}
+use Rattle.ring_workers.proofs.seats.Seats.begin.Goals.{then-is_free+in_ok-seat, else-is_free}
+use Rattle.ring_workers.proofs.seats.Seats.begin.Goals as goal
+
+pub returns-then-not-same-clause-goes : goal.returns-then-not-same-clause-goes
+returns-then-not-same-clause-goes g c = goes_none g.E.RingElection.table (seated_in c.args.self.now.places) c.args.outbox.now.items
+
+pub returns-in_err-find_room-clause-goes : goal.returns-in_err-find_room-clause-goes
+returns-in_err-find_room-clause-goes g c = goes_still g.E.RingElection.table _ _ _ _ (ap (λ s. seated_in s.places) c.self.view_is) c.find_room.ensures.outbox
+
+pub loop-position-init : goal.loop-position-init
+loop-position-init g c = so_far_first g.E.RingElection.table c.args.self.now _ _ _ c.self.view_is c.find_room.ensures.outbox c.self.invariant.0
+
+pub returns-in_err-seat-clause-goes : goal.returns-in_err-seat-clause-goes
+returns-in_err-seat-clause-goes g c = goes_on g.E.RingElection.table _ _ _ _ _ _ c.loop-position.invariant.goes c.seat.ensures.goes
+
+pub loop-position-preserved : goal.loop-position-preserved
+loop-position-preserved g c =
+    elim c.if-is_free.branch [
+      | then-is_free+in_ok-seat w ↦
+          rw (w.self-is, w.outbox-is)
+          (so_far_seated g.E.RingElection.table c.args.self.now c.loop-position.self w.seat.new.self c.args.outbox.now.items c.loop-position.outbox.items w.seat.new.outbox.items c.loop-position.position
+          c.loop-position.invariant w.seat.ensures.term w.seat.ensures.kept w.seat.ensures.goes w.in_ok-seat.ensures.seated)
+      | else-is_free w ↦
+          rw (w.self-is, w.outbox-is)
+          (so_far_skipped g.E.RingElection.table c.args.self.now c.loop-position.self c.args.outbox.now.items c.loop-position.outbox.items c.loop-position.position c.loop-position.invariant w.if-is_free.ensures)
+    ]
+
+pub returns-clause-seated : goal.returns-clause-seated
+returns-clause-seated g c =
+    let own = ap (λ s. s.charter) (sym c.self.view_is) ∙ sym c.deref.ensures ∙ c.same.ensures.0 c.if-not-same.false in
+    let inside = ap (λ s. length s.charter.roster) c.self.view_is in
+    let later = ap (λ ch. length ch.roster) c.loop-position.invariant.term.charter_is in
+    let end : length c.loop-position.self.charter.roster ≤ c.loop-position.position = omega (arith, c.self.invariant.0.size, inside, later, c.loop-position-test.false, c.len-position-end.ensures, c.self.inside.places.ok) in
+    λ _. so_far_all g.E.RingElection.table c.args.self.now c.loop-position.self c.args.outbox.now.items c.loop-position.outbox.items c.loop-position.position c.args.charter.now c.loop-position.invariant end
+    (c.loop-position.invariant.term.charter_is ∙ own)

@@ -1,0 +1,26 @@
+-- The node at a position is seated, or was.
+use Rattle.std.proofs.Common.{◌≡◌, ◌<◌, length, sym, ap, ◌∙◌, subst}
+use Rattle.std.specs.Prelude.{slice_index}
+use Rattle.ring_workers.specs.Owners.{owner_of}
+use Rattle.ring_workers.specs.Seatings.{IsSeating, seated_in}
+use Rattle.ring_workers.proofs.Goings.{goes_none}
+use Rattle.ring_workers.proofs.Seatings.{empty_there}
+use Rattle.ring_workers.proofs.seats.Seats.make_seat.Goals as goal
+
+pub returns-then-is_seated-clause-goes : goal.returns-then-is_seated-clause-goes
+returns-then-is_seated-clause-goes g c = goes_none g.E.RingElection.table (seated_in c.args.self.now.places) c.args.outbox.now.items
+
+pub returns-then-not-same-clause-goes : goal.returns-then-not-same-clause-goes
+returns-then-not-same-clause-goes g c = goes_none g.E.RingElection.table (seated_in c.args.self.now.places) c.args.outbox.now.items
+
+pub seat_for_receipt-requires-clause-empty : goal.seat_for_receipt-requires-clause-empty
+seat_for_receipt-requires-clause-empty g c =
+    let seats = subst (λ s. IsSeating s.number s.workers s.charter s.places) c.self.view_is c.self.invariant.0 in
+    let own = ap (λ s. s.charter) (sym c.self.view_is) ∙ sym c.deref.ensures ∙ c.same.ensures.0 c.if-not-same.false in
+    empty_there c.args.self.now.number c.args.self.now.workers c.args.self.now.charter c.args.self.now.places c.args.position seats
+    (subst (λ ch. c.args.position < length ch.roster) (sym own) c.requires.inside) c.if-is_seated.ensures
+
+pub seat_for_receipt-requires-clause-owned : goal.seat_for_receipt-requires-clause-owned
+seat_for_receipt-requires-clause-owned g c =
+    let own = ap (λ s. s.charter) (sym c.self.view_is) ∙ sym c.deref.ensures ∙ c.same.ensures.0 c.if-not-same.false in
+    subst (λ ch. owner_of c.args.self.now.workers (slice_index ch.roster c.args.position) ≡ c.args.self.now.number) (sym own) c.requires.owned

@@ -1,0 +1,46 @@
+-- A node is seated at its own place, and what it sends has joined the outbox.
+use Rattle.std.proofs.Common.{◌≡◌, ◌<◌, ℕ, length, Some, None, slice_get, set, sym, ap, ◌∙◌, subst, arith}
+use Rattle.std.specs.Prelude.{slice_index}
+use Rattle.ring_workers.specs.Goings.{Goes}
+use Rattle.ring_workers.specs.Owners.{owner_of}
+use Rattle.ring_workers.specs.Seatings.{HasNodeAt, IsPlaced, IsSeating, seated_in}
+use Rattle.ring_workers.proofs.Seatings.{node_there, seating_set}
+use Rattle.ring_workers.proofs.Taking.{get_set-same, goes_seated, goes_still}
+use Rattle.ring_workers.proofs.seats.Seats.seat.Goals as goal
+
+pub returns-in_err-find_room-clause-goes : goal.returns-in_err-find_room-clause-goes
+returns-in_err-find_room-clause-goes g c = goes_still g.E.RingElection.table _ _ _ _ (ap (λ s. seated_in s.places) c.self.view_is) c.find_room.ensures.outbox
+
+pub returns-in_err-copy-clause-goes : goal.returns-in_err-copy-clause-goes
+returns-in_err-copy-clause-goes g c = goes_still g.E.RingElection.table _ _ _ _ (ap (λ s. seated_in s.places) c.self.view_is) c.find_room.ensures.outbox
+
+pub returns-in_err-node-clause-goes : goal.returns-in_err-node-clause-goes
+returns-in_err-node-clause-goes g c = goes_still g.E.RingElection.table _ _ _ _ (ap (λ s. seated_in s.places) c.self.view_is) c.find_room.ensures.outbox
+
+pub returns-clause-kept : goal.returns-clause-kept
+returns-clause-kept g c =
+    let charter_is = ap (λ n. n.charter) c.in_ok-node.ensures.node ∙ c.in_ok-copy.ensures in
+    let position_is = ap (λ n. n.position) c.in_ok-node.ensures.node in
+    let owned = subst (λ s. owner_of s.workers (slice_index s.charter.roster c.args.position) ≡ s.number) (sym c.self.view_is) c.requires.owned in
+    let member = ap (λ ch. slice_index ch.roster c.in_ok-node.node.position) charter_is ∙ ap (slice_index c.self.inside.charter.value.roster) position_is in
+    seating_set c.self.inside.owner.number c.self.inside.owner.workers c.self.inside.charter.value c.self.inside.places.items c.args.position c.in_ok-node.node c.self.invariant.0
+    (record { charter_is = charter_is; position_is = position_is; owned = ap (owner_of c.self.inside.owner.workers) member ∙ owned })
+
+pub invariant_of-self-2 : goal.invariant_of-self-2
+invariant_of-self-2 g c =
+    let charter_is = ap (λ n. n.charter) c.in_ok-node.ensures.node ∙ c.in_ok-copy.ensures in
+    (returns-clause-kept g c, λ k d h. c.post-2.ensures.copies k d h ∙ charter_is)
+
+pub returns-clause-goes : goal.returns-clause-goes
+returns-clause-goes g c =
+    let empty = ap (λ s. slice_get s.places c.args.position) c.self.view_is ∙ c.requires.empty in
+    subst (λ s. Goes g.E.RingElection.table (seated_in s.places) (seated_in (set c.self.inside.places.items c.args.position (Some c.in_ok-node.node))) c.args.outbox.now.items c.post-2.new.outbox.items) c.self.view_is
+    (subst (λ u. Goes g.E.RingElection.table (seated_in c.self.inside.places.items) (seated_in (set c.self.inside.places.items c.args.position (Some c.in_ok-node.node))) u c.post-2.new.outbox.items) c.find_room.ensures.outbox
+    (goes_seated g.E.RingElection.table c.self.inside.places.items c.args.position c.in_ok-node.node c.find_room.new.outbox.items c.post.new.outbox.items c.post-2.new.outbox.items empty c.post.ensures.posts c.post-2.ensures.posts))
+
+pub returns-clause-seated : goal.returns-clause-seated
+returns-clause-seated g c =
+    let inside = subst (λ s. c.args.position < length s.charter.roster) (sym c.self.view_is) c.requires.inside in
+    let within : c.args.position < length c.self.inside.places.items = omega (arith, c.self.invariant.0.size, inside) in
+    node_there c.self.inside.owner.number c.self.inside.owner.workers c.self.inside.charter.value (set c.self.inside.places.items c.args.position (Some c.in_ok-node.node)) c.args.position c.in_ok-node.node
+    (returns-clause-kept g c) (get_set-same c.self.inside.places.items c.args.position (Some c.in_ok-node.node) within)

@@ -1,0 +1,10 @@
+pub mod Fates
+pub mod Goings
+pub mod Handed
+pub mod Holdings
+pub mod Lists
+pub mod Owners
+pub mod Posts
+pub mod Runs
+pub mod Seatings
+pub mod Sends

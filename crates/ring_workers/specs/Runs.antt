@@ -1,0 +1,86 @@
+-- Runs: what a worker did with the items that it took.
+use Rattle.std.specs.Prelude.{◌≡◌, ◌≤◌, ◌⊎◌, ℕ, List, [], ◌∷◌, ◌++◌, map, Option, None, Some, option_to_list}
+use Rattle.ring_election.specs.Tables.{Table}
+use Rattle.ring_inbox.specs.Values.{ReceiverLog, SenderLog}
+use Rattle.ring_node.specs.declared.charter.Charter.{Charter}
+use Rattle.ring_node.specs.Envelopes.{Sent}
+use Rattle.ring_node.specs.Nodes.{Seated}
+use Rattle.ring_workers.specs.declared.handed.Why.{Why}
+use Rattle.ring_workers.specs.declared.item.Item.{Item}
+use Rattle.ring_workers.specs.declared.item.Item.TheVariants.{Begin, Packet, Stop}
+use Rattle.ring_workers.specs.declared.run.Next.{Next}
+use Rattle.ring_workers.specs.declared.run.Next.TheVariants as next
+use Rattle.ring_workers.specs.Goings.{HasReceived, IsSent}
+use Rattle.ring_workers.specs.Holdings.{AllSeated, Holding, IsOlder, Steps, charters_of, nodes_of}
+use Rattle.ring_workers.specs.Lists.{IsOneOf}
+use Rattle.ring_workers.specs.Sends.{IsPosted, Stored}
+
+module _ {E M S : Type 0} where
+  -- the charter that an item is of, if it is of one
+  abbrev pub charter_of : Item E M S → Option (Charter E)
+  charter_of (Begin c) = Some c.value
+  charter_of (Packet e) = Some e.charter
+  charter_of Stop = None
+
+  -- the item is done among these nodes: of a charter that begins each node that the worker owns is there, and an
+  -- envelope is a receipt of the node to which its link leads
+  abbrev pub IsDone : ℕ → ℕ → List (Seated E M) → Item E M S → Type 0
+  IsDone number workers nodes (Begin c) = AllSeated number workers nodes c.value
+  IsDone number workers nodes (Packet e) = HasReceived nodes e
+  IsDone number workers nodes Stop = Unit {0}
+
+  -- all items of the charter's group are of its term
+  pub record OneTerm (items : List (Item E M S)) (charter : Charter E) : Type 0 where
+    pub each : (item : Item E M S) (c : Charter E) → IsOneOf items item → charter_of item ≡ Some c → c.group ≡ charter.group → c.term ≡ charter.term
+
+  -- where nothing was dropped and the items of a group that were taken are of one term, each of them that was handled
+  -- is done
+  pub record AllDone (number workers : ℕ) (nodes : List (Seated E M)) (dropped : ℕ) (taken handled : List (Item E M S)) : Type 0 where
+    pub each : dropped ≡ 0 → (item : Item E M S) (c : Charter E) → IsOneOf handled item → charter_of item ≡ Some c → OneTerm taken c → IsDone number workers nodes item
+
+  -- an item that comes is taken; else nothing changes
+  abbrev pub Gives : ReceiverLog (Item E M S) → Next E M S → ReceiverLog (Item E M S) → Type 0
+  Gives old (next.Item item) new = (sender : ℕ) × (new ≡ record old { taken = old.taken ++ (sender, item) ∷ [] })
+  Gives old next.Nothing new = new ≡ old
+  Gives old next.Closed new = new ≡ old
+
+  -- the item that a worker has in hand where it ends
+  abbrev pub held_of : Option (Why × Option (Item E M S)) → Option (Item E M S)
+  held_of None = None
+  held_of (Some end) = end.1
+
+  -- where nothing was dropped, the item was of an older term, or it is done
+  abbrev pub IsHandled : Holding E M → Holding E M → ℕ → Item E M S → Type 0
+  IsHandled old new dropped item = dropped ≡ 0 → (c : Charter E) → charter_of item ≡ Some c → IsOlder (charters_of old) c ⊎ IsDone new.number new.workers (nodes_of new) item
+
+  module _ (t : E → Table S M) where
+    -- what an item does to the nodes and the outbox
+    abbrev pub StepsFor : Item E M S → Holding E M → Holding E M → List (Sent E M) → List (Sent E M) → Type 0
+    StepsFor (Begin c) old new waiting after = Steps t c.value old new waiting after
+    StepsFor (Packet e) old new waiting after = Steps t e.charter old new waiting after
+    StepsFor Stop old new waiting after = (new ≡ old) × (after ≡ waiting)
+
+    -- one turn of a worker: the item does what it does, what was dropped is counted, and the item is in hand still, or
+    -- it was handled
+    pub record Turns (item : Item E M S) (old new : Holding E M) (waiting after : List (Sent E M)) (before dropped : ℕ) (held : Option (Item E M S)) : Type 0 where
+      pub steps : StepsFor item old new waiting after
+      pub grows : before ≤ dropped
+      pub end : (held ≡ Some item) ⊎ ((held ≡ None) × IsHandled old new dropped item)
+
+    -- What a worker of this number has done since its receiver's pass was `from` and its senders' passes were `old`:
+    -- what it took, handled and has in hand; each packet that a node of it has sent waits or was stored; what was
+    -- handled is done; and it holds charters of groups and terms of items alone.
+    pub record Ran (number workers : ℕ) (from to : ReceiverLog (Item E M S)) (old new : List (SenderLog (Item E M S)))
+        (holding : Holding E M) (outbox : List (Sent E M)) (dropped : ℕ) (held : Option (Item E M S)) : Type 0 where
+      pub number_is : holding.number ≡ number
+      pub workers_is : holding.workers ≡ workers
+      pub taken : List (ℕ × Item E M S)
+      pub took : to ≡ record from { taken = from.taken ++ taken }
+      pub handled : List (Item E M S)
+      pub rest : map (λ pair. pair.1) taken ≡ handled ++ option_to_list held
+      pub stored : ℕ → List (Item E M S)
+      pub passes : Stored old new stored
+      pub posted : (node : Seated E M) → IsOneOf (nodes_of holding) node → (e : Sent E M) → IsSent t node e → IsPosted workers stored outbox e
+      pub done : AllDone number workers (nodes_of holding) dropped (map (λ pair. pair.1) taken) handled
+      pub source : (c : Charter E) → IsOneOf (charters_of holding) c →
+          (item : Item E M S) × (d : Charter E) × IsOneOf (map (λ pair. pair.1) taken) item × (charter_of item ≡ Some d) × (d.group ≡ c.group) × (d.term ≡ c.term)

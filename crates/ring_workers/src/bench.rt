@@ -1,0 +1,167 @@
+ghost use Rattle.std.specs.Prelude.{◌≡◌, ◌<◌, ◌≤◌, [], vec_capacity, vec_len, IfErr, OnOk};
+ghost use Rattle.ring_workers.specs.Fates.{IsBegun, IsDelivered};
+ghost use Rattle.ring_workers.specs.Holdings.{AllOwned, NoTwoAlike, Steps, nodes_of};
+ghost use Rattle.ring_workers.specs.Runs.{Turns, held_of};
+
+use crate::desk::{Desk, Filed};
+use crate::handed::{Handed, Why};
+use crate::item::Item;
+use crate::nodes::Nodes;
+use crate::outbox::receiver;
+use crate::owner::Worker;
+use crate::seats::Fate;
+use ring_election::RingElection;
+use ring_id::{NoMemory, Refusal};
+use ring_node::{Charter, Envelope, Report};
+use std::alloc::Global;
+use std::collections::VecDeque;
+use std::sync::Arc;
+
+/// All that a running worker has in hand.
+#[derive(Drop)]
+pub(crate) struct Bench<E: RingElection> {
+    alloc: Global,
+    pub(crate) nodes: Nodes<E>,
+    pub(crate) outbox: VecDeque<Envelope<E>>,
+    unfiled: Vec<Report<E>>,
+    dropped: u64,
+}
+
+impl<E: RingElection> Bench<E> {
+    /// What a worker has in hand before its first item: nothing.
+    pub fn new(worker: Worker<E>) -> Bench<E>
+        ensures nodes { result.nodes ≡ record { number = worker.owner.number; workers = worker.owner.workers; groups = [] } }
+        ensures outbox { result.outbox.items ≡ [] }
+        ensures dropped { result.dropped ≡ 0 }
+    {
+        let alloc = worker.alloc;
+        Bench {
+            alloc,
+            nodes: Nodes::new(alloc, worker.owner),
+            outbox: VecDeque::new(alloc),
+            unfiled: Vec::new(alloc),
+            dropped: 0,
+        }
+    }
+
+    /// Handles an item. The answer is there where the worker ends: why, and the item where it was refused
+    /// memory and so was not handled.
+    pub fn handle<D: Desk<E>>(
+        &mut self,
+        item: Item<E>,
+        desk: &mut D,
+    ) -> Option<(Why, Option<Item<E>>)>
+        ensures { Turns E.table item self.old.nodes self.new.nodes self.old.outbox.items self.new.outbox.items self.old.dropped self.new.dropped (held_of result) }
+    {
+        match item {
+            Item::Stop => Some((Why::Stopped, None)),
+            Item::Begin(charter) => match self.begin(&charter) {
+                Ok(()) => None,
+                Err(NoMemory) => Some((Why::Starved, Some(Item::Begin(charter)))),
+            },
+            Item::Packet(envelope) => match self.deliver(envelope, desk) {
+                Ok(None) => None,
+                Ok(Some(why)) => Some((why, None)),
+                Err(back) => Some((Why::Starved, Some(Item::Packet(back)))),
+            },
+        }
+    }
+
+    /// Begins the term of a charter. Another charter of the group and term that is held is dropped, and
+    /// counted.
+    fn begin(&mut self, charter: &Arc<Charter<E>>) -> Result<(), NoMemory>
+        ensures steps { Steps E.table charter.now.value self.old.nodes self.new.nodes self.old.outbox.items self.new.outbox.items }
+        ensures grows { self.old.dropped ≤ self.new.dropped }
+        ensures begun { OnOk result (IsBegun self.old.nodes self.new.nodes self.new.dropped charter.now.value) }
+    {
+        match self.nodes.begin(self.alloc, charter, &mut self.outbox)? {
+            Fate::Done | Fate::Older => {}
+            Fate::Strange => self.dropped = self.dropped.saturating_add(1),
+        }
+        Ok(())
+    }
+
+    /// Delivers an envelope and files the report that comes of it. An envelope for a node of another
+    /// worker is dropped and counted, as is one that its node does not take. The answer is there where the
+    /// worker ends. Refused for want of memory, the envelope comes back.
+    fn deliver<D: Desk<E>>(
+        &mut self,
+        envelope: Envelope<E>,
+        desk: &mut D,
+    ) -> Result<Option<Why>, Envelope<E>>
+        ensures steps { Steps E.table envelope.charter self.old.nodes self.new.nodes self.old.outbox.items self.new.outbox.items }
+        ensures grows { self.old.dropped ≤ self.new.dropped }
+        ensures delivered { OnOk result (IsDelivered self.old.nodes self.new.nodes self.new.dropped envelope) }
+        ensures back { IfErr result (λ back. back ≡ envelope) }
+    {
+        let owner = self.nodes.owner();
+        if owner.of(receiver(&envelope)) != owner.number {
+            self.dropped = self.dropped.saturating_add(1);
+            return Ok(None);
+        }
+        if self.unfiled.reserve(1).is_err() {
+            return Err(envelope);
+        }
+        let (fate, report) = self
+            .nodes
+            .hand_over(self.alloc, envelope, &mut self.outbox)?;
+        match fate {
+            Fate::Done | Fate::Older => {}
+            Fate::Strange => self.dropped = self.dropped.saturating_add(1),
+        }
+        match report {
+            Some(report) => Ok(file(&mut self.unfiled, report, desk)),
+            None => Ok(None),
+        }
+    }
+
+    /// What a worker hands over when it ends.
+    pub fn hand_back(self, held: Option<Item<E>>, why: Why) -> Handed<E>
+        ensures number { result.number ≡ self.nodes.number }
+        ensures workers { result.workers ≡ self.nodes.workers }
+        ensures nodes { result.nodes ≡ self.nodes }
+        ensures outbox { result.outbox ≡ self.outbox }
+        ensures dropped { result.dropped ≡ self.dropped }
+        ensures held { result.held ≡ held }
+        ensures owned { AllOwned self.nodes.number self.nodes.workers (nodes_of self.nodes) }
+        ensures apart { NoTwoAlike (nodes_of self.nodes) }
+    {
+        let owner = self.nodes.owner();
+        let Bench {
+            alloc: _,
+            nodes,
+            outbox,
+            unfiled,
+            dropped,
+        } = self;
+        Handed {
+            number: owner.number,
+            workers: owner.workers,
+            nodes,
+            outbox,
+            held,
+            unfiled,
+            dropped,
+            why,
+        }
+    }
+}
+
+/// Files a report. One that the desk refuses is kept, for which there is room; the worker ends where the
+/// desk's turns are used up.
+fn file<E: RingElection, D: Desk<E>>(
+    unfiled: &mut Vec<Report<E>>,
+    report: Report<E>,
+    desk: &mut D,
+) -> Option<Why>
+    requires { vec_len unfiled.old < vec_capacity unfiled.old }
+{
+    let Filed::Refused(refusal) = desk.report(&report) else {
+        return None;
+    };
+    unfiled.push_reserved(report);
+    match refusal {
+        Refusal::SeatSpent => Some(Why::Spent),
+        _ => None,
+    }
+}

@@ -1,0 +1,129 @@
+ghost use Rattle.std.specs.Prelude.{◌≡◌, vec_len};
+ghost use Rattle.ring_workers.specs.Handed.{Hands};
+ghost use Rattle.ring_workers.specs.Runs.{Gives, Turns, held_of};
+
+use crate::bench::Bench;
+use crate::desk::Desk;
+use crate::gate::{Gate, Pass};
+use crate::handed::{Handed, Why};
+use crate::item::Item;
+use crate::outbox::send;
+use crate::owner::Worker;
+use ring_election::RingElection;
+use ring_inbox::{ReceiverPass, SenderPass, Take, TryTake};
+use std::sync::Wait;
+use std::thread;
+use std::time::{Clock, Duration};
+
+/// How often an idle worker looks into its inbox before it sleeps between two looks.
+const LOOKS_BEFORE_SLEEP: u32 = 100;
+
+/// How long an idle worker sleeps between two looks, in milliseconds.
+const SLEEP_MILLIS: u64 = 1;
+
+/// What a look into the inbox brings.
+#[derive(Drop)]
+enum Next<E: RingElection> {
+    /// An item.
+    Item(Item<E>),
+    /// Nothing now.
+    Nothing,
+    /// Nothing any more.
+    Closed,
+}
+
+/// Runs a worker: it takes one item at a time from its inbox and handles it, and puts what its nodes send
+/// into the inboxes of the receivers' owners, its own among them; the pass at place v is used for worker v.
+/// It ends when it takes the word to stop, or when the inbox is closed, the gate halts it, memory is
+/// refused, or its desk has used up its turns. That it returns isn't claimed.
+///
+/// Where a packet cannot be stored it stays at the front of the outbox, and the worker goes on with its own
+/// inbox. With an empty outbox an idle worker waits in its inbox; else it looks again and again, and sleeps
+/// a millisecond between two looks after the first hundred.
+pub fn run_worker<E: RingElection, G: Gate, D: Desk<E> + Drop, R: Wait + Clock>(
+    rt: &R,
+    worker: Worker<E>,
+    receiver: &mut ReceiverPass<Item<E>>,
+    senders: &mut Vec<SenderPass<Item<E>>>,
+    gate: &G,
+    mut desk: D,
+) -> Handed<E>
+    requires { vec_len senders.old ≡ worker.owner.workers }
+    ensures { Hands E.table worker.owner.number worker.owner.workers receiver.old receiver.new senders.old.items senders.new.items result }
+{
+    let mut bench = Bench::new(worker);
+    let mut turn: u64 = 0;
+    let mut idle: u32 = 0;
+    for _ in rt.forever() {
+        let owner = bench.nodes.owner();
+        send(rt, &owner, &mut bench.outbox, senders);
+        let item = match next_item(rt, receiver, bench.outbox.is_empty()) {
+            Next::Item(item) => item,
+            Next::Nothing => {
+                idle = rest(rt, idle);
+                continue;
+            }
+            Next::Closed => return bench.hand_back(None, Why::Closed),
+        };
+        idle = 0;
+        turn = turn.saturating_add(1);
+        if let Some((why, held)) = handle_at(&mut bench, item, turn, gate, &mut desk) {
+            return bench.hand_back(held, why);
+        }
+    }
+    unreachable!()
+}
+
+/// Handles an item between the gate's two calls, unless the gate halts the worker. The answer is there
+/// where the worker ends: why, and the item where it was not handled.
+fn handle_at<E: RingElection, G: Gate, D: Desk<E>>(
+    bench: &mut Bench<E>,
+    item: Item<E>,
+    turn: u64,
+    gate: &G,
+    desk: &mut D,
+) -> Option<(Why, Option<Item<E>>)>
+    ensures { Turns E.table item bench.old.nodes bench.new.nodes bench.old.outbox.items bench.new.outbox.items bench.old.dropped bench.new.dropped (held_of result) }
+{
+    let number = bench.nodes.owner().number;
+    match gate.enter(number, turn) {
+        Pass::Halt => Some((Why::Halted, Some(item))),
+        Pass::Go => {
+            let ends = bench.handle(item, desk);
+            gate.leave(number, turn);
+            ends
+        }
+    }
+}
+
+/// The next item of the inbox. It waits for one only where it is told to.
+fn next_item<E: RingElection, R: Wait>(
+    rt: &R,
+    receiver: &mut ReceiverPass<Item<E>>,
+    waits: bool,
+) -> Next<E>
+    ensures { Gives receiver.old result receiver.new }
+{
+    if waits {
+        match receiver.take(rt) {
+            Take::Taken(_, item) => Next::Item(item),
+            Take::Closed => Next::Closed,
+        }
+    } else {
+        match receiver.try_take(rt) {
+            TryTake::Taken(_, item) => Next::Item(item),
+            TryTake::Empty => Next::Nothing,
+        }
+    }
+}
+
+/// Lets other threads run between two looks: it sleeps where there were many looks in vain. The answer is
+/// how many there were.
+fn rest<R: Clock>(rt: &R, idle: u32) -> u32 {
+    if idle < LOOKS_BEFORE_SLEEP {
+        thread::yield_now();
+        return idle.saturating_add(1);
+    }
+    thread::sleep(rt, Duration::from_millis(SLEEP_MILLIS));
+    idle
+}
