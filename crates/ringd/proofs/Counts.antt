@@ -3,7 +3,7 @@ use Rattle.std.proofs.Common.{◌≡◌, List, [], ◌∷◌, length, refl, ap, 
 use Rattle.std.specs.Prelude.{suc}
 use Rattle.toml.specs.View.{members_view}
 use Rattle.toml.specs.declared.value.Value.{Value}
-use Rattle.ringd.specs.Configs.{count}
+use Rattle.ringd.specs.Reading.{count}
 
 -- a table has as many keys as the map has entries
 pub count_view : (entries : List (String Global × Value)) → count (members_view entries) ≡ length entries

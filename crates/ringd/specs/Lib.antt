@@ -1,6 +1,6 @@
-pub mod Configs
-pub mod Doors
 pub mod Faults
-pub mod Files
 pub mod Listening
+pub mod Reading
+pub mod Run
+pub mod Running
 pub mod Words

@@ -2,7 +2,7 @@
 ghost use Rattle.std.specs.Prelude.{◌≡◌, ℕ, Err, IfNone, IfOk, IfSome, option_and_then};
 ghost use Rattle.toml.specs.Data.{as_integer, get_member};
 ghost use Rattle.toml.specs.View.{table_view};
-ghost use Rattle.ringd.specs.Configs.{Holds, IsConfigOf, Spells};
+ghost use Rattle.ringd.specs.Reading.{Holds, IsConfigOf, Spells};
 
 use crate::config::{Config, ConfigFault};
 use std::alloc::Global;

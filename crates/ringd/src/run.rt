@@ -1,14 +1,15 @@
 //! What the program does with the world: its standard streams, its file and its port.
-ghost use Rattle.std.specs.Prelude.{◌≡◌, ◌≤◌, IfOk, IfSome, length};
-ghost use Rattle.std.specs.Prelude.{IfErr};
-ghost use Rattle.ringd.specs.Files.{IsOfFile};
+ghost use Rattle.std.specs.Prelude.{◌≡◌, ◌≤◌, ◌++◌, ℕ, IfErr, IfOk, IfSome, MatchResult, length};
+ghost use Rattle.ring_lines.specs.Ends.{Wrote};
+ghost use Rattle.ringd.specs.Listening.{closed_line, listening_line};
+ghost use Rattle.ringd.specs.Run.{IsOfFile, RanAt, ServedAt};
 
 use crate::config::Config;
 use crate::fault::ProgramFault;
 use crate::listening::accept_loop;
 use crate::reading::read_config;
 use crate::running::{Limits, run_loop};
-use ring_lines::{FromRead, ToWrite};
+use ring_lines::{FromRead, Outlet, ToWrite};
 use std::alloc::Global;
 use std::fs::Files;
 use std::io::{ErrorKind, Read};
@@ -39,35 +40,31 @@ pub fn replay(rt: &(impl Input + Print + AllocGlobal)) -> Result<(), ProgramFaul
 ///
 /// Its faults, in this order: the file can't be read, is too long or spells no configuration; the port
 /// can't be listened on; and those of `accept_loop`.
-pub fn serve<R>(rt: &R, path: &str, connections: u32) -> Result<(), ProgramFault>
+pub fn serve<R, O>(rt: &R, path: &str, connections: u32, out: &mut O) -> Result<(), ProgramFault>
 where
     R: Files
-        + Print
         + AllocGlobal
         + Threads
         + Wait
         + Sync
         + Net<Stream = TcpStream, Listener = TcpListener>,
+    O: Outlet,
+    ensures { MatchResult result
+        (λ _. (port : ℕ) × Wrote O.write_gives out.old (listening_line port ++ closed_line connections) out.new)
+        (λ fault. (port : ℕ) × ServedAt O.write_gives out.old (listening_line port) (closed_line connections) fault out.new) }
 {
     let config = load(rt, path)?;
     let listener = listen(rt, config.port)?;
-    accept_loop(
-        rt,
-        listener,
-        &config,
-        connections,
-        &mut ToWrite(io::writer(rt)),
-    )
+    accept_loop(rt, listener, &config, connections, out)
 }
 
 /// Serves clients on 127.0.0.1 until the process is ended, at the port of the configuration in this file.
 ///
 /// Its faults, in this order: the file can't be read, is too long or spells no configuration; the port
 /// can't be listened on; and those of `run_loop`.
-pub fn run<R>(rt: &R, path: &str, limits: Limits) -> Result<(), ProgramFault>
+pub fn run<R, O>(rt: &R, path: &str, limits: Limits, out: &mut O) -> Result<(), ProgramFault>
 where
     R: Files
-        + Print
         + Eprint
         + Clock
         + AllocGlobal
@@ -75,10 +72,14 @@ where
         + Wait
         + Sync
         + Net<Stream = TcpStream, Listener = TcpListener>,
+    O: Outlet,
+    ensures { MatchResult result
+        (λ _. (port : ℕ) × Wrote O.write_gives out.old (listening_line port) out.new)
+        (λ fault. (port : ℕ) × RanAt O.write_gives out.old (listening_line port) fault out.new) }
 {
     let config = load(rt, path)?;
     let listener = listen(rt, config.port)?;
-    run_loop(rt, listener, &config, limits, &mut ToWrite(io::writer(rt)))
+    run_loop(rt, listener, &config, limits, out)
 }
 
 // Listens on this machine alone.

@@ -1,7 +1,7 @@
 //! Serves clients until the process is ended, so many at a time.
 ghost use Rattle.std.specs.Prelude.{◌≡◌, IfErr, MatchOption, MatchResult, false, true};
 ghost use Rattle.ring_lines.specs.Ends.{Wrote};
-ghost use Rattle.ringd.specs.Doors.{ToldFirst, next_number};
+ghost use Rattle.ringd.specs.Running.{FirstOrNone, next_number};
 ghost use Rattle.ringd.specs.Listening.{listening_line};
 
 use crate::config::Config;
@@ -58,7 +58,7 @@ where
     O: Outlet,
     ensures { MatchResult result
         (λ _. Wrote O.write_gives out.old (listening_line config.now.port) out.new)
-        (λ fault. ToldFirst O.write_gives out.old (listening_line config.now.port) fault out.new) }
+        (λ fault. FirstOrNone O.write_gives out.old (listening_line config.now.port) fault out.new) }
 {
     let alloc = rt.alloc();
     let listening = say_listening(alloc, config.port)?;
@@ -90,7 +90,7 @@ where
     O: Outlet,
     ensures { MatchResult result
         (λ _. Wrote O.write_gives out.old listening.now out.new)
-        (λ fault. ToldFirst O.write_gives out.old listening.now fault out.new) }
+        (λ fault. FirstOrNone O.write_gives out.old listening.now fault out.new) }
 {
     tell(out, listening)?;
     let door = Mutex::new(Door::new(listener));

@@ -10,8 +10,8 @@ next_number last = if last == 4294967295 then 1 else last + 1
 
 -- What was written where it could not begin: the first line or nothing where a thread could not be started, a
 -- front of the line at a failed write, and nothing where memory was refused. No other fault comes.
-abbrev pub ToldFirst : {V : Type 0} → (V → Writing → V → Type 0) → V → List ℕ → ProgramFault → V → Type 0
-ToldFirst gives from first Thread to = (to ≡ from) ⊎ Wrote gives from first to
-ToldFirst gives from first Write to = WroteFront gives from first to
-ToldFirst gives from first NoMemory to = to ≡ from
-ToldFirst gives from first _ to = ⊥
+abbrev pub FirstOrNone : {V : Type 0} → (V → Writing → V → Type 0) → V → List ℕ → ProgramFault → V → Type 0
+FirstOrNone gives from first Thread to = (to ≡ from) ⊎ Wrote gives from first to
+FirstOrNone gives from first Write to = WroteFront gives from first to
+FirstOrNone gives from first NoMemory to = to ≡ from
+FirstOrNone gives from first _ to = ⊥

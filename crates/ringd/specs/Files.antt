@@ -1,8 +1,0 @@
--- The faults of a configuration's file.
-use Rattle.std.specs.Prelude.{◌≡◌, ◌⊎◌}
-use Rattle.ringd.specs.declared.fault.ProgramFault.{ProgramFault}
-use Rattle.ringd.specs.declared.fault.ProgramFault.TheVariants.{Bad, NoMemory, Unreadable}
-
--- it can't be read or is too long, it spells no configuration, or memory was refused
-abbrev pub IsOfFile : ProgramFault → Type 0
-IsOfFile fault = (fault ≡ Unreadable) ⊎ (fault ≡ Bad) ⊎ (fault ≡ NoMemory)
