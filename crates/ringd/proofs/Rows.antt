@@ -1,6 +1,6 @@
 -- What the rows of a level say of its arguments, where the words have no mistake: the first value of an
 -- argument is one that it takes.
-use Rattle.std.proofs.Common.{◌≡◌, ◌∙◌, ◌&&◌, ◌||◌, Bool, ℕ, cond, true, false, not, refl, sym, ap, subst, List, [], ◌∷◌, ◌++◌, length, Option, Some, None, fold, true≢false}
+use Rattle.std.proofs.Common.{◌≡◌, ◌∙◌, Bool, cond, true, false, refl, sym, ap, subst, List, [], ◌∷◌, ◌++◌, length, Option, Some, None, fold, true≢false}
 use Rattle.std.specs.Prelude.{⊤, IfSome, find, slice_get}
 use Rattle.std.specs.Option.{option_map_or}
 use Rattle.std.specs.Str.{bytes_eq}
@@ -9,7 +9,7 @@ use Rattle.clap.specs.Faults.{check_fault, defaults_fault, level_fault, repeat_f
 use Rattle.clap.specs.Kinds.{Kinds, or_else, range_kinds, value_kinds, values_kinds}
 use Rattle.clap.specs.Simple.{Shape}
 use Rattle.clap.specs.Takes.{is_given, value_passes}
-use Rattle.clap.specs.Walk.{Held, Row, Rule, Text, at_row, default_rows, finished, has_row, more_values, nothing_held, reading_by, rows_after, settled, used_as, values_or_missing, walk, walk_from, with_default, with_values, without}
+use Rattle.clap.specs.Walk.{Held, Row, Rule, Text, default_rows, finished, has_row, more_values, nothing_held, reading_by, rows_after, settled, used_as, values_or_missing, walk, walk_from, with_default, without}
 use Rattle.clap.specs.declared.builder.action.ArgAction.TheVariants.{Set}
 use Rattle.clap.specs.declared.builder.value_parser.Reading.{Reading}
 use Rattle.clap.specs.declared.error.kind.ErrorKind.{ErrorKind}

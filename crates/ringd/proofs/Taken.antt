@@ -1,31 +1,27 @@
 -- Words that the command line takes, where they name `serve` or `run`, give rows with what those need.
-use Rattle.std.proofs.Common.{◌≡◌, ◌∙◌, ◌⊎◌, ◌||◌, Bool, ℕ, codes, cond, true, false, not, refl, sym, ap, subst, inl, inr, List, [], ◌∷◌, length, Option, Some, None, option_map}
-use Rattle.std.specs.Prelude.{⊤, find, pos, slice_get, unwrap_or, option_and_then}
-use Rattle.std.specs.Option.{option_map_or}
+use Rattle.std.proofs.Common.{◌≡◌, ◌∙◌, ◌||◌, Bool, ℕ, codes, cond, true, false, not, refl, sym, ap, subst, inl, inr, List, [], ◌∷◌, length, Option, Some, None, option_map}
+use Rattle.std.specs.Prelude.{find, pos, slice_get, unwrap_or, option_and_then}
 use Rattle.std.specs.Str.{bytes_eq}
-use Rattle.clap.specs.Faults.{entered_fault, level_fault, settle_fault, defaults_fault, check_fault, walk_fault}
-use Rattle.clap.specs.Kinds.{Kinds, or_else, request_kinds, range_kinds}
+use Rattle.clap.specs.Kinds.{range_kinds}
 use Rattle.clap.specs.Lexer.{without_minus}
-use Rattle.clap.specs.Simple.{App, Shape, argument_words, built, entered, label_of, names_of, rows_at}
 use Rattle.clap.specs.Takes.{is_given}
 use Rattle.clap.specs.ValueTests.{accepts}
-use Rattle.clap.specs.Values.{IsSignedIn, read_as, reading_of}
+use Rattle.clap.specs.Values.{read_as, reading_of}
 use Rattle.clap.specs.Facts.{parser_of_value}
 use Rattle.clap.specs.declared.builder.value_parser.Reading.{Reading}
 use Rattle.clap.specs.declared.builder.value_parser.Reading.TheVariants.{WithoutMinus}
 use Rattle.clap.specs.declared.builder.value_parser.ValueParser.{ValueParser}
-use Rattle.clap.specs.Walk.{Row, Rule, Text, Walk, answers_to, finished, first_of, nothing_held, one_of, reading_by, row_text, rows_after, settled, walk, walk_from}
+use Rattle.clap.specs.Walk.{Row, Rule, Text, first_of, one_of, row_text, rows_after}
 use Rattle.clap.specs.declared.error.kind.ErrorKind.TheVariants.{DisplayHelp, MissingRequiredArgument}
 use Rattle.clap.specs.declared.builder.value_parser.ValueParser.TheVariants as parser
-use Rattle.clap.proofs.OnLiterals.{clap_on_literals}
 use Rattle.clap.proofs.ValueTestLemmas.{accepts-Accepts}
 use Rattle.ringd.specs.Words.{HasFile, HasNumber, IsGiven, IsRun, IsRunOf, IsServeOf, IsServed, MayHaveNumber, Names, config_rule}
 use Rattle.ringd.specs.declared.words.Order.{Order}
 use Rattle.ringd.specs.declared.words.Order.TheVariants.{Replay, Run, Serve}
 use Rattle.ringd.proofs.CommandLine.{IsLevel, names_one, run_below, serve_below}
 use Rattle.ringd.proofs.Levels.{Each, EachKeeps, Keeps}
-use Rattle.ringd.proofs.Rows.{BeginsWell, HaveNoDefaults, IsRead, level_checks, level_reads, other_use, own_use, row_given, row_reads, set_keeps}
-use Rattle.ringd.proofs.Subcommands.{AvoidsHelp, first_has_none, second_has_none}
+use Rattle.ringd.proofs.Rows.{IsRead, level_checks, level_reads, other_use, own_use, row_given, row_reads, set_keeps}
+use Rattle.ringd.proofs.Subcommands.{second_has_none}
 
 -- the arguments of `serve`, as a parse reads them
 abbrev serve_config : Rule

@@ -1,12 +1,12 @@
 -- Two lines told one after the other, and what was written where a fault came between.
-use Rattle.std.proofs.Common.{◌≡◌, ◌++◌, ◌⊎◌, List, ℕ, Result, Ok, Err, inl, inr, refl, subst, sym}
+use Rattle.std.proofs.Common.{◌≡◌, ◌++◌, List, ℕ, Result, Ok, Err, inr, subst, sym}
 use Rattle.std.specs.Prelude.{MatchResult}
 use Rattle.ring_lines.specs.Ends.{Writing, Wrote, WroteFront}
 use Rattle.ring_lines.specs.Sequences.{wrote_front, wrote_next, wrote_then}
 use Rattle.ringd.specs.declared.fault.ProgramFault.{ProgramFault}
 use Rattle.ringd.specs.declared.fault.ProgramFault.TheVariants as program
 use Rattle.ringd.specs.Listening.{BothAt, FirstAt}
-use Rattle.ringd.specs.Run.{IsOfFile, RanAt, ServedAt}
+use Rattle.ringd.specs.Run.{RanAt, ServedAt}
 use Rattle.ringd.specs.Running.{FirstOrNone}
 
 module _ {V : Type 0} (gives : V → Writing → V → Type 0) (from to : V) (first last : List ℕ) where
@@ -40,13 +40,6 @@ module _ {V : Type 0} (gives : V → Writing → V → Type 0) (from to : V) (fi
   served_at program.Bad told = absurd told
   served_at program.Listen told = absurd told
 
--- a fault of the file comes before anything is written
-module _ {V : Type 0} (gives : V → Writing → V → Type 0) (from : V) (first last : List ℕ) where
-  pub served_none : (fault : ProgramFault) → IsOfFile fault → ServedAt gives from first last fault from
-  served_none fault (inl is) = subst (λ (f : ProgramFault). ServedAt gives from first last f from) (sym is) refl
-  served_none fault (inr (inl is)) = subst (λ (f : ProgramFault). ServedAt gives from first last f from) (sym is) refl
-  served_none fault (inr (inr is)) = subst (λ (f : ProgramFault). ServedAt gives from first last f from) (sym is) refl
-
 -- what was told, for some port
 module _ {V A : Type 0} (gives : V → Writing → V → Type 0) (from to : V) (line : ℕ → List ℕ) (last : List ℕ) (port : ℕ) where
   pub served_told : (answer : Result A ProgramFault) → MatchResult answer (λ _. Wrote gives from (line port ++ last) to) (λ fault. BothAt gives from (line port) last fault to)
@@ -66,11 +59,6 @@ module _ {V : Type 0} (gives : V → Writing → V → Type 0) (from : V) (first
   ran_at to program.Unreadable told = absurd told
   ran_at to program.Bad told = absurd told
   ran_at to program.Listen told = absurd told
-
-  pub ran_none : (fault : ProgramFault) → IsOfFile fault → RanAt gives from first fault from
-  ran_none fault (inl is) = subst (λ (f : ProgramFault). RanAt gives from first f from) (sym is) refl
-  ran_none fault (inr (inl is)) = subst (λ (f : ProgramFault). RanAt gives from first f from) (sym is) refl
-  ran_none fault (inr (inr is)) = subst (λ (f : ProgramFault). RanAt gives from first f from) (sym is) refl
 
 module _ {V A : Type 0} (gives : V → Writing → V → Type 0) (from to : V) (line : ℕ → List ℕ) (port : ℕ) where
   pub ran_told : (answer : Result A ProgramFault) → MatchResult answer (λ _. Wrote gives from (line port) to) (λ fault. FirstOrNone gives from (line port) fault to)

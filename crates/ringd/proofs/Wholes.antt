@@ -1,5 +1,5 @@
 -- All that a reader has left, read through a limit that was not reached.
-use Rattle.std.proofs.Common.{◌≡◌, ◌<◌, ◌∙◌, ◌+◌, ℕ, zero, suc, List, [], ◌∷◌, length, take, Option, Some, None, ap, arith, refl}
+use Rattle.std.proofs.Common.{◌≡◌, ◌<◌, ◌∙◌, ℕ, zero, suc, List, [], ◌∷◌, length, take, Option, Some, None, ap, arith, refl}
 use Rattle.std.specs.Prelude.{IfSome, option_map}
 
 -- a front that is shorter than it may be is the whole

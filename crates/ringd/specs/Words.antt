@@ -1,5 +1,5 @@
 -- The words that the program takes, and the order that they give.
-use Rattle.std.specs.Prelude.{◌≡◌, ◌≢◌, ◌⊎◌, ◌≤◌, ◌∷◌, [], ⊤, ℕ, codes, pos, List, MatchOption, Option, None, Some, string_bytes, true, false}
+use Rattle.std.specs.Prelude.{◌≡◌, ◌≢◌, ◌⊎◌, ◌≤◌, [], ⊤, ℕ, codes, pos, List, MatchOption, Option, None, Some, string_bytes, true, false}
 use Rattle.std.specs.Str.Parse.{digits_value, without_leading_plus}
 use Rattle.clap.specs.Words.{App, IsAmong, IsSignedIn, Row, Rule, Text, fault_of, first_of, kind_of, new_app, new_rule, one_of, subcommand_of, with_rule, with_subcommand, without_minus}
 use Rattle.clap.specs.Simple.{new_shape, on_top}

@@ -1,4 +1,4 @@
-use Rattle.std.proofs.Common.{◌≡◌, ◌<◌, ◌∙◌, length, arith, rules}
+use Rattle.std.proofs.Common.{◌<◌, length, rules}
 use Rattle.ringd.proofs.Wholes.{whole_read}
 use Rattle.ringd.proofs.run.read_whole.Goals as goal
 

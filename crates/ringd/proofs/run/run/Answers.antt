@@ -1,5 +1,5 @@
 use Rattle.ringd.specs.Listening.{listening_line}
-use Rattle.ringd.proofs.Telling.{ran_none, ran_told}
+use Rattle.ringd.proofs.Telling.{ran_told}
 use Rattle.ringd.proofs.run.run.Goals as goal
 
 pub returns : goal.returns

@@ -1,5 +1,5 @@
 use Rattle.ringd.specs.Listening.{closed_line, listening_line}
-use Rattle.ringd.proofs.Telling.{served_none, served_told}
+use Rattle.ringd.proofs.Telling.{served_told}
 use Rattle.ringd.proofs.run.serve.Goals as goal
 
 pub returns : goal.returns

@@ -1,4 +1,4 @@
-use Rattle.std.proofs.Common.{◌≡◌, ◌∙◌, List, ap, inl, inr, map, subst}
+use Rattle.std.proofs.Common.{◌∙◌, List, ap, inl, inr, map, subst}
 use Rattle.std.specs.Prelude.{string_bytes}
 use Rattle.clap.specs.Words.{Text, app_of, found_of, rows_of, takes}
 use Rattle.ringd.specs.Words.{Names, ringd_app}
