@@ -6,13 +6,14 @@ ghost use Rattle.ringd.specs.Listening.{BothAt, FirstAt, IsOfConnections, closed
 use crate::config::Config;
 use crate::fault::ProgramFault;
 use crate::sessions;
-use crate::sessions::Front;
+use crate::sessions::{Front, Seat};
 use ring_lines::{Outlet, put};
 use std::alloc::{AllocError, Global};
 use std::net::{OpenListener, TcpStream};
 use std::sync::Wait;
 use std::thread;
 use std::thread::Threads;
+use std::time::Clock;
 
 /// Makes the service, says that it listens, accepts so many connections, waits for their sessions to end,
 /// closes the service and says that it closed.
@@ -29,7 +30,7 @@ pub fn accept_loop<R, L, O>(
     out: &mut O,
 ) -> Result<(), ProgramFault>
 where
-    R: Threads + Wait + AllocGlobal + Sync,
+    R: Threads + Wait + Clock + AllocGlobal + Copy + Send + Sync + Drop + 'static,
     L: OpenListener<Stream = TcpStream> + Drop,
     O: Outlet,
     ensures { MatchResult result
@@ -39,13 +40,13 @@ where
     let alloc = rt.alloc();
     let listening = say_listening(alloc, config.port)?;
     let closed = say_closed(alloc, connections)?;
-    let service = sessions::open(alloc, config)?;
+    let (service, seats) = sessions::open(rt, config, connections)?;
     let served = serve_all(
         rt,
         service.front(),
         listener,
         listening.as_str(),
-        connections,
+        seats,
         out,
     );
     sessions::close(rt, service);
@@ -75,7 +76,7 @@ fn serve_all<R, L, O>(
     front: &Front,
     listener: L,
     listening: &str,
-    connections: u32,
+    seats: Vec<Seat>,
     out: &mut O,
 ) -> Result<(), ProgramFault>
 where
@@ -87,15 +88,15 @@ where
         (λ fault. FirstAt O.write_gives out.old listening.now fault out.new) }
 {
     tell(out, listening)?;
-    accept_all(rt, front, listener, connections)
+    accept_all(rt, front, listener, seats)
 }
 
-// Accepts all connections, and waits for their sessions.
+// Accepts a connection for each seat, and waits for their sessions.
 fn accept_all<R, L>(
     rt: &R,
     front: &Front,
     listener: L,
-    connections: u32,
+    seats: Vec<Seat>,
 ) -> Result<(), ProgramFault>
 where
     R: Threads + Wait + Sync,
@@ -108,12 +109,13 @@ where
         move |scope| -> Result<(), ProgramFault>
             ensures { IfErr result IsOfConnections }
         {
-            for session in 1..=connections {
+            for (session, mut seat) in (1..=u32::MAX).zip(seats) {
                 let Ok((stream, _)) = listener.accept() else {
                     return Err(ProgramFault::Accept);
                 };
-                let Ok(_) = scope.spawn(move || sessions::serve_one(rt, front, session, &stream))
-                else {
+                let Ok(_) = scope.spawn(move || {
+                    sessions::serve_one(rt, front, &mut seat, session, &stream);
+                }) else {
                     return Err(ProgramFault::Thread);
                 };
             }

@@ -43,10 +43,15 @@ pub fn replay(rt: &(impl Input + Print + AllocGlobal)) -> Result<(), ProgramFaul
 pub fn serve<R, O>(rt: &R, path: &str, connections: u32, out: &mut O) -> Result<(), ProgramFault>
 where
     R: Files
+        + Clock
         + AllocGlobal
         + Threads
         + Wait
+        + Copy
+        + Send
         + Sync
+        + Drop
+        + 'static
         + Net<Stream = TcpStream, Listener = TcpListener>,
     O: Outlet,
     ensures { MatchResult result
@@ -70,7 +75,11 @@ where
         + AllocGlobal
         + Threads
         + Wait
+        + Copy
+        + Send
         + Sync
+        + Drop
+        + 'static
         + Net<Stream = TcpStream, Listener = TcpListener>,
     O: Outlet,
     ensures { MatchResult result

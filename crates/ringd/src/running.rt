@@ -8,7 +8,7 @@ use crate::config::Config;
 use crate::fault::ProgramFault;
 use crate::listening::{say_listening, tell};
 use crate::sessions;
-use crate::sessions::Front;
+use crate::sessions::{Front, Seat};
 use ring_lines::Outlet;
 use std::net::{OpenListener, TcpStream};
 use std::sync::{Mutex, Wait};
@@ -53,7 +53,7 @@ pub fn run_loop<R, L, O>(
     out: &mut O,
 ) -> Result<(), ProgramFault>
 where
-    R: Threads + Wait + AllocGlobal + Eprint + Clock + Sync,
+    R: Threads + Wait + AllocGlobal + Eprint + Clock + Copy + Send + Sync + Drop + 'static,
     L: OpenListener<Stream = TcpStream> + Send + Drop,
     O: Outlet,
     ensures { MatchResult result
@@ -62,13 +62,14 @@ where
 {
     let alloc = rt.alloc();
     let listening = say_listening(alloc, config.port)?;
-    let service = sessions::open(alloc, config)?;
+    let (service, seats) = sessions::open(rt, config, limits.sessions)?;
     let begun = begin(
         rt,
         service.front(),
         listener,
         listening.as_str(),
-        limits,
+        seats,
+        limits.idle,
         out,
     );
     sessions::close(rt, service);
@@ -81,7 +82,8 @@ fn begin<R, L, O>(
     front: &Front,
     listener: L,
     listening: &str,
-    limits: Limits,
+    seats: Vec<Seat>,
+    idle: u32,
     out: &mut O,
 ) -> Result<(), ProgramFault>
 where
@@ -94,15 +96,16 @@ where
 {
     tell(out, listening)?;
     let door = Mutex::new(Door::new(listener));
-    attend_all(rt, front, &door, limits)
+    attend_all(rt, front, &door, seats, idle)
 }
 
-// Starts all threads, and opens the door once they are there.
+// Starts a thread for each seat, and opens the door once they are there.
 fn attend_all<R, L>(
     rt: &R,
     front: &Front,
     door: &Mutex<Door<L>>,
-    limits: Limits,
+    seats: Vec<Seat>,
+    idle: u32,
 ) -> Result<(), ProgramFault>
 where
     R: Threads + Wait + Eprint + Clock + Sync,
@@ -116,8 +119,8 @@ where
             ensures { IfErr result (λ fault. fault ≡ ProgramFault.Thread) }
         {
             let mut held = door.lock(rt);
-            for _ in 0..limits.sessions {
-                let Ok(_) = scope.spawn(move || attend(rt, front, door, limits.idle)) else {
+            for seat in seats {
+                let Ok(_) = scope.spawn(move || attend(rt, front, door, seat, idle)) else {
                     return Err(ProgramFault::Thread);
                 };
             }
@@ -127,18 +130,19 @@ where
     )
 }
 
-// Serves one client after another, as long as the door lets them in.
-fn attend<R, L>(rt: &R, front: &Front, door: &Mutex<Door<L>>, idle: u32)
+// Serves one client after another by this seat, as long as the door lets them in.
+fn attend<R, L>(rt: &R, front: &Front, door: &Mutex<Door<L>>, seat: Seat, idle: u32)
 where
     R: Wait + Eprint + Clock,
     L: OpenListener<Stream = TcpStream> + Drop,
 {
+    let mut seat = seat;
     for _ in rt.forever() {
         let Some((session, stream)) = door.lock(rt).admit(rt) else {
             return;
         };
         sessions::limit_silence(&stream, idle);
-        sessions::serve_one(rt, front, session, &stream);
+        sessions::serve_one(rt, front, &mut seat, session, &stream);
     }
 }
 

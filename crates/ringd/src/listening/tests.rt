@@ -8,6 +8,7 @@ use std::net::{Ipv4Addr, Net, OpenListener, Shutdown, SocketAddr, TcpListener, T
 use std::sync::Wait;
 use std::test::Fail;
 use std::thread::Threads;
+use std::time::Clock;
 use std::{io, thread};
 
 // A configuration with this port.
@@ -51,7 +52,7 @@ fn two_clients<R: Net<Stream = TcpStream>>(rt: &R, alloc: Global, port: u16) -> 
 // One whole run: whether both clients got their replies, and both lines were written.
 fn serves_both<R>(rt: &R, config: &Config) -> io::Result<bool>
 where
-    R: AllocGlobal + Threads + Wait + Sync + Net<Stream = TcpStream, Listener = TcpListener>,
+    R: AllocGlobal + Threads + Wait + Clock + Copy + Send + Sync + Drop + 'static + Net<Stream = TcpStream, Listener = TcpListener>,
 {
     let alloc = rt.alloc();
     let listener = rt.bind(SocketAddr::from((Ipv4Addr::LOCALHOST, config.port)))?;
