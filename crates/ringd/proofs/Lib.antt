@@ -1,2 +1,10 @@
 mod Subcommands
 mod CommandLine
+mod Counts
+mod Levels
+mod Rows
+mod Taken
+mod Telling
+mod Numbers
+mod Adding
+mod Wholes

@@ -1,2 +1,6 @@
 pub mod Faults
+pub mod Listening
+pub mod Reading
+pub mod Run
+pub mod Running
 pub mod Words

@@ -1,30 +1,135 @@
 -- The words that the program takes, and the order that they give.
-use Rattle.std.specs.Prelude.{◌≡◌, ◌≢◌, [], ⊤, codes, List, Option, Some, option_map, true}
-use Rattle.clap.specs.Words.{App, IsAmong, Text, fault_of, kind_of, new_app, subcommand_of, with_subcommand}
+use Rattle.std.specs.Prelude.{◌≡◌, ◌≢◌, ◌⊎◌, ◌≤◌, [], ⊤, ℕ, codes, pos, List, MatchOption, Option, None, Some, string_bytes, true, false}
+use Rattle.std.specs.Str.Parse.{digits_value, without_leading_plus}
+use Rattle.clap.specs.Words.{App, IsAmong, IsSignedIn, Row, Rule, Text, fault_of, first_of, kind_of, new_app, new_rule, one_of, subcommand_of, with_rule, with_subcommand, without_minus}
 use Rattle.clap.specs.Simple.{new_shape, on_top}
+use Rattle.clap.specs.declared.builder.command.Command.{Command}
+use Rattle.clap.specs.declared.builder.command.Command.TheViews.{out-Command}
+use Rattle.clap.specs.declared.builder.value_parser.ValueParser.TheVariants as parser
 use Rattle.clap.specs.declared.error.Error.{Error}
 use Rattle.clap.specs.declared.error.kind.ErrorKind.TheVariants.{OutOfMemory}
 use Rattle.ringd.specs.declared.words.Order.{Order}
-use Rattle.ringd.specs.declared.words.Order.TheVariants.{Replay}
+use Rattle.ringd.specs.declared.words.Order.TheVariants.{Replay, Run, Serve}
 use Rattle.ringd.specs.declared.words.WordsFault.{WordsFault}
 use Rattle.ringd.specs.declared.words.WordsFault.TheVariants.{Usage, NoMemory}
 
--- the command line: a subcommand must be given, and `replay` is the only one
+-- ---- the command line
+
+-- the name of a configuration's file, which must be given
+abbrev pub config_rule : Rule
+config_rule = record (new_rule (codes "config")) { value_names = 1; required = true }
+
+-- an option with a number from the least to the most
+abbrev pub number_rule : Text → ℕ → ℕ → Rule
+number_rule name least most = record (new_rule name) { long = Some name; value_names = 1; parser = Some (parser.Signed (pos least) (pos most)) }
+
+-- how many connections `serve` accepts, which must be given
+abbrev pub connections_rule : Rule
+connections_rule = record (number_rule (codes "connections") 1 64) { required = true }
+
+-- how many sessions `run` has at a time, and after how many seconds of silence it ends one
+abbrev pub sessions_rule : Rule
+sessions_rule = number_rule (codes "sessions") 1 64
+
+abbrev pub idle_rule : Rule
+idle_rule = number_rule (codes "idle") 0 86400
+
+-- `serve CONFIG --connections K`
+abbrev pub serve_app : App
+serve_app = with_rule (with_rule (new_app (codes "serve")) config_rule) connections_rule
+
+-- `run CONFIG`, with `--sessions N` and `--idle SECONDS` where they are given
+abbrev pub run_app : App
+run_app = with_rule (with_rule (with_rule (new_app (codes "run")) config_rule) sessions_rule) idle_rule
+
+-- the command line: one of the subcommands `replay`, `serve` and `run` must be given
 abbrev pub ringd_app : App
-ringd_app = with_subcommand (on_top (λ s. record s { subcommand_required = true }) (new_app (codes "ringd"))) (new_shape (codes "replay"))
+ringd_app =
+    with_subcommand
+    (with_subcommand
+    (with_subcommand (on_top (λ s. record s { subcommand_required = true }) (new_app (codes "ringd"))) (new_shape (codes "replay")))
+    serve_app.top)
+    run_app.top
 
--- the subcommand that stands for an order
-abbrev pub word_of : Order → Text
-word_of Replay = codes "replay"
+-- no argument of the command holds for its subcommands too
+abbrev pub IsLocal : Command → Type 0
+IsLocal c = (out-Command c).has_globals ≡ false
 
--- the subcommand that the words name
-abbrev pub subcommand_in : List Text → Option Text
-subcommand_in words = option_map (λ p. p.0) (subcommand_of ringd_app words)
+-- ---- what the words give
 
--- the command line takes the words, and they name the subcommand of this order
-pub record IsGiven (words : List Text) (order : Order) : Type 0 where
+-- The command line takes the words, and they name this subcommand, with these rows for its arguments.
+pub record Names (words : List Text) (name : Text) (rows : List Row) : Type 0 where
   pub taken : fault_of ringd_app words ≡ []
-  pub named : subcommand_in words ≡ Some (word_of order)
+  pub named : subcommand_of ringd_app words ≡ Some (name, rows)
+
+-- The text is that of the number, which lies in the bounds.
+pub record IsNumberIn (least most : ℕ) (text : Text) (n : ℕ) : Type 0 where
+  pub value : n ≡ digits_value 10 (without_leading_plus text)
+  pub some : least ≤ n
+  pub few : n ≤ most
+
+-- The rows of `serve`: its file and its number of connections.
+pub record Serves (rows : List Row) (path : Text) (connections : ℕ) : Type 0 where
+  pub file : first_of (codes "config") rows ≡ Some path
+  pub text : Text
+  pub given : one_of (codes "connections") rows ≡ Some text
+  pub number : IsNumberIn 1 64 text connections
+
+-- the number that is given for an option, or the usual one where none is
+abbrev pub IsGivenOr : ℕ → ℕ → ℕ → Option Text → ℕ → Type 0
+IsGivenOr usual least most given n = MatchOption given (n ≡ usual) (λ text. IsNumberIn least most text n)
+
+-- The rows of `run`: its file, its number of sessions, 16 where none is given, and its seconds, 0 where none
+-- are given.
+pub record Runs (rows : List Row) (path : Text) (sessions idle : ℕ) : Type 0 where
+  pub file : first_of (codes "config") rows ≡ Some path
+  pub sessions_given : IsGivenOr 16 1 64 (one_of (codes "sessions") rows) sessions
+  pub idle_given : IsGivenOr 0 0 86400 (one_of (codes "idle") rows) idle
+
+-- the order of `serve` that rows give, and that of `run`
+abbrev pub IsServeOf : List Row → Order → Type 0
+IsServeOf rows (Serve path connections) = Serves rows (string_bytes path) connections
+IsServeOf rows _ = ⊥
+
+abbrev pub IsRunOf : List Row → Order → Type 0
+IsRunOf rows (Run path sessions idle) = Runs rows (string_bytes path) sessions idle
+IsRunOf rows _ = ⊥
+
+-- the command line takes the words, and this is the order that they give
+abbrev pub IsGiven : List Text → Order → Type 0
+IsGiven words Replay = (rows : List Row) × Names words (codes "replay") rows
+IsGiven words (Serve path connections) = (rows : List Row) × Names words (codes "serve") rows × Serves rows (string_bytes path) connections
+IsGiven words (Run path sessions idle) = (rows : List Row) × Names words (codes "run") rows × Runs rows (string_bytes path) sessions idle
+
+-- ---- what rows hold before they are read
+
+-- The rows have a number for this option, in the bounds.
+pub record HasNumber (name : Text) (least most : ℕ) (rows : List Row) : Type 0 where
+  pub text : Text
+  pub given : one_of name rows ≡ Some (without_minus text)
+  pub passed : IsSignedIn (pos least) (pos most) text
+
+-- they have one, or the option was not given
+abbrev pub MayHaveNumber : Text → ℕ → ℕ → List Row → Type 0
+MayHaveNumber name least most rows = (one_of name rows ≡ None) ⊎ HasNumber name least most rows
+
+-- The rows have a file.
+pub record HasFile (rows : List Row) : Type 0 where
+  pub path : Text
+  pub file : first_of (codes "config") rows ≡ Some path
+
+-- Rows of `serve`, where its words are taken.
+pub record IsServed (rows : List Row) : Type 0 where
+  pub file : HasFile rows
+  pub connections : HasNumber (codes "connections") 1 64 rows
+
+-- Rows of `run`, where its words are taken.
+pub record IsRun (rows : List Row) : Type 0 where
+  pub file : HasFile rows
+  pub sessions : MayHaveNumber (codes "sessions") 1 64 rows
+  pub idle : MayHaveNumber (codes "idle") 0 86400 rows
+
+-- ---- why words give none
 
 -- the words have a mistake of the error's kind, or memory was refused
 abbrev pub HasCause : List Text → WordsFault → Type 0

@@ -1,5 +1,8 @@
 //! Why the program ends before its work is done.
+use crate::config::ConfigFault;
 use ring_lines::LineFault;
+use ring_service::StartFault;
+use std::alloc::AllocError;
 use thiserror::Error;
 
 /// A fault that ends the program with status 1. Its text is the one line that standard error gets.
@@ -17,6 +20,21 @@ pub enum ProgramFault {
     /// A growth was refused.
     #[error("ringd: no memory")]
     NoMemory,
+    /// The configuration's file could not be read, or is too long.
+    #[error("ringd: config unreadable")]
+    Unreadable,
+    /// The configuration's text is none.
+    #[error("ringd: config bad")]
+    Bad,
+    /// The port could not be listened on.
+    #[error("ringd: listen failed")]
+    Listen,
+    /// A connection could not be accepted.
+    #[error("ringd: accept failed")]
+    Accept,
+    /// A thread could not be started.
+    #[error("ringd: thread failed")]
+    Thread,
 }
 
 impl From<LineFault> for ProgramFault {
@@ -32,6 +50,45 @@ impl From<LineFault> for ProgramFault {
             LineFault::Write => ProgramFault::Write,
             LineFault::NoMemory => ProgramFault::NoMemory,
         }
+    }
+}
+
+impl From<ConfigFault> for ProgramFault {
+    ghost use Rattle.std.specs.Prelude.{◌≡◌};
+    ghost use Rattle.ringd.specs.Faults.{config_told_as};
+
+    ghost from_gives = { λ fault told. told ≡ config_told_as fault };
+
+    fn from(fault: ConfigFault) -> ProgramFault {
+        match fault {
+            ConfigFault::Bad => ProgramFault::Bad,
+            ConfigFault::NoMemory => ProgramFault::NoMemory,
+        }
+    }
+}
+
+impl From<StartFault> for ProgramFault {
+    ghost use Rattle.std.specs.Prelude.{◌≡◌};
+    ghost use Rattle.ringd.specs.Faults.{start_told_as};
+
+    ghost from_gives = { λ fault told. told ≡ start_told_as fault };
+
+    fn from(fault: StartFault) -> ProgramFault {
+        match fault {
+            StartFault::NoMemory => ProgramFault::NoMemory,
+            StartFault::Thread => ProgramFault::Thread,
+        }
+    }
+}
+
+impl From<AllocError> for ProgramFault {
+    ghost use Rattle.std.specs.Prelude.{◌≡◌};
+    ghost use Rattle.ringd.specs.declared.fault.ProgramFault.TheVariants.{NoMemory};
+
+    ghost from_gives = { λ _ told. told ≡ NoMemory };
+
+    fn from(_error: AllocError) -> ProgramFault {
+        ProgramFault::NoMemory
     }
 }
 
@@ -56,6 +113,11 @@ mod tests {
             (ProgramFault::Endless, "ringd: endless input"),
             (ProgramFault::Write, "ringd: write failed"),
             (ProgramFault::NoMemory, "ringd: no memory"),
+            (ProgramFault::Unreadable, "ringd: config unreadable"),
+            (ProgramFault::Bad, "ringd: config bad"),
+            (ProgramFault::Listen, "ringd: listen failed"),
+            (ProgramFault::Accept, "ringd: accept failed"),
+            (ProgramFault::Thread, "ringd: thread failed"),
         ] {
             assert_eq!(rt; line_of(rt.alloc(), fault)?.as_str(), line);
         }

@@ -1,9 +1,29 @@
-//! What the program does with its standard streams.
+//! What the program does with the world: its standard streams, its file and its port.
+ghost use Rattle.std.specs.Prelude.{◌≡◌, ◌≤◌, ◌++◌, ℕ, IfErr, IfOk, IfSome, MatchResult, length};
+ghost use Rattle.ring_lines.specs.Ends.{Wrote};
+ghost use Rattle.ringd.specs.Listening.{closed_line, listening_line};
+ghost use Rattle.ringd.specs.Run.{IsOfFile, RanAt, ServedAt};
+
+use crate::config::Config;
 use crate::fault::ProgramFault;
-use ring_lines::{FromRead, ToWrite};
+use crate::listening::accept_loop;
+use crate::reading::read_config;
+use crate::running::{Limits, run_loop};
+use ring_lines::{FromRead, Outlet, ToWrite};
+use std::alloc::Global;
+use std::fs::Files;
+use std::io::{ErrorKind, Read};
+use std::net::{Ipv4Addr, Net, SocketAddr, TcpListener, TcpStream};
+use std::sync::Wait;
+use std::thread::Threads;
+use std::time::Clock;
+use std::{fs, io};
 
 // How many read calls are made before the input counts as endless.
 const READS: u32 = 1_000_000_000;
+
+// How many bytes a configuration has at most.
+const LONGEST: usize = 65536;
 
 /// Answers each line of standard input by one line on standard output, to the end of the input.
 ///
@@ -14,4 +34,96 @@ pub fn replay(rt: &(impl Input + Print + AllocGlobal)) -> Result<(), ProgramFaul
     let mut writer = ToWrite(std::io::writer(rt));
     ring_lines::replay(rt.alloc(), &mut reader, &mut writer, READS)?;
     Ok(())
+}
+
+/// Serves so many clients on 127.0.0.1, at the port of the configuration in this file.
+///
+/// Its faults, in this order: the file can't be read, is too long or spells no configuration; the port
+/// can't be listened on; and those of `accept_loop`.
+pub fn serve<R, O>(rt: &R, path: &str, connections: u32, out: &mut O) -> Result<(), ProgramFault>
+where
+    R: Files
+        + Clock
+        + AllocGlobal
+        + Threads
+        + Wait
+        + Copy
+        + Send
+        + Sync
+        + Drop
+        + 'static
+        + Net<Stream = TcpStream, Listener = TcpListener>,
+    O: Outlet,
+    ensures { MatchResult result
+        (λ _. (port : ℕ) × Wrote O.write_gives out.old (listening_line port ++ closed_line connections) out.new)
+        (λ fault. (port : ℕ) × ServedAt O.write_gives out.old (listening_line port) (closed_line connections) fault out.new) }
+{
+    let config = load(rt, path)?;
+    let listener = listen(rt, config.port)?;
+    accept_loop(rt, listener, &config, connections, out)
+}
+
+/// Serves clients on 127.0.0.1 until the process is ended, at the port of the configuration in this file.
+///
+/// Its faults, in this order: the file can't be read, is too long or spells no configuration; the port
+/// can't be listened on; and those of `run_loop`.
+pub fn run<R, O>(rt: &R, path: &str, limits: Limits, out: &mut O) -> Result<(), ProgramFault>
+where
+    R: Files
+        + Eprint
+        + Clock
+        + AllocGlobal
+        + Threads
+        + Wait
+        + Copy
+        + Send
+        + Sync
+        + Drop
+        + 'static
+        + Net<Stream = TcpStream, Listener = TcpListener>,
+    O: Outlet,
+    ensures { MatchResult result
+        (λ _. (port : ℕ) × Wrote O.write_gives out.old (listening_line port) out.new)
+        (λ fault. (port : ℕ) × RanAt O.write_gives out.old (listening_line port) fault out.new) }
+{
+    let config = load(rt, path)?;
+    let listener = listen(rt, config.port)?;
+    run_loop(rt, listener, &config, limits, out)
+}
+
+// Listens on this machine alone.
+fn listen<R: Net>(rt: &R, port: u16) -> Result<R::Listener, ProgramFault>
+    ensures { IfErr result (λ fault. fault ≡ ProgramFault.Listen) }
+{
+    match rt.bind(SocketAddr::from((Ipv4Addr::LOCALHOST, port))) {
+        Ok(listener) => Ok(listener),
+        Err(_) => Err(ProgramFault::Listen),
+    }
+}
+
+// The configuration in a file.
+fn load<R: Files + AllocGlobal>(rt: &R, path: &str) -> Result<Config, ProgramFault>
+    ensures { IfErr result IsOfFile }
+{
+    let file = match fs::open(rt, path) {
+        Ok(file) => file,
+        Err(error) if error.kind() == ErrorKind::OutOfMemory => return Err(ProgramFault::NoMemory),
+        Err(_) => return Err(ProgramFault::Unreadable),
+    };
+    let text = read_whole(rt.alloc(), file)?;
+    Ok(read_config(rt.alloc(), text.as_slice())?)
+}
+
+// All that a reader has left, where it is not too long for a configuration.
+fn read_whole<R: Read + Drop>(alloc: Global, reader: R) -> Result<Vec<u8>, ProgramFault>
+    ensures short { IfOk result (λ text. length text.items ≤ 65536) }
+    ensures whole { IfOk result (λ text. IfSome (R.remaining reader) (λ left. text.items ≡ left)) }
+    ensures fault { IfErr result IsOfFile }
+{
+    let mut text = Vec::new(alloc);
+    match reader.take(LONGEST as u64 + 1).read_to_end(&mut text) {
+        Ok(_) if text.len() <= LONGEST => Ok(text),
+        Err(error) if error.kind() == ErrorKind::OutOfMemory => Err(ProgramFault::NoMemory),
+        _ => Err(ProgramFault::Unreadable),
+    }
 }

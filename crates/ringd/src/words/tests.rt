@@ -48,6 +48,69 @@ fn replay_is_an_order(rt: HostRuntime) {
 }
 
 #[test]
+fn serve_names_a_file_and_a_number(rt: HostRuntime) {
+    for (line, wanted) in [
+        ("ringd serve x --connections 2", 2),
+        ("ringd serve --connections=64 x", 64),
+        ("ringd serve --connections +1 -- x", 1),
+    ] {
+        let order = read_again(rt.alloc(), line);
+        assert!(rt;
+            matches!(&order, Ok(Order::Serve { path, connections })
+            if path.as_str() == "x" && *connections == wanted),
+            "{line}"
+        );
+    }
+}
+
+#[test]
+fn run_has_its_usual_numbers(rt: HostRuntime) {
+    for (line, at_a_time, seconds) in [
+        ("ringd run x", 16, 0),
+        ("ringd run --sessions 64 x", 64, 0),
+        ("ringd run x --idle=30 --sessions 1", 1, 30),
+        ("ringd run x --idle 86400", 16, 86400),
+    ] {
+        let order = read_again(rt.alloc(), line);
+        assert!(rt;
+            matches!(&order, Ok(Order::Run { path, sessions, idle })
+            if path.as_str() == "x" && *sessions == at_a_time && *idle == seconds),
+            "{line}"
+        );
+    }
+}
+
+#[test]
+fn numbers_out_of_range_and_missing_words_are_refused(rt: HostRuntime) -> Result<(), Fail> {
+    for line in [
+        "ringd serve",
+        "ringd serve x",
+        "ringd serve --connections 2",
+        "ringd serve x --connections",
+        "ringd serve x --connections 0",
+        "ringd serve x --connections 65",
+        "ringd serve x --connections x",
+        "ringd serve x --connections -1",
+        "ringd serve x --connections 4294967298",
+        "ringd serve x --connections 2 --connections 2",
+        "ringd serve x y --connections 2",
+        "ringd serve x --connections 2 --sessions 2",
+        "ringd run",
+        "ringd run x y",
+        "ringd run x --sessions 0",
+        "ringd run x --sessions 65",
+        "ringd run x --idle 86401",
+        "ringd run x --idle 1.5",
+        "ringd run x --connections 2",
+        "ringd serve --help",
+    ] {
+        let text = refusal(rt.alloc(), line)?.ok_or("taken")?;
+        assert!(rt; text.as_str().contains("--help"), "{line}: {text}");
+    }
+    Ok(())
+}
+
+#[test]
 fn other_words_are_refused_with_the_usage(rt: HostRuntime) -> Result<(), Fail> {
     for line in [
         "",

@@ -1,0 +1,67 @@
+-- Two lines told one after the other, and what was written where a fault came between.
+use Rattle.std.proofs.Common.{◌≡◌, ◌++◌, List, ℕ, Result, Ok, Err, inr, subst, sym}
+use Rattle.std.specs.Prelude.{MatchResult}
+use Rattle.ring_lines.specs.Ends.{Writing, Wrote, WroteFront}
+use Rattle.ring_lines.specs.Sequences.{wrote_front, wrote_next, wrote_then}
+use Rattle.ringd.specs.declared.fault.ProgramFault.{ProgramFault}
+use Rattle.ringd.specs.declared.fault.ProgramFault.TheVariants as program
+use Rattle.ringd.specs.Listening.{BothAt, FirstAt}
+use Rattle.ringd.specs.Run.{RanAt, ServedAt}
+use Rattle.ringd.specs.Running.{FirstOrNone}
+
+module _ {V : Type 0} (gives : V → Writing → V → Type 0) (from to : V) (first last : List ℕ) where
+  -- a fault while the service ran, as one of the whole
+  pub both_at : (fault : ProgramFault) → FirstAt gives from first fault to → BothAt gives from first last fault to
+  both_at program.Accept told = told
+  both_at program.Thread told = inr told
+  both_at program.Write told = wrote_front last told
+  both_at program.Read told = absurd told
+  both_at program.Endless told = absurd told
+  both_at program.NoMemory told = absurd told
+  both_at program.Unreadable told = absurd told
+  both_at program.Bad told = absurd told
+  both_at program.Listen told = absurd told
+
+  -- the last line, after the first
+  pub both_told : {A : Type 0} (mid : V) (answer : Result A ProgramFault) → Wrote gives from first mid → MatchResult answer (λ _. Wrote gives mid last to) (λ fault. (fault ≡ program.Write) × WroteFront gives mid last to)
+      → MatchResult answer (λ _. Wrote gives from (first ++ last) to) (λ fault. BothAt gives from first last fault to)
+  both_told mid (Ok done) told last_told = wrote_then told last_told
+  both_told mid (Err fault) told last_told = subst (λ (f : ProgramFault). BothAt gives from first last f to) (sym last_told.0) (wrote_next told last_told.1)
+
+  -- a fault of the whole, as one of `serve`
+  pub served_at : (fault : ProgramFault) → BothAt gives from first last fault to → ServedAt gives from first last fault to
+  served_at program.Accept told = told
+  served_at program.Thread told = told
+  served_at program.Write told = told
+  served_at program.NoMemory told = told
+  served_at program.Read told = absurd told
+  served_at program.Endless told = absurd told
+  served_at program.Unreadable told = absurd told
+  served_at program.Bad told = absurd told
+  served_at program.Listen told = absurd told
+
+-- what was told, for some port
+module _ {V A : Type 0} (gives : V → Writing → V → Type 0) (from to : V) (line : ℕ → List ℕ) (last : List ℕ) (port : ℕ) where
+  pub served_told : (answer : Result A ProgramFault) → MatchResult answer (λ _. Wrote gives from (line port ++ last) to) (λ fault. BothAt gives from (line port) last fault to)
+      → MatchResult answer (λ _. (p : ℕ) × Wrote gives from (line p ++ last) to) (λ fault. (p : ℕ) × ServedAt gives from (line p) last fault to)
+  served_told (Ok done) told = (port, told)
+  served_told (Err fault) told = (port, served_at gives from to (line port) last fault told)
+
+-- the same of `run`
+module _ {V : Type 0} (gives : V → Writing → V → Type 0) (from : V) (first : List ℕ) where
+  pub ran_at : (to : V) (fault : ProgramFault) → FirstOrNone gives from first fault to → RanAt gives from first fault to
+  ran_at to program.Thread told = told
+  ran_at to program.Write told = told
+  ran_at to program.NoMemory told = told
+  ran_at to program.Accept told = absurd told
+  ran_at to program.Read told = absurd told
+  ran_at to program.Endless told = absurd told
+  ran_at to program.Unreadable told = absurd told
+  ran_at to program.Bad told = absurd told
+  ran_at to program.Listen told = absurd told
+
+module _ {V A : Type 0} (gives : V → Writing → V → Type 0) (from to : V) (line : ℕ → List ℕ) (port : ℕ) where
+  pub ran_told : (answer : Result A ProgramFault) → MatchResult answer (λ _. Wrote gives from (line port) to) (λ fault. FirstOrNone gives from (line port) fault to)
+      → MatchResult answer (λ _. (p : ℕ) × Wrote gives from (line p) to) (λ fault. (p : ℕ) × RanAt gives from (line p) fault to)
+  ran_told (Ok done) told = (port, told)
+  ran_told (Err fault) told = (port, ran_at gives from (line port) to fault told)

@@ -1,0 +1,7 @@
+use Rattle.std.proofs.Common.{◌≡◌}
+use Rattle.ringd.proofs.running.Door.accept.Given as goal
+
+-- the number and whether the door is open stay
+abbrev pub invariant-loop : goal.invariant-loop
+invariant-loop g l =
+    (goal.iterator-loop g).can_next l.iterator' × (goal.iterator-loop g).is_finite l.iterator' × (l.self.last ≡ l.fn.self.last) × (l.self.is_open ≡ l.fn.self.is_open)

@@ -1,0 +1,210 @@
+//! Serves clients until the process is ended, so many at a time.
+ghost use Rattle.std.specs.Prelude.{◌≡◌, IfErr, MatchOption, MatchResult, false, true};
+ghost use Rattle.ring_lines.specs.Ends.{Wrote};
+ghost use Rattle.ringd.specs.Running.{FirstOrNone, next_number};
+ghost use Rattle.ringd.specs.Listening.{listening_line};
+
+use crate::config::Config;
+use crate::fault::ProgramFault;
+use crate::listening::{say_listening, tell};
+use crate::sessions;
+use crate::sessions::{Front, Seat};
+use ring_lines::Outlet;
+use std::net::{OpenListener, TcpStream};
+use std::sync::{Mutex, Wait};
+use std::thread;
+use std::thread::Threads;
+use std::time::{Clock, Duration};
+
+/// How sessions are held.
+#[derive(Clone, Copy, Debug, PartialEq, Eq)]
+pub struct Limits {
+    /// How many clients are served at a time.
+    pub sessions: u32,
+    /// After how many seconds in which nothing comes or goes a session ends; never at 0.
+    pub idle: u32,
+}
+
+// Where clients come in, one after another.
+#[derive(Drop)]
+struct Door<L> {
+    listener: L,
+    // whether clients are let in
+    is_open: bool,
+    // the number of the last session
+    last: u32,
+    // whether a failed accept was told
+    has_told: bool,
+}
+
+/// Makes the service, says that it listens, and serves clients until the process is ended.
+///
+/// As many threads as there may be sessions accept one client after another, so a further client waits until
+/// a session has ended. Sessions are numbered from 1 in the order of their accepts, and from 1 again
+/// after 4294967295. A session's fault ends that session alone. A failed accept, as for want of
+/// descriptors or memory, is told on standard error the first time, and is tried again after 100 ms. So
+/// it returns only where it could not begin: where memory was refused, a write failed or a thread could
+/// not be started.
+pub fn run_loop<R, L, O>(
+    rt: &R,
+    listener: L,
+    config: &Config,
+    limits: Limits,
+    out: &mut O,
+) -> Result<(), ProgramFault>
+where
+    R: Threads + Wait + AllocGlobal + Eprint + Clock + Copy + Send + Sync + Drop + 'static,
+    L: OpenListener<Stream = TcpStream> + Send + Drop,
+    O: Outlet,
+    ensures { MatchResult result
+        (λ _. Wrote O.write_gives out.old (listening_line config.now.port) out.new)
+        (λ fault. FirstOrNone O.write_gives out.old (listening_line config.now.port) fault out.new) }
+{
+    let alloc = rt.alloc();
+    let listening = say_listening(alloc, config.port)?;
+    let (service, seats) = sessions::open(rt, config, limits.sessions)?;
+    let begun = begin(
+        rt,
+        service.front(),
+        listener,
+        listening.as_str(),
+        seats,
+        limits.idle,
+        out,
+    );
+    sessions::close(rt, service);
+    begun
+}
+
+// Says that it listens, and has the threads serve.
+fn begin<R, L, O>(
+    rt: &R,
+    front: &Front,
+    listener: L,
+    listening: &str,
+    seats: Vec<Seat>,
+    idle: u32,
+    out: &mut O,
+) -> Result<(), ProgramFault>
+where
+    R: Threads + Wait + Eprint + Clock + Sync,
+    L: OpenListener<Stream = TcpStream> + Send + Drop,
+    O: Outlet,
+    ensures { MatchResult result
+        (λ _. Wrote O.write_gives out.old listening.now out.new)
+        (λ fault. FirstOrNone O.write_gives out.old listening.now fault out.new) }
+{
+    tell(out, listening)?;
+    let door = Mutex::new(Door::new(listener));
+    attend_all(rt, front, &door, seats, idle)
+}
+
+// Starts a thread for each seat, and opens the door once they are there.
+fn attend_all<R, L>(
+    rt: &R,
+    front: &Front,
+    door: &Mutex<Door<L>>,
+    seats: Vec<Seat>,
+    idle: u32,
+) -> Result<(), ProgramFault>
+where
+    R: Threads + Wait + Eprint + Clock + Sync,
+    L: OpenListener<Stream = TcpStream> + Send + Drop,
+    ensures { IfErr result (λ fault. fault ≡ ProgramFault.Thread) }
+{
+    thread::scope(
+        thread::scope_env(),
+        rt,
+        move |scope| -> Result<(), ProgramFault>
+            ensures { IfErr result (λ fault. fault ≡ ProgramFault.Thread) }
+        {
+            let mut held = door.lock(rt);
+            for seat in seats {
+                let Ok(_) = scope.spawn(move || attend(rt, front, door, seat, idle)) else {
+                    return Err(ProgramFault::Thread);
+                };
+            }
+            held.is_open = true;
+            Ok(())
+        },
+    )
+}
+
+// Serves one client after another by this seat, as long as the door lets them in.
+fn attend<R, L>(rt: &R, front: &Front, door: &Mutex<Door<L>>, seat: Seat, idle: u32)
+where
+    R: Wait + Eprint + Clock,
+    L: OpenListener<Stream = TcpStream> + Drop,
+{
+    let mut seat = seat;
+    for _ in rt.forever() {
+        let Some((session, stream)) = door.lock(rt).admit(rt) else {
+            return;
+        };
+        sessions::limit_silence(&stream, idle);
+        sessions::serve_one(rt, front, &mut seat, session, &stream);
+    }
+}
+
+impl<L: OpenListener<Stream = TcpStream>> Door<L> {
+    // A door that is shut, through which nobody has come.
+    fn new(listener: L) -> Door<L>
+        ensures shut { result.is_open ≡ false }
+        ensures none { result.last ≡ 0 }
+        ensures silent { result.has_told ≡ false }
+    {
+        Door {
+            listener,
+            is_open: false,
+            last: 0,
+            has_told: false,
+        }
+    }
+
+    // Lets the next client in and numbers its session; nobody where the door is shut.
+    fn admit<R: Wait + Eprint + Clock>(&mut self, rt: &R) -> Option<(u32, TcpStream)>
+        ensures { MatchOption result (self.old.is_open ≡ false) (λ guest.
+            (guest.0 ≡ next_number self.old.last) × (self.new.last ≡ guest.0) × (self.new.is_open ≡ self.old.is_open)) }
+    {
+        if !self.is_open {
+            return None;
+        }
+        let stream = self.accept(rt);
+        self.last = if self.last == u32::MAX {
+            1
+        } else {
+            self.last + 1
+        };
+        Some((self.last, stream))
+    }
+
+    // Accepts a client, however often it takes.
+    fn accept<R: Wait + Eprint + Clock>(&mut self, rt: &R) -> TcpStream
+        ensures number { self.new.last ≡ self.old.last }
+        ensures open { self.new.is_open ≡ self.old.is_open }
+    {
+        for _ in rt.forever() {
+            if let Ok((stream, _)) = self.listener.accept() {
+                return stream;
+            }
+            self.tell_once(rt);
+            thread::sleep(rt, Duration::from_millis(100));
+        }
+        unreachable!()
+    }
+
+    // Tells a failed accept on standard error, if it is the first.
+    fn tell_once<R: Eprint>(&mut self, rt: &R)
+        ensures number { self.new.last ≡ self.old.last }
+        ensures open { self.new.is_open ≡ self.old.is_open }
+        ensures told { self.new.has_told ≡ true }
+    {
+        if !self.has_told {
+            let _ = eprintln!(rt; "ringd: accept failed, trying again");
+            self.has_told = true;
+        }
+    }
+}
+
+#[cfg(test)]
+mod tests;
