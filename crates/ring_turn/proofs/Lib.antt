@@ -1,0 +1,12 @@
+pub mod Places
+pub mod Histories
+pub mod Stages
+pub mod Drawing
+pub mod Ending
+pub mod Crewing
+pub mod Turning
+pub mod Opening
+pub mod Closing
+pub mod Calling
+pub mod Gaining
+pub mod Returning

@@ -1,0 +1,16 @@
+use Rattle.std.proofs.Common.{◌≡◌, [], length, ap, ◌∙◌}
+use Rattle.ring_turn.specs.Steps.{served}
+use Rattle.ring_turn.proofs.Turning.{settled_whole}
+use Rattle.ring_turn.proofs.lock.TurnLock.settle.Goals as goal
+
+pub leave-requires-clause-whole : goal.leave-requires-clause-whole
+leave-requires-clause-whole g c =
+    let same : c.args.table ≡ c.in-Some.table = cc in
+    settled_whole c.args.place.now.me c.count.new.place.me c.args.table c.in-Some.table same c.requires.one c.count.ensures.counted
+
+pub returns-clause-settled : goal.returns-clause-settled
+returns-clause-settled g c = record {
+  is = λ entry added. c.leave.ensures.served ∙ ap (λ m. (served m.0, [])) (c.count.ensures.counted entry added);
+  at = ap (λ l. length l) c.history-at.ensures.value;
+  legal = c.history-at.ensures.legal;
+}

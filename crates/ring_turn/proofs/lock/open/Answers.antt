@@ -1,0 +1,9 @@
+use Rattle.std.proofs.Common.{[], ◌∷◌, ◌++◌, length, ap, ◌∙◌}
+use Rattle.std.specs.Prelude.{Some}
+use Rattle.ring_turn.proofs.Crewing.{begins_with}
+use Rattle.ring_turn.proofs.lock.open.Goals as goal
+
+pub new-requires : goal.new-requires
+new-requires g c =
+    begins_with _ _ _ c.args.table _ _ c.requires.few (ap (λ history. length history) c.history.ensures.value)
+    (c.push_reserved.ensures.items ∙ ap (λ desks. desks ++ Some c.args.table ∷ []) c.in-Ok.ensures.items) (ap (λ table. table.history) c.of.ensures)

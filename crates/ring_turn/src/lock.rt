@@ -1,0 +1,131 @@
+//! How a turn lock is opened over a table, and how it is closed.
+ghost use Rattle.std.specs.Prelude.{◌≡◌, ℕ, ◌*◌, ◌^◌, ◌<◌, IfOk};
+ghost use Rattle.ring_turn.specs.Calls.{Closes};
+ghost use Rattle.ring_turn.specs.Seats.{HasAllSeats, IsOpened, fresh_seats};
+
+use crate::rule::{Board, DESK, Joins, Makes, Place, Start};
+use crate::seat::Seat;
+use ring_election::RingElection;
+use ring_id::NoMemory;
+use ring_service::Table;
+use std::alloc::Global;
+use std::marker::Model;
+use std::snapshot::Snapshot;
+use std::sync::Mutex;
+
+/// A table that many threads call, each call in a turn of its own.
+///
+/// It is a ticket lock (Mellor-Crummey and Scott, "Algorithms for scalable synchronization on
+/// shared-memory multiprocessors", 1991): a call draws a ticket, waits until that ticket is served, takes
+/// the table from its desk, performs the call, puts the table back and serves the next ticket. Before it
+/// draws, a call takes a plain lock, so that the thread whose ticket is next is a running one. Contracts
+/// see which lock it is, how many seats it has, and the history that it was opened with.
+#[derive(Drop)]
+pub struct TurnLock<E: RingElection> {
+    pub(crate) alloc: Global,
+    pub(crate) board: Board<E>,
+    pub(crate) maker: Place<E>,
+    pub(crate) door: Mutex<()>,
+}
+
+impl<E: RingElection> Model for TurnLock<E> {
+    ghost use Rattle.ring_turn.specs.Seats.{LockView, lock_of, IsMaker};
+
+    ghost Value = { LockView E };
+
+    ghost view = { λ lock. lock_of lock.board.shared.table_id lock.maker.me.0 };
+
+    ghost invariant = { λ lock. IsMaker lock.board.shared.table_id lock.maker.table_id lock.maker.me };
+}
+
+impl<E: RingElection> TurnLock<E> {
+    /// Opens a lock over a table, with so many seats, numbered from 0, that have so many turns each.
+    ///
+    /// Both numbers are at least 1, and their product is below 2^64. Refused for want of memory alone:
+    /// then the table is dropped.
+    pub fn new(
+        alloc: Global,
+        table: Table<E>,
+        seats: usize,
+        turns: u64,
+    ) -> Result<(TurnLock<E>, Vec<Seat<E>>), NoMemory>
+        requires some { (0 < seats) × (0 < turns) }
+        requires few { seats * turns < 2 ^ 64 }
+        ensures opened { IfOk result (λ made. (made.0.seats ≡ seats) × (made.0.opening ≡ table.history)) }
+        ensures seats { IfOk result (λ made. made.1.items ≡ fresh_seats made.0.id turns table.history seats) }
+    {
+        let Ok((board, mut maker)) = open(alloc, table, seats, turns) else {
+            return Err(NoMemory);
+        };
+        let Ok(mut all) = Vec::with_capacity(alloc, seats) else {
+            return Err(NoMemory);
+        };
+        for _ in 0..seats {
+            let place = board.shared.split_seat::<Makes>(&mut maker);
+            all.push_reserved(Seat { place, left: turns });
+        }
+        let lock = TurnLock {
+            alloc,
+            board,
+            maker,
+            door: Mutex::new(()),
+        };
+        Ok((lock, all))
+    }
+
+    /// Ends the lock, with all its seats, and hands its table over.
+    ///
+    /// The table's history is the one that the lock was opened with, followed by the entries that the
+    /// seats made: those of each seat, each once, in its order, and no others. It begins with what each
+    /// seat has seen. The condition is that each seat is one of this lock and that none is missing.
+    /// Takes no memory.
+    pub fn close(self, seats: Vec<Seat<E>>) -> Table<E>
+        requires { HasAllSeats self seats.items }
+        ensures { Closes E.is_two_way E.is_greatest self seats.items result }
+    {
+        let TurnLock {
+            alloc: _,
+            board,
+            mut maker,
+            door: _,
+        } = self;
+        let mut rest = seats;
+        while let Some(seat) = rest.pop() {
+            let Seat { place, left: _ } = seat;
+            board.shared.join_seat::<Joins>(&mut maker, place);
+        }
+        let mut closed = board.close_with(maker);
+        let Some(table) = closed.take(DESK) else {
+            unreachable!()
+        };
+        closed.free();
+        let _ = table.history();
+        table
+    }
+}
+
+// The table with its words and its desk, and the place that makes the seats.
+fn open<E: RingElection>(
+    alloc: Global,
+    table: Table<E>,
+    seats: usize,
+    turns: u64,
+) -> Result<(Board<E>, Place<E>), NoMemory>
+    requires few { seats * turns < 2 ^ 64 }
+    ensures { IfOk result (λ made. IsOpened seats turns table.history made.0.shared.table_id made.1.table_id made.1.me) }
+{
+    let start = Start {
+        limit: seats as u64 * turns,
+        turns,
+        table: Snapshot::of(&table),
+    };
+    let entries = table.history().len() as u64;
+    let Ok(mut desks) = Vec::with_capacity(alloc, 1) else {
+        return Err(NoMemory);
+    };
+    desks.push_reserved(Some(table));
+    match Board::new(alloc, &[0, 0, entries], desks, &start) {
+        Ok(made) => Ok(made),
+        Err(_) => Err(NoMemory),
+    }
+}

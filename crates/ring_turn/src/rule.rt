@@ -1,0 +1,101 @@
+//! The table of words and one desk under a turn lock, its rule, and the names of its steps.
+
+use crate::view::Doing;
+use atomic_table::{Join, Play, Seat, Split, TableRule};
+use ring_election::RingElection;
+use ring_service::Table;
+use std::alloc::Global;
+use std::snapshot::Snapshot;
+
+// The words: tickets drawn, tickets served, entries counted. And the one slot.
+pub(crate) const DRAWN: usize = 0;
+
+pub(crate) const SERVED: usize = 1;
+
+pub(crate) const ENTRIES: usize = 2;
+
+pub(crate) const DESK: usize = 0;
+
+pub(crate) type Desk<E> = Option<Table<E>>;
+
+pub(crate) type Board<E> = atomic_table::Table<Desk<E>, Doing<E>, Start<E>, InTurn, Global>;
+
+pub(crate) type Place<E> = Seat<Desk<E>, Doing<E>>;
+
+// How a lock starts: how many turns there are in all, how many each seat gets, and the table.
+#[derive(Drop)]
+pub struct Start<E: RingElection> {
+    pub(crate) limit: u64,
+    pub(crate) turns: u64,
+    pub(crate) table: Snapshot<Table<E>>,
+}
+
+// The rule.
+pub struct InTurn;
+
+impl<E: RingElection> TableRule<Option<Table<E>>, Doing<E>, Start<E>> for InTurn {
+    ghost use Rattle.ring_turn.specs.Rule.{Keeps};
+    ghost use Rattle.ring_turn.specs.Steps.{maker};
+
+    ghost holds = { λ _. Keeps };
+
+    ghost first = { λ start. maker start.limit 0 start.turns start.table.value.history };
+}
+
+// A seat draws a ticket.
+pub struct Draws;
+
+impl<E: RingElection> Play<Option<Table<E>>, Doing<E>> for Draws {
+    ghost use Rattle.ring_turn.specs.Steps.{Draws as IsDraw};
+
+    ghost then = { IsDraw };
+}
+
+// A seat looks whether its turn has come, and then takes the desk.
+pub struct Looks;
+
+impl<E: RingElection> Play<Option<Table<E>>, Doing<E>> for Looks {
+    ghost use Rattle.ring_turn.specs.Steps.{Looks as IsLook};
+
+    ghost then = { IsLook };
+}
+
+// A seat counts its entry.
+pub struct Counts;
+
+impl<E: RingElection> Play<Option<Table<E>>, Doing<E>> for Counts {
+    ghost use Rattle.ring_turn.specs.Steps.{Counts as IsCount};
+
+    ghost then = { IsCount };
+}
+
+// A seat gives the desk back, and serves the next.
+pub struct Serves;
+
+impl<E: RingElection> Play<Option<Table<E>>, Doing<E>> for Serves {
+    ghost use Rattle.ring_turn.specs.Steps.{Serves as IsService};
+
+    ghost then = { IsService };
+}
+
+// The maker makes a seat.
+pub struct Makes;
+
+impl<E> Split<Doing<E>> for Makes {
+    ghost use Rattle.ring_turn.specs.Steps.{gave, newcomer};
+
+    ghost left = { gave };
+
+    ghost right = { λ v. newcomer v.turns v.made v.opening };
+}
+
+// A seat is joined to the maker.
+pub struct Joins;
+
+impl<E> Join<Doing<E>> for Joins {
+    ghost use Rattle.ring_turn.specs.Steps.{joined, nobody};
+
+    ghost both = { joined };
+
+    ghost spent = { nobody };
+}

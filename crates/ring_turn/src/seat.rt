@@ -1,0 +1,26 @@
+//! The seats of a turn lock.
+
+use crate::rule::Place;
+use ring_election::RingElection;
+use std::marker::Model;
+
+/// One seat of a turn lock, for the calls of one thread.
+///
+/// Contracts see its lock, its number there, how many turns it has left, the history that the lock was
+/// opened with, the turns that it has seen, and its own entries, in order. It has no bytes but its count
+/// of turns: what it has seen is for proofs.
+#[derive(Drop)]
+pub struct Seat<E: RingElection> {
+    pub(crate) place: Place<E>,
+    pub(crate) left: u64,
+}
+
+impl<E: RingElection> Model for Seat<E> {
+    ghost use Rattle.ring_turn.specs.Seats.{SeatView, seat_of, IsIdle};
+
+    ghost Value = { SeatView E };
+
+    ghost view = { λ seat. seat_of seat.place.table_id seat.left seat.place.me.0 };
+
+    ghost invariant = { λ seat. IsIdle seat.left seat.place.me };
+}

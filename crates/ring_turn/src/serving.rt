@@ -1,0 +1,51 @@
+//! The turn lock as an access to its table.
+ghost use Rattle.std.specs.Prelude.{◌≡◌, map};
+ghost use Rattle.ring_service.specs.Accesses.{Answers, Begins, Reports};
+
+use crate::lock::TurnLock;
+use crate::seat::Seat;
+use ring_election::RingElection;
+use ring_id::GroupName;
+use ring_mux::Command;
+use ring_node::{Charter, Report};
+use ring_service::{Access, Answer, Filed};
+use std::sync::{Arc, Wait};
+
+impl<E: RingElection> Access<E> for TurnLock<E> {
+    type Seat = Seat<E>;
+
+    ghost has_seat = { λ lock seat. seat.lock ≡ lock.id };
+
+    ghost mine = { λ seat. seat.mine };
+
+    fn call<R: Wait>(&self, rt: &R, seat: &mut Seat<E>, session: u32, command: Command<E>) -> Answer
+        requires { seat.old.lock ≡ self.now.id }
+        ensures seat { seat.new.lock ≡ self.now.id }
+        ensures entry { Answers E.is_two_way E.is_greatest session command seat.old.mine result seat.new.mine }
+    {
+        TurnLock::call(self, rt, seat, session, command)
+    }
+
+    fn begin<R: Wait>(
+        &self,
+        rt: &R,
+        seat: &mut Seat<E>,
+        session: u32,
+        group: GroupName,
+        copies: usize,
+    ) -> (Answer, Vec<Arc<Charter<E>>>)
+        requires { seat.old.lock ≡ self.now.id }
+        ensures seat { seat.new.lock ≡ self.now.id }
+        ensures entry { Begins E.is_two_way E.is_greatest session group copies seat.old.mine result.0 (map (λ charter. charter.value) result.1.items) seat.new.mine }
+    {
+        TurnLock::begin(self, rt, seat, session, group, copies)
+    }
+
+    fn report<R: Wait>(&self, rt: &R, seat: &mut Seat<E>, report: &Report<E>) -> Filed
+        requires { seat.old.lock ≡ self.now.id }
+        ensures seat { seat.new.lock ≡ self.now.id }
+        ensures entry { Reports E.is_greatest report.now seat.old.mine result seat.new.mine }
+    {
+        TurnLock::report(self, rt, seat, report)
+    }
+}
