@@ -1,6 +1,6 @@
 -- An identity is a record on the link of each position that it passes, and it passes smaller ones
 -- alone. So of two positions at most one passes the other's identity on, and each sends its own.
-use Rattle.std.proofs.Common.{◌≡◌, ◌+◌, ◌*◌, ◌-◌, ◌<◌, ◌≤◌, ℕ, zero, suc, true, false, cond, List, [], ◌∷◌, ◌++◌, length, reverse, take, drop, Some, slice_get, get_or, nat_lt, mul-suc, suc-mul, refl, sym, ap, ◌∙◌, arith}
+use Rattle.std.proofs.Common.{◌≡◌, ◌+◌, ◌*◌, ◌<◌, ◌≤◌, ℕ, suc, true, false, cond, List, [], ◌∷◌, ◌++◌, length, reverse, take, drop, Some, slice_get, get_or, nat_lt, mul-suc, suc-mul, refl, sym, ap, ◌∙◌, arith}
 use Rattle.std.proofs.lemmas.Bool.Decides.{nat_tests}
 use Rattle.std.proofs.lemmas.Grind.{reverse_onto}
 use Rattle.std.proofs.lemmas.List.{length-append, take-append-drop}
@@ -13,6 +13,7 @@ use Rattle.ring_election.specs.Families.{AllFit, FamilyFits, taken_in_all}
 use Rattle.ring_election.proofs.Families.{length-taken, taken-none_from_right}
 use Rattle.ring_election.proofs.Members.{first_part}
 use Rattle.ring_election.proofs.Rings.{behind, leftward-here, neighbour-below}
+use Rattle.ring_election.proofs.Sums.{sum_to, sum_to-first, sum_to-less, sum_to-round, taken-sum}
 use Rattle.ring_chang.specs.Chang.{chang_fits, records, records_above}
 
 -- ---- How many exceed a number
@@ -71,43 +72,7 @@ records-above ring i me here =
     let long : length (records (leftward ring i)) ≡ suc (length (records_above me (behind ring i))) = ap (λ (l : List ℕ). length (records l)) read in
     omega arith
 
--- ---- Sums over positions
-
--- the sum over the positions below n
-abbrev sum_to : (ℕ → ℕ) → ℕ → ℕ
-sum_to f zero = 0
-sum_to f (suc n) = sum_to f n + f n
-
--- a sum whose first term stands apart
-sum_to-first : (f : ℕ → ℕ) (n : ℕ) → sum_to f (suc n) ≡ f 0 + sum_to (λ i. f (suc i)) n
-sum_to-first f zero = omega arith
-sum_to-first f (suc n) = let before = sum_to-first f n in omega arith
-
--- over the left neighbours of the first positions: the last, and all but one of these
-sum_to-left : (f : ℕ → ℕ) (n k : ℕ) → k < n → sum_to (λ i. f (left_of n i)) (suc k) ≡ f (n - 1) + sum_to f k
-sum_to-left f n zero h = omega arith
-sum_to-left f n (suc k) h =
-    let before = sum_to-left f n k (omega arith) in
-    let left : left_of n (suc k) ≡ k = grind (arith, nat_tests) in
-    let same : f (left_of n (suc k)) ≡ f k = ap f left in
-    omega arith
-
--- over all left neighbours, the sum is that over all positions
-sum_to-round : (f : ℕ → ℕ) (n : ℕ) → sum_to (λ i. f (left_of n i)) n ≡ sum_to f n
-sum_to-round f zero = refl
-sum_to-round f (suc n) =
-    let all = sum_to-left f (suc n) n (omega arith) in
-    let last : suc n - 1 ≡ n = omega arith in
-    let same : f (suc n - 1) ≡ f n = ap f last in
-    omega arith
-
--- what each position took is no more than a term of the sum
-taken-at_most : {M : Type 0} (f : ℕ → ℕ) (n : ℕ) (family : ℕ → List (Side × M)) → ((i : ℕ) → i < n → length (family i) ≤ f i) → taken_in_all n family ≤ sum_to f n
-taken-at_most f zero family each = omega arith
-taken-at_most f (suc n) family each =
-    let before = taken-at_most f n family (λ i below. each i (omega arith)) in
-    let here = each n (omega arith) in
-    omega arith
+-- ---- Sums over a list
 
 -- the sum over a list of how many of another exceed the element, and one for each
 abbrev passes : List ℕ → List ℕ → ℕ
@@ -169,8 +134,9 @@ taken-few ring i receipts inside all =
 -- in a family that fits, at most n(n + 1)/2 messages are taken
 pub taken-triangle : (ring : List ℕ) (family : ℕ → List (Side × ℕ)) → FamilyFits chang_fits ring family → 2 * taken_in_all (length ring) family ≤ length ring * (length ring + 1)
 taken-triangle ring family fits =
-    let each = taken-at_most (λ i. suc (above (get_or ring (left_of (length ring) i) 0) ring)) (length ring) family (λ i inside. taken-few ring i (family i) inside (fits.at i inside)) in
-    let round = sum_to-round (λ i. suc (above (get_or ring i 0) ring)) (length ring) in
+    let whole = taken-sum (length ring) family in
+    let each = sum_to-less (λ i. length (family i)) (λ i. suc (above (get_or ring (left_of (length ring) i) 0) ring)) (length ring) (λ i inside. taken-few ring i (family i) inside (fits.at i inside)) in
+    let round = sum_to-round (λ i. suc (above (get_or ring i 0) ring)) (length ring) Left in
     let list = passes-sum ring ring in
     let triangle = passes-triangle ring in
     omega arith
