@@ -71,6 +71,7 @@ fills-reading gives from to old new answer bytes len r =
     record {
       log = reading answer (drop len bytes) ∷ [];
       calls = (to, r.step, refl);
+      once = omega arith;
       reads = omega (arith, r.reads);
       stops = rw r.phase (stops-phase_of answer (drop len bytes) new.reads room);
       held = r.held ∙ held-reading answer bytes old.held len r.front;

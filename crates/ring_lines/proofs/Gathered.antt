@@ -1,12 +1,12 @@
 -- A call of `next`, from its first read call to its answer.
 use Rattle.std.proofs.Common.{◌≡◌, ℕ, ◌+◌, ◌*◌, ◌<◌, ◌≤◌, Bool, true, false, ◌||◌, nat_lt, if◌then◌else◌, ◌==◌, List, [], ◌∷◌, ◌++◌, length, take, drop, refl, ap, sym, ◌∙◌, subst, arith, length-append, length-drop, append-nil, append_assoc}
 use Rattle.std.specs.List.{list_all}
-use Rattle.std.proofs.lemmas.Bool.{ltb-true, ltb-false, or_parts, true≢false}
+use Rattle.std.proofs.lemmas.Bool.{ltb-true, ltb-false, true≢false}
 use Rattle.std.proofs.lemmas.List.Folds.{list_any-append}
 use Rattle.ring_lines.specs.Ends.{Reading, Calls, bytes_of, goes_on}
 use Rattle.ring_lines.specs.Lines.{lines_of, has_lf}
 use Rattle.ring_lines.specs.Buffer.{BufferView}
-use Rattle.ring_lines.specs.Reader.{Answers, Stops, Begins, Shows, MayGive}
+use Rattle.ring_lines.specs.Reader.{Answers, Stops, Begins, Shows, MayGive, Waits}
 use Rattle.ring_lines.specs.Filling.{IsCutAt, answer_of, last_of, Fills}
 use Rattle.ring_lines.specs.declared.answers.LineFault.{LineFault}
 use Rattle.ring_lines.specs.declared.answers.LineFault.TheVariants as fault
@@ -14,7 +14,7 @@ use Rattle.ring_lines.specs.declared.answers.Phase.{Phase}
 use Rattle.ring_lines.specs.declared.answers.Phase.TheVariants as phase
 use Rattle.ring_lines.specs.declared.answers.Next.TheVariants as next
 use Rattle.ring_lines.specs.Sequences.{Calls-append, bytes_of-append}
-use Rattle.ring_lines.proofs.Calling.{went_on-append, LastOf-append}
+use Rattle.ring_lines.proofs.Calling.{went_on-append, LastOf-append, waits_once, waits-append}
 use Rattle.ring_lines.proofs.Cutting.{lines_of-line, whole_lines_of-line, lines_of-rest, whole_lines_of-rest}
 
 -- What was dropped of the line at hand: more than a line may have, or nothing.
@@ -33,20 +33,16 @@ pub record Reaches {S : Type 0} (gives : S → Reading → S → Type 0) (from :
   pub uncut : has_lf dropped ≡ false
   pub text : old.held ++ bytes_of log ≡ dropped ++ new.held
 
--- Such calls, after which more may come. None was made where a line was held.
+-- Such calls, after which more may come, each made where no line was held.
 pub record Gathers {S : Type 0} (gives : S → Reading → S → Type 0) (from : S) (old : BufferView) (long : Bool) (to : S) (new : BufferView) : Type 0 where
   pub reached : Reaches gives from old long to new
   pub went_on : list_all goes_on reached.log ≡ true
   pub still_open : new.phase ≡ phase.Open
-  pub unread : has_lf old.held ≡ true → reached.log ≡ []
+  pub waited : Waits old.held reached.log
 
 -- there is no LF in two texts if there is none in either
 has_lf-append : (first second : List ℕ) → has_lf first ≡ false → has_lf second ≡ false → has_lf (first ++ second) ≡ false
 has_lf-append first second a b = list_any-append (λ byte. byte == 10) first second ∙ rw a b
-
--- nor in the first of two that have none
-has_lf-front : (first second : List ℕ) → has_lf (first ++ second) ≡ false → has_lf first ≡ false
-has_lf-front first second h = (or_parts _ _ (sym (list_any-append (λ byte. byte == 10) first second) ∙ h)).0
 
 -- what is dropped with more behind it
 is_dropped-append : (long : Bool) (dropped held : List ℕ) → IsDropped long dropped → long || nat_lt 128 (length held) ≡ true → IsDropped true (dropped ++ held)
@@ -107,7 +103,7 @@ module _ {S : Type 0} (gives : S → Reading → S → Type 0) (from : S) (old :
     reached = record { log = []; calls = refl; reads = omega arith; few = omega arith; dropped = []; is_dropped = refl; uncut = refl; text = append-nil old.held };
     went_on = refl;
     still_open = open_first;
-    unread = λ _. refl;
+    waited = tt;
   }
 
   -- what is held is dropped where it is more than a line may have
@@ -125,14 +121,10 @@ module _ {S : Type 0} (gives : S → Reading → S → Type 0) (from : S) (old :
     };
     went_on = g.went_on;
     still_open = g.still_open;
-    unread = g.unread;
+    waited = g.waited;
   }
   gathers_drop true false to mid g none is = absurd (true≢false (sym is))
   gathers_drop false false to mid g none is = g
-
-  -- no LF was held at first where none was dropped and none is held now
-  none_at_first : (long : Bool) (to : S) (mid : BufferView) → Reaches gives from old long to mid → has_lf mid.held ≡ false → has_lf old.held ≡ false
-  none_at_first long to mid r none = has_lf-front old.held (bytes_of r.log) (rw r.text (has_lf-append r.dropped mid.held r.uncut none))
 
   -- one read call more
   abbrev reaches_more : (long : Bool) (to after : S) (mid new : BufferView) → Reaches gives from old long to mid → Fills gives to mid after new → Reaches gives from old long after new
@@ -147,6 +139,12 @@ module _ {S : Type 0} (gives : S → Reading → S → Type 0) (from : S) (old :
     text = rw (bytes_of-append, ← append_assoc, r.text, append_assoc, ← f.held) refl;
   }
 
+  -- and it is made where no line is held, as those before it were
+  waited_more : (long : Bool) (to after : S) (mid new : BufferView) (g : Gathers gives from old long to mid) → has_lf mid.held ≡ false → (f : Fills gives to mid after new) → Waits old.held (g.reached.log ++ f.log)
+  waited_more long to after mid new g none f =
+      let unheld : has_lf (old.held ++ bytes_of g.reached.log) ≡ false = rw g.reached.text (has_lf-append g.reached.dropped mid.held g.reached.uncut none) in
+      waits-append old.held g.reached.log f.log g.went_on g.waited (waits_once (old.held ++ bytes_of g.reached.log) f.log unheld f.once)
+
   -- one read call more, after which more may come
   pub gathers_more : (long : Bool) (to after : S) (mid new : BufferView) → Gathers gives from old long to mid → has_lf mid.held ≡ false → Fills gives to mid after new → new.phase ≡ phase.Open → Gathers gives from old long after new
   gathers_more long to after mid new g none f still = record {
@@ -155,7 +153,7 @@ module _ {S : Type 0} (gives : S → Reading → S → Type 0) (from : S) (old :
         let on : list_all goes_on f.log ≡ true = subst (λ p. Stops p f.log new.reads) still f.stops in
         went_on-append g.reached.log f.log g.went_on on;
     still_open = still;
-    unread = λ held. absurd (true≢false (sym held ∙ none_at_first long to mid g.reached none));
+    waited = waited_more long to after mid new g none f;
   }
 
   -- where an LF is held, the line before it is answered
@@ -171,7 +169,7 @@ module _ {S : Type 0} (gives : S → Reading → S → Type 0) (from : S) (old :
         log = r.log;
         calls = r.calls;
         reads = r.reads;
-        unread = g.unread;
+        waited = g.waited;
         stops = rw g.still_open g.went_on;
         given = line ∷ [];
         shows = shows_line long r.dropped (take len mid.held) mid.phase r.is_dropped (rw g.still_open tt);
@@ -194,7 +192,7 @@ module _ {S : Type 0} (gives : S → Reading → S → Type 0) (from : S) (old :
         log = r.log;
         calls = r.calls;
         reads = r.reads;
-        unread = λ held. absurd (true≢false (sym held ∙ none_at_first long to mid g.reached none));
+        waited = waited_more long to after mid new g none f;
         stops = stops-append new.phase g.reached.log f.log new.reads g.went_on f.stops;
         given = rest_lines (r.dropped ++ new.held);
         shows = rw ended (shows_rest long r.dropped new.held r.is_dropped);
@@ -212,7 +210,7 @@ module _ {S : Type 0} (gives : S → Reading → S → Type 0) (from : S) (old :
         log = r.log;
         calls = r.calls;
         reads = r.reads;
-        unread = λ held. absurd (true≢false (sym held ∙ none_at_first long to mid g.reached none));
+        waited = waited_more long to after mid new g none f;
         stops = stops-append new.phase g.reached.log f.log new.reads g.went_on f.stops;
         given = [];
         shows = (refl, faulted);

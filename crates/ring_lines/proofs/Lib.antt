@@ -1,8 +1,9 @@
+pub mod AnsweringLines
+pub mod Beginning
 pub mod Calling
 pub mod Cutting
-pub mod Given
 mod Filled
 pub mod Gathered
 pub mod Paging
+pub mod Rounds
 pub mod Writing
-pub mod Replays

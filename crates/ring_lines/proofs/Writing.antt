@@ -1,5 +1,5 @@
 -- Texts written one after another.
-use Rattle.std.proofs.Common.{◌≡◌, ◌<◌, ℕ, length, length-append, arith, List, [], ◌∷◌, ◌++◌, take, drop, Result, Ok, Err, refl, ap, sym, ◌∙◌, append_assoc, append-nil}
+use Rattle.std.proofs.Common.{◌≡◌, ◌<◌, ℕ, length, List, [], ◌∷◌, ◌++◌, take, drop, Result, Ok, Err, refl, ap, sym, ◌∙◌, append_assoc, append-nil}
 use Rattle.std.proofs.lemmas.List.{take-append-drop}
 use Rattle.ring_lines.specs.Ends.{Writing, writing, Calls, bytes_in, bytes_of, Wrote, WroteFront}
 use Rattle.std.specs.Prelude.{OnErr, OnOk}

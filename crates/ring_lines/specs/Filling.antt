@@ -42,6 +42,7 @@ phase_of (Err read_fault.Failed) = phase.Faulted fault.Read
 pub record Fills {S : Type 0} (gives : S → Reading → S → Type 0) (from : S) (old : BufferView) (to : S) (new : BufferView) : Type 0 where
   pub log : List Reading
   pub calls : Calls gives from log to
+  pub once : length log ≤ 1
   pub reads : length log + new.reads ≡ old.reads
   pub stops : Stops new.phase log new.reads
   pub held : new.held ≡ old.held ++ bytes_of log

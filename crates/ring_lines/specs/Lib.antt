@@ -8,4 +8,5 @@ pub mod Page
 pub mod Pages
 pub mod Reader
 pub mod Replay
+pub mod Rounds
 pub mod Sequences

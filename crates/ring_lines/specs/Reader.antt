@@ -1,6 +1,6 @@
-use Rattle.std.specs.Prelude.{◌≡◌, ℕ, ◌+◌, ◌*◌, ◌<◌, ◌≤◌, true, List, [], ◌∷◌, ◌++◌, length, Ok, Err, ⊤}
+use Rattle.std.specs.Prelude.{◌≡◌, ◌⊎◌, ℕ, ◌+◌, ◌*◌, ◌<◌, ◌≤◌, true, false, List, [], ◌∷◌, ◌++◌, length, Ok, Err, ⊤}
 use Rattle.std.specs.List.{list_all}
-use Rattle.ring_lines.specs.Ends.{Reading, Calls, bytes_of, goes_on, LastOf}
+use Rattle.ring_lines.specs.Ends.{Reading, Calls, bytes_in, bytes_of, goes_on, LastOf}
 use Rattle.ring_lines.specs.Lines.{lines_of, whole_lines_of, has_lf}
 use Rattle.ring_lines.specs.Buffer.{BufferView}
 use Rattle.ring_lines.specs.declared.ends.ReadFault.TheVariants as read_fault
@@ -48,13 +48,18 @@ Cuts phase.Open text given rest = Begins text given rest
 Cuts phase.Ended text given rest = lines_of text ≡ given
 Cuts (phase.Faulted fault) text given rest = whole_lines_of text ≡ given
 
+-- Each of these read calls is made where no line is held, and after one that another may follow.
+abbrev pub Waits : List ℕ → List Reading → Type 0
+Waits held [] = ⊤
+Waits held (call ∷ calls) = (has_lf held ≡ false) × ((calls ≡ []) ⊎ (goes_on call ≡ true)) × Waits (held ++ bytes_in call) calls
+
 -- A call of `next` while more lines may come, from one state of the reader and of the buffer to another.
 pub record Answers {S : Type 0} (gives : S → Reading → S → Type 0) (from : S) (old : BufferView) (answer : Next) (to : S) (new : BufferView) : Type 0 where
-  -- the read calls that it makes: no more than were left, and none where a line is held
+  -- the read calls that it makes: no more than were left, and each where no line is held
   pub log : List Reading
   pub calls : Calls gives from log to
   pub reads : length log + new.reads ≡ old.reads
-  pub unread : has_lf old.held ≡ true → log ≡ []
+  pub waited : Waits old.held log
   pub stops : Stops new.phase log new.reads
   -- the line that it gives, or none: the next one of what was held and read
   pub given : List (List ℕ)

@@ -1,5 +1,5 @@
 -- Texts written one after another, and what an outlet takes piece by piece.
-use Rattle.std.proofs.Common.{◌≡◌, ◌<◌, ℕ, length, length-append, arith, List, [], ◌∷◌, ◌++◌, Result, refl, ap, sym, ◌∙◌, subst, append_assoc, append-nil}
+use Rattle.std.proofs.Common.{◌≡◌, ℕ, length-append, arith, List, [], ◌∷◌, ◌++◌, Result, refl, ap, sym, ◌∙◌, subst, append_assoc, append-nil}
 use Rattle.std.proofs.lemmas.List.Concat.{flat_map-append}
 use Rattle.ring_grammar.specs.Sinks.{IsSequence}
 use Rattle.ring_lines.specs.Ends.{Writing, Calls, bytes_in, bytes_of, Wrote, WroteFront}

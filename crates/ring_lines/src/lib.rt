@@ -7,6 +7,7 @@
 //! failed read, and when the read calls that it was granted are used up.
 #![tactic(auto)]
 
+mod answering;
 mod answers;
 mod buffer;
 mod drip;
@@ -15,13 +16,15 @@ mod page;
 mod passing;
 mod reader;
 mod replaying;
+mod spell;
 
+pub use answering::{Answerer, answer_lines};
 pub use answers::{Line, LineFault, Next, Phase};
 pub use buffer::LineBuffer;
 pub use drip::{DripIn, DripOut};
 pub use ends::{FromRead, Intake, Outlet, ReadFault, ToWrite, WriteFailed, put};
 pub use page::Page;
-pub use passing::{close, pass_on, write_before_reading};
 pub use reader::LineReader;
 pub use replaying::replay;
 pub use ring_grammar::{one_spelling, parse_command, parse_event, print_reply};
+pub use spell::Spell;

@@ -47,13 +47,18 @@ impl Page {
         self.bytes.truncate(len);
     }
 
-    /// Writes its text and takes it off. At `Err` a front of the text was written, and it stays.
+    /// Writes its text and takes it off. At `Err` a front of the text was written, and it stays. Where
+    /// there is no text, no write call is made.
     pub fn write_out<W: Outlet>(&mut self, out: &mut W) -> Result<(), WriteFailed>
         ensures ok { OnOk result (Wrote W.write_gives out.old self.old.text out.new) }
         ensures emptied { OnOk result (self.new.text ≡ []) }
         ensures err { OnErr result (WroteFront W.write_gives out.old self.old.text out.new) }
         ensures kept { OnErr result (self.new ≡ self.old) }
+        ensures still { self.old.text ≡ [] → out.new ≡ out.old }
     {
+        if self.bytes.is_empty() {
+            return Ok(());
+        }
         put(out, &self.bytes)?;
         self.bytes.clear();
         Ok(())

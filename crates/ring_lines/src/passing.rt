@@ -1,6 +1,5 @@
-//! Replies on their way to a writer: they gather on a page, which is written where it has no room.
+//! Answers on their way to a writer: they gather on a page, which is written where it has no room.
 ghost use Rattle.std.specs.Prelude.{◌≡◌, ◌++◌, [], false, OnErr, OnOk};
-ghost use Rattle.ring_grammar.specs.Spelling.{reply_line};
 ghost use Rattle.ring_lines.specs.Ends.{WroteFront};
 ghost use Rattle.ring_lines.specs.Lines.{has_lf};
 ghost use Rattle.ring_lines.specs.Pages.{Closes, Passes};
@@ -9,10 +8,10 @@ use crate::answers::LineFault;
 use crate::buffer::LineBuffer;
 use crate::ends::{Outlet, WriteFailed, put};
 use crate::page::Page;
-use ring_grammar::{Sink, SinkFailed, print_reply};
-use ring_mux::Reply;
+use crate::spell::Spell;
+use ring_grammar::{Sink, SinkFailed};
 
-// A page before a writer, as what a reply is put into.
+// A page before a writer, as what an answer is put into.
 #[derive(Drop)]
 struct Feeder<'a, W> {
     page: &'a mut Page,
@@ -52,23 +51,27 @@ fn feed<W: Outlet>(page: &mut Page, writer: &mut W, bytes: &[u8]) -> Result<(), 
     put(writer, bytes)
 }
 
-/// Passes the line of a reply on: onto the page, which is written before it where it has no room.
-///
-/// At `Err` a front of what the page held and of the line was written, and the last write call failed
-/// or took no byte.
-pub fn pass_on<W: Outlet>(reply: &Reply, page: &mut Page, writer: &mut W) -> Result<(), WriteFailed>
-    ensures ok { OnOk result (Passes W.write_gives writer.old page.old.text (reply_line reply.now) writer.new page.new.text) }
-    ensures err { OnErr result (WroteFront W.write_gives writer.old (page.old.text ++ reply_line reply.now) writer.new) }
+// Passes an answer on: onto the page, which is written before it where it has no room.
+//
+// At `Err` a front of what the page held and of the answer was written, and the last write call
+// failed or took no byte.
+pub(crate) fn pass_on<A: Spell, W: Outlet>(
+    answer: &A,
+    page: &mut Page,
+    writer: &mut W,
+) -> Result<(), WriteFailed>
+    ensures ok { OnOk result (Passes W.write_gives writer.old page.old.text (A.spelling answer.now) writer.new page.new.text) }
+    ensures err { OnErr result (WroteFront W.write_gives writer.old (page.old.text ++ A.spelling answer.now) writer.new) }
 {
     let mut feeder = Feeder { page, writer };
-    match print_reply(reply, &mut feeder) {
+    match answer.spell(&mut feeder) {
         Ok(()) => Ok(()),
         Err(SinkFailed) => Err(WriteFailed),
     }
 }
 
-/// Writes the page where no line is held, so that replies are out before more is waited for.
-pub fn write_before_reading<W: Outlet>(
+// Writes the page where no line is held, so that answers are out before more is waited for.
+pub(crate) fn write_before_reading<W: Outlet>(
     lines: &LineBuffer,
     page: &mut Page,
     writer: &mut W,
@@ -76,6 +79,7 @@ pub fn write_before_reading<W: Outlet>(
     ensures ok { OnOk result (Passes W.write_gives writer.old page.old.text [] writer.new page.new.text) }
     ensures emptied { OnOk result (has_lf lines.now.held ≡ false → page.new.text ≡ []) }
     ensures err { OnErr result (WroteFront W.write_gives writer.old page.old.text writer.new) }
+    ensures still { page.old.text ≡ [] → writer.new ≡ writer.old }
 {
     if lines.has_line() {
         return Ok(());
@@ -83,13 +87,14 @@ pub fn write_before_reading<W: Outlet>(
     page.write_out(writer)
 }
 
-/// Writes the page, and answers what the lines came to, or that writing failed.
-pub fn close<W: Outlet>(
+// Writes the page, and answers what the lines came to, or that writing failed.
+pub(crate) fn close<W: Outlet>(
     page: &mut Page,
     writer: &mut W,
     came_to: Result<u64, LineFault>,
 ) -> Result<u64, LineFault>
-    ensures { Closes W.write_gives writer.old page.old.text came_to result writer.new }
+    ensures closes { Closes W.write_gives writer.old page.old.text came_to result writer.new }
+    ensures still { page.old.text ≡ [] → writer.new ≡ writer.old }
 {
     match page.write_out(writer) {
         Ok(()) => came_to,

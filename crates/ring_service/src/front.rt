@@ -3,17 +3,12 @@ ghost use Rattle.ring_service.specs.Sessions.{IsReply, RepliesTo, Serves};
 use crate::table::Table;
 use ring_any::Any;
 use ring_id::Refusal;
-use ring_lines::{
-    Intake, LineBuffer, LineFault, Next, Outlet, Page, close, parse_command, pass_on,
-    write_before_reading,
-};
+use ring_lines::{Answerer, Intake, LineFault, Outlet, answer_lines, parse_command};
 use ring_mux::{Command, Reply};
 use std::alloc::Global;
+use std::marker::Model;
 use std::mem;
 use std::sync::{Mutex, Wait};
-
-/// How many bytes of replies are kept before they are written.
-const PAGE: usize = 65536;
 
 /// What the sessions of a service share: its table, under a lock.
 #[derive(Drop)]
@@ -35,11 +30,10 @@ impl Front {
     ///
     /// A line that spells a client command is answered by the table's reply, and any other line by `no
     /// bad-line`, among them the lines of a schedule. The table is locked for each command by itself.
-    /// `Ok` is the number of lines, and comes at the end of the input alone. At `Read` and at `Endless`
-    /// the lines that an LF ends are answered; at `Write` a front of the replies was written; at
-    /// `NoMemory` nothing was read. Makes at most `reads` read calls, and one where the lines that it
-    /// holds are answered only after those replies are written. Waits for the lock, and for the reader
-    /// and the writer.
+    /// Before each read call exactly the replies to the lines that were read whole are written. `Ok` is
+    /// the number of lines, and comes at the end of the input alone. At `Read` and at `Endless` the lines
+    /// that an LF ends are answered; at `Write` a front of the replies was written; at `NoMemory` nothing
+    /// was read. Makes at most `reads` read calls. Waits for the lock, and for the reader and the writer.
     pub fn serve<R: Wait, I: Intake, O: Outlet>(
         &self,
         rt: &R,
@@ -50,28 +44,12 @@ impl Front {
     ) -> Result<u64, LineFault>
         ensures { Serves I.read_gives O.write_gives session reader.old writer.old reads result reader.new writer.new }
     {
-        let Ok(mut lines) = LineBuffer::new(self.alloc, reads) else {
-            return Err(LineFault::NoMemory);
+        let mut session = Session {
+            front: self,
+            rt,
+            number: session,
         };
-        let Ok(mut page) = Page::new(self.alloc, PAGE) else {
-            return Err(LineFault::NoMemory);
-        };
-        let mut count = 0;
-        loop {
-            let Ok(()) = write_before_reading(&lines, &mut page, writer) else {
-                return Err(LineFault::Write);
-            };
-            let reply = match lines.next(reader) {
-                Next::Line(line) => self.reply_to(rt, session, line.bytes()),
-                Next::Long => Reply::Refused(Refusal::BadLine),
-                Next::End => return close(&mut page, writer, Ok(count)),
-                Next::Fault(fault) => return close(&mut page, writer, Err(fault)),
-            };
-            let Ok(()) = pass_on(&reply, &mut page, writer) else {
-                return Err(LineFault::Write);
-            };
-            count += 1;
-        }
+        answer_lines(self.alloc, &mut session, reader, writer, reads)
     }
 
     // The reply to a line.
@@ -96,3 +74,38 @@ impl Front {
         mem::replace(&mut *self.table.lock(rt), Table::new(self.alloc))
     }
 }
+
+// A session, as what answers its lines: the front, and the session's number.
+#[derive(Drop)]
+struct Session<'a, R> {
+    front: &'a Front,
+    rt: &'a R,
+    number: u32,
+}
+
+impl<'a, R> Model for Session<'a, R> {
+    ghost use Rattle.std.specs.Prelude.{ℕ};
+
+    ghost Value = { ℕ };
+
+    ghost view = { λ a. a.number };
+}
+
+impl<R: Wait> Answerer for Session<'_, R> {
+    ghost use Rattle.ring_service.specs.Sessions.{AnswersIn};
+
+    type Answer = Reply;
+
+    ghost answers = { AnswersIn };
+
+    fn answer(&mut self, _alloc: Global, line: &[u8]) -> Reply {
+        self.front.reply_to(self.rt, self.number, line)
+    }
+
+    fn answer_long(&mut self) -> Reply {
+        Reply::Refused(Refusal::BadLine)
+    }
+}
+
+#[cfg(test)]
+mod tests;

@@ -1,11 +1,8 @@
 -- After the cut the page holds what it held at first; what is written then is that, and the text behind it.
-use Rattle.std.proofs.Common.{List, refl, ap, sym, ◌∙◌, ◌≡◌, ◌++◌, [], take, length, append-nil}
-use Rattle.ring_lines.specs.Ends.{Wrote, WroteFront}
-use Rattle.ring_lines.specs.Pages.{Passes}
+use Rattle.std.proofs.Common.{List, refl, ap, ◌∙◌, ◌≡◌, ◌++◌, take, length, append-nil}
 use Rattle.ring_lines.specs.Sequences.{wrote_front, wrote_next, wrote_then}
 use Rattle.ring_lines.proofs.Paging.{take-appends_front}
 use Rattle.ring_lines.proofs.Writing.{where_err, where_ok}
-use Rattle.ring_lines.proofs.passing.feed.Given.{Over}
 use Rattle.ring_lines.proofs.passing.feed.Goals as goal
 
 pub returns-in_default-write_out-clause-err : goal.returns-in_default-write_out-clause-err

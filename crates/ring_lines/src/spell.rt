@@ -1,0 +1,29 @@
+ghost use Rattle.std.specs.Prelude.{OnErr, OnOk};
+
+use ring_grammar::{Sink, SinkFailed, print_reply};
+use ring_mux::Reply;
+
+/// What is spelled by bytes, as an answer to a line is.
+///
+/// The ghost member is its spelling, with the LF that ends it.
+pub trait Spell {
+    ghost use Rattle.std.specs.Prelude.{List, ℕ};
+
+    ghost spelling: { Self → List ℕ };
+
+    /// Puts its spelling, or fails after a front of it. Takes no memory.
+    fn spell<S: Sink>(&self, out: &mut S) -> Result<(), SinkFailed>
+        ensures ok { OnOk result (S.takes out.old (spelling self.now) out.new) }
+        ensures err { OnErr result (S.takes_front out.old (spelling self.now) out.new) };
+}
+
+/// A reply is spelled by its line.
+impl Spell for Reply {
+    ghost use Rattle.ring_grammar.specs.Spelling.{reply_line};
+
+    ghost spelling = { reply_line };
+
+    fn spell<S: Sink>(&self, out: &mut S) -> Result<(), SinkFailed> {
+        print_reply(self, out)
+    }
+}
