@@ -1,6 +1,8 @@
 -- Lines put word by word.
-use Rattle.std.proofs.Common.{◌≡◌, ◌<◌, ◌≤◌, ◌+◌, ℕ, Bool, true, false, List, [], ◌∷◌, ◌++◌, length, take, drop, get_or, map, Option, Result, Ok, Err, OnErr, zero, suc, refl, sym, ◌∙◌, ap, subst, append_assoc, append-nil, arith, codes, decimal}
+use Rattle.std.proofs.Common.{◌≡◌, ◌<◌, ◌≤◌, ◌+◌, ℕ, Bool, true, false, List, [], ◌∷◌, ◌++◌, length, take, drop, get_or, map, Option, Result, Ok, Err, OnErr, OnOk, zero, suc, refl, sym, ◌∙◌, ap, subst, append_assoc, append-nil, arith, codes, decimal}
 use Rattle.std.proofs.lemmas.List.{get_or-map, length-map, take-append-drop, take_all, take_more}
+use Rattle.std.proofs.lemmas.List.Elements.{All-more}
+use Rattle.std.specs.List.{All}
 use Rattle.ring_grammar.specs.Sinks.{IsSequence}
 use Rattle.ring_grammar.specs.Spelling.{line_of, starved_words, term_word, term_words}
 
@@ -8,6 +10,11 @@ use Rattle.ring_grammar.specs.Spelling.{line_of, starved_words, term_word, term_
 pub on_err_anyway : {T E P : Type 0} (result : Result T E) → P → OnErr result P
 on_err_anyway (Ok value) p = tt
 on_err_anyway (Err fault) p = p
+
+-- and at a value
+pub on_ok_anyway : {T E P : Type 0} (result : Result T E) → P → OnOk result P
+on_ok_anyway (Ok value) p = p
+on_ok_anyway (Err fault) p = tt
 
 -- the end of a reply to a drain
 abbrev pub starved_text : Bool → List ℕ
@@ -63,6 +70,19 @@ at_terms first (other ∷ leaders) (suc i) number leader counted at =
 pub length-term_words : (first : ℕ) (leaders : List (Option ℕ)) → length (term_words first leaders) ≡ length leaders
 length-term_words first [] = refl
 length-term_words first (leader ∷ leaders) = ap suc (length-term_words (first + 1) leaders)
+
+-- So much was put, and what it spells is legal.
+pub record PutSoFar {S X : Type 0} (takes : S → List ℕ → S → Type 0) (IsLegal : X → Type 0) (from : S) (text : List ℕ) (spelled : List X) (to : S) : Type 0 where
+  pub put : takes from text to
+  pub legal : All IsLegal spelled
+
+-- one legal element more
+pub legal_more : {X : Type 0} (IsLegal : X → Type 0) (xs : List X) (i : ℕ) (x : X) → IsAt xs i x → All IsLegal (take i xs) → IsLegal x → All IsLegal (take (i + 1) xs)
+legal_more IsLegal xs i x at all one = All-more IsLegal xs i x at.below all (subst IsLegal at.is one)
+
+-- all of them
+pub legal_all : {X : Type 0} (IsLegal : X → Type 0) (xs : List X) (i : ℕ) → length xs ≤ i → All IsLegal (take i xs) → All IsLegal xs
+legal_all IsLegal xs i past all = subst (λ (l : List _). All IsLegal l) (take_all i xs past) all
 
 -- one word more
 spaced_more : (head : List ℕ) (words : List (List ℕ)) (i : ℕ) (word : List ℕ) → IsAt words i word → (head ++ spaced (take i words)) ++ (32 ∷ word) ≡ head ++ spaced (take (i + 1) words)

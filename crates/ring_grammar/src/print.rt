@@ -1,5 +1,6 @@
-ghost use Rattle.std.specs.Prelude.{◌++◌, ◌∷◌, decimal, OnErr, OnOk};
-ghost use Rattle.ring_grammar.specs.Spelling.{line_of, node_word, reply_line, reply_words, term_word};
+ghost use Rattle.std.specs.Prelude.{◌++◌, ◌∷◌, decimal, All, IfSome, OnErr, OnOk};
+ghost use Rattle.ring_id.specs.GroupName.{IsName};
+ghost use Rattle.ring_grammar.specs.Spelling.{IsNode, IsReply, line_of, node_word, reply_line, reply_words, term_word};
 ghost use Rattle.ring_mux.specs.declared.reply.Reply.TheVariants as reply;
 
 use crate::sink::{Sink, SinkFailed};
@@ -7,12 +8,13 @@ use itoa::Buffer;
 use ring_id::{GroupName, NodeId};
 use ring_mux::Reply;
 
-/// Puts the line of a reply: its one spelling and an LF.
+/// Puts the line of a reply: its one spelling and an LF. What is put whole is a reply of the grammar.
 ///
 /// At `Err` a front of it was put. Takes no memory.
 pub fn print_reply<W: Sink>(reply: &Reply, out: &mut W) -> Result<(), SinkFailed>
     ensures ok { OnOk result (W.takes out.old (reply_line reply.now) out.new) }
     ensures err { OnErr result (W.takes_front out.old (reply_line reply.now) out.new) }
+    ensures legal { OnOk result (IsReply reply.now) }
 {
     put_words(reply, out)?;
     out.put(b"\n")
@@ -22,6 +24,7 @@ pub fn print_reply<W: Sink>(reply: &Reply, out: &mut W) -> Result<(), SinkFailed
 fn put_words<W: Sink>(reply: &Reply, out: &mut W) -> Result<(), SinkFailed>
     ensures ok { OnOk result (W.takes out.old (line_of (reply_words reply.now)) out.new) }
     ensures err { OnErr result (W.takes_front out.old (line_of (reply_words reply.now)) out.new) }
+    ensures legal { OnOk result (IsReply reply.now) }
 {
     match reply {
         Reply::Done => out.put(b"ok"),
@@ -70,6 +73,7 @@ fn put_number<W: Sink>(text: &[u8], number: u128, out: &mut W) -> Result<(), Sin
 fn put_node<W: Sink>(text: &[u8], node: NodeId, out: &mut W) -> Result<(), SinkFailed>
     ensures ok { OnOk result (W.takes out.old (text.now ++ node_word node) out.new) }
     ensures err { OnErr result (W.takes_front out.old (text.now ++ node_word node) out.new) }
+    ensures legal { IsNode node }
 {
     put_number(text, u128::from(node.get()), out)
 }
@@ -109,6 +113,7 @@ fn put_drained<W: Sink>(
 fn put_members<W: Sink>(members: &[NodeId], out: &mut W) -> Result<(), SinkFailed>
     ensures ok { OnOk result (W.takes out.old (line_of (reply_words (reply.Members members.now))) out.new) }
     ensures err { OnErr result (W.takes_front out.old (line_of (reply_words (reply.Members members.now))) out.new) }
+    ensures legal { OnOk result (All IsNode members.now) }
 {
     out.put(b"members")?;
     for member in members {
@@ -120,6 +125,7 @@ fn put_members<W: Sink>(members: &[NodeId], out: &mut W) -> Result<(), SinkFaile
 fn put_groups<W: Sink>(names: &[GroupName], out: &mut W) -> Result<(), SinkFailed>
     ensures ok { OnOk result (W.takes out.old (line_of (reply_words (reply.Groups names.now))) out.new) }
     ensures err { OnErr result (W.takes_front out.old (line_of (reply_words (reply.Groups names.now))) out.new) }
+    ensures legal { OnOk result (All IsName names.now) }
 {
     out.put(b"groups")?;
     for name in names {
@@ -131,6 +137,7 @@ fn put_groups<W: Sink>(names: &[GroupName], out: &mut W) -> Result<(), SinkFaile
 fn put_terms<W: Sink>(leaders: &[Option<NodeId>], out: &mut W) -> Result<(), SinkFailed>
     ensures ok { OnOk result (W.takes out.old (line_of (reply_words (reply.Terms leaders.now))) out.new) }
     ensures err { OnErr result (W.takes_front out.old (line_of (reply_words (reply.Terms leaders.now))) out.new) }
+    ensures legal { OnOk result (All (λ leader. IfSome leader IsNode) leaders.now) }
 {
     out.put(b"terms")?;
     for (index, leader) in leaders.iter().enumerate() {
@@ -143,6 +150,7 @@ fn put_terms<W: Sink>(leaders: &[Option<NodeId>], out: &mut W) -> Result<(), Sin
 fn put_term<W: Sink>(number: u128, leader: Option<NodeId>, out: &mut W) -> Result<(), SinkFailed>
     ensures ok { OnOk result (W.takes out.old (32 ∷ term_word number leader) out.new) }
     ensures err { OnErr result (W.takes_front out.old (32 ∷ term_word number leader) out.new) }
+    ensures legal { OnOk result (IfSome leader IsNode) }
 {
     put_number(b" ", number, out)?;
     match leader {

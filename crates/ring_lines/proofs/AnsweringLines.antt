@@ -1,6 +1,7 @@
 -- The loop that answers lines: the rounds so far, and the answers to the lines that were given.
 use Rattle.std.proofs.Common.{◌≡◌, ◌+◌, ◌*◌, ◌<◌, ◌≤◌, ℕ, true, false, List, [], ◌∷◌, ◌++◌, length, Result, Ok, Err, refl, ap, sym, ◌∙◌, subst, arith, length-append, append-nil, append_assoc, inl, inr}
-use Rattle.std.specs.List.{list_all}
+use Rattle.std.specs.List.{All, list_all}
+use Rattle.std.proofs.lemmas.List.Elements.{All-nil, All-push}
 use Rattle.std.proofs.lemmas.List.Concat.{flat_map-append}
 use Rattle.ring_lines.specs.Ends.{Reading, Writing, bytes_of, goes_on, Wrote, WroteFront}
 use Rattle.ring_lines.specs.Lines.{has_lf, whole_lines_of}
@@ -24,11 +25,12 @@ abbrev pub fresh : ℕ → BufferView
 fresh reads = record { held = []; reads = reads; phase = phase.Open }
 
 -- The answers to the lines that were given so far: what stands on the page and was written is their text.
-pub record Answering {S V A B : Type 0} (reading : S → Reading → S → Type 0) (writing : V → Writing → V → Type 0) (answers : List ℕ → A → B → A → Type 0) (spelling : B → List ℕ) (reader : S) (writer : V) (old : A) (reads count : ℕ) (reader_now : S) (writer_now : V) (buffer : BufferView) (page : List ℕ) (now : A) : Type 0 where
+pub record Answering {S V A B : Type 0} (reading : S → Reading → S → Type 0) (writing : V → Writing → V → Type 0) (answers : List ℕ → A → B → A → Type 0) (spelling : B → List ℕ) (is_legal : B → Type 0) (reader : S) (writer : V) (old : A) (reads count : ℕ) (reader_now : S) (writer_now : V) (buffer : BufferView) (page : List ℕ) (now : A) : Type 0 where
   pub rounds : List Round
   pub lines : List (List ℕ)
   pub given : List B
   pub run : RunOf answers old lines given now
+  pub legal : All is_legal given
   pub made : Rounds reading writing reader writer rounds reader_now writer_now
   pub in_turn : AreInTurn spelling given rounds
   pub whole : written_in rounds ++ page ≡ text_of spelling given
@@ -39,13 +41,14 @@ pub record Answering {S V A B : Type 0} (reading : S → Reading → S → Type 
   pub fewer : length lines + most_bytes buffer ≤ 4096 * reads
 
 -- The same after the next answer of the buffer, whose line, if any, has no answer yet.
-pub record AnsweringNext {S V A B : Type 0} (reading : S → Reading → S → Type 0) (writing : V → Writing → V → Type 0) (answers : List ℕ → A → B → A → Type 0) (spelling : B → List ℕ) (reader : S) (writer : V) (old : A) (reads count : ℕ) (reader_now : S) (writer_now : V) (said : Next) (buffer : BufferView) (page : List ℕ) (now : A) : Type 0 where
+pub record AnsweringNext {S V A B : Type 0} (reading : S → Reading → S → Type 0) (writing : V → Writing → V → Type 0) (answers : List ℕ → A → B → A → Type 0) (spelling : B → List ℕ) (is_legal : B → Type 0) (reader : S) (writer : V) (old : A) (reads count : ℕ) (reader_now : S) (writer_now : V) (said : Next) (buffer : BufferView) (page : List ℕ) (now : A) : Type 0 where
   pub rounds : List Round
   pub lines : List (List ℕ)
   pub given : List B
   pub come : List (List ℕ)
   pub shows : Shows said come buffer.phase
   pub run : RunOf answers old lines given now
+  pub legal : All is_legal given
   pub made : Rounds reading writing reader writer rounds reader_now writer_now
   pub in_turn : AreInTurn spelling given rounds
   pub whole : written_in rounds ++ page ≡ text_of spelling given
@@ -54,6 +57,14 @@ pub record AnsweringNext {S V A B : Type 0} (reading : S → Reading → S → T
   pub cuts : Cuts buffer.phase (read_in rounds) (lines ++ come) buffer.held
   pub counted : count ≡ length lines
   pub fewer : length (lines ++ come) + most_bytes buffer ≤ 4096 * reads
+
+-- one answer more behind what is written and what stands on the page
+text_more : {B : Type 0} (spelling : B → List ℕ) (written page : List ℕ) (given : List B) (answer : B) → written ++ page ≡ text_of spelling given → written ++ (page ++ spelling answer) ≡ text_of spelling (given ++ answer ∷ [])
+text_more spelling written page given answer whole =
+    sym (append_assoc written page (spelling answer))
+    ∙ ap (λ (text : List ℕ). text ++ spelling answer) whole
+    ∙ ap (λ (text : List ℕ). text_of spelling given ++ text) (sym (append-nil (spelling answer)))
+    ∙ sym (flat_map-append spelling given (answer ∷ []))
 
 -- The buffer gave one line, and this is an answer to it.
 pub record Turned {A B : Type 0} (answers : List ℕ → A → B → A → Type 0) (come : List (List ℕ)) (now : A) (answer : B) (new : A) : Type 0 where
@@ -72,14 +83,15 @@ module _ {A B : Type 0} (answers : List ℕ → A → B → A → Type 0) where
       let s : Shows next.Long come after = subst (λ (n : Next). Shows n come after) is shows in
       record { line = s.0; is_come = s.1; answered = answered s.0 s.2 }
 
-module _ {S V A B : Type 0} (reading : S → Reading → S → Type 0) (writing : V → Writing → V → Type 0) (answers : List ℕ → A → B → A → Type 0) (spelling : B → List ℕ) (reader : S) (writer : V) (old : A) (reads : ℕ) where
+module _ {S V A B : Type 0} (reading : S → Reading → S → Type 0) (writing : V → Writing → V → Type 0) (answers : List ℕ → A → B → A → Type 0) (spelling : B → List ℕ) (is_legal : B → Type 0) (reader : S) (writer : V) (old : A) (reads : ℕ) where
   -- before the first line
-  pub answering_none : Answering reading writing answers spelling reader writer old reads 0 reader writer (fresh reads) [] old
+  pub answering_none : Answering reading writing answers spelling is_legal reader writer old reads 0 reader writer (fresh reads) [] old
   answering_none = record {
     rounds = [];
     lines = [];
     given = [];
     run = refl;
+    legal = All-nil is_legal;
     made = (refl, refl);
     in_turn = tt;
     whole = refl;
@@ -91,19 +103,20 @@ module _ {S V A B : Type 0} (reading : S → Reading → S → Type 0) (writing 
   }
 
   -- where memory was refused
-  pub answers_none : AnswersLines reading writing answers spelling reader writer old reads (Err fault.NoMemory) reader writer old
+  pub answers_none : AnswersLines reading writing answers spelling is_legal reader writer old reads (Err fault.NoMemory) reader writer old
   answers_none = record {
     rounds = [];
     lines = [];
     given = [];
     run = refl;
+    legal = All-nil is_legal;
     granted = omega arith;
     in_turn = tt;
     answered = (refl, refl);
     writes = record { made = (refl, refl); all = refl };
   }
 
-  module _ (count : ℕ) (reader_now : S) (writer_now : V) (buffer : BufferView) (page : List ℕ) (now : A) (a : Answering reading writing answers spelling reader writer old reads count reader_now writer_now buffer page now) where
+  module _ (count : ℕ) (reader_now : S) (writer_now : V) (buffer : BufferView) (page : List ℕ) (now : A) (a : Answering reading writing answers spelling is_legal reader writer old reads count reader_now writer_now buffer page now) where
     -- nothing stands on the page before the first round
     none_on_page : a.rounds ≡ [] → page ≡ []
     none_on_page none =
@@ -112,7 +125,7 @@ module _ {S V A B : Type 0} (reading : S → Reading → S → Type 0) (writing 
         no_answer answers spelling a.given page (run_length answers old a.lines a.given now a.run ∙ ap length lines) (sym (ap (λ (rounds : List Round). written_in rounds ++ page) none) ∙ a.whole)
 
     -- what stood on the page is written, at least a front of it
-    pub moved : (writer_then : V) (page_then : List ℕ) → Passes writing writer_now page [] writer_then page_then → (a.rounds ≡ [] → writer_then ≡ writer_now) → Answering reading writing answers spelling reader writer old reads count reader_now writer_then buffer page_then now
+    pub moved : (writer_then : V) (page_then : List ℕ) → Passes writing writer_now page [] writer_then page_then → (a.rounds ≡ [] → writer_then ≡ writer_now) → Answering reading writing answers spelling is_legal reader writer old reads count reader_now writer_then buffer page_then now
     moved writer_then page_then p still =
         let none : a.rounds ≡ [] → p.written ≡ [] = λ e. none_of p.written page_then (sym (p.whole ∙ append-nil page ∙ none_on_page e)) in
         let calls : calls_of (add_text p.written a.rounds) ≡ calls_of a.rounds = calls_of-add_text p.written a.rounds in
@@ -121,6 +134,7 @@ module _ {S V A B : Type 0} (reading : S → Reading → S → Type 0) (writing 
           lines = a.lines;
           given = a.given;
           run = a.run;
+          legal = a.legal;
           made = rounds-add_text reading writing reader writer p.written a.rounds reader_now writer_now writer_then a.made p.wrote still;
           in_turn = in_turn-add_text spelling a.given p.written a.rounds a.in_turn;
           whole =
@@ -136,15 +150,15 @@ module _ {S V A B : Type 0} (reading : S → Reading → S → Type 0) (writing 
         }
 
     -- the same, where nothing is written of a page with no text
-    pub flushed : (writer_then : V) (page_then : List ℕ) → Passes writing writer_now page [] writer_then page_then → (page ≡ [] → writer_then ≡ writer_now) → Answering reading writing answers spelling reader writer old reads count reader_now writer_then buffer page_then now
+    pub flushed : (writer_then : V) (page_then : List ℕ) → Passes writing writer_now page [] writer_then page_then → (page ≡ [] → writer_then ≡ writer_now) → Answering reading writing answers spelling is_legal reader writer old reads count reader_now writer_then buffer page_then now
     flushed writer_then page_then p still = moved writer_then page_then p (λ none. still (none_on_page none))
 
     -- all that stood on the page is written
-    pub emptied : (writer_then : V) → Wrote writing writer_now page writer_then → (page ≡ [] → writer_then ≡ writer_now) → Answering reading writing answers spelling reader writer old reads count reader_now writer_then buffer [] now
+    pub emptied : (writer_then : V) → Wrote writing writer_now page writer_then → (page ≡ [] → writer_then ≡ writer_now) → Answering reading writing answers spelling is_legal reader writer old reads count reader_now writer_then buffer [] now
     emptied writer_then wrote still = flushed writer_then [] (record { written = page; wrote = wrote; whole = refl }) still
 
     -- the next answer of the buffer, while more lines may come
-    next_open : (said : Next) (after : S) (new : BufferView) → (has_lf buffer.held ≡ false → page ≡ []) → buffer.phase ≡ phase.Open → Answers reading reader_now buffer said after new → AnsweringNext reading writing answers spelling reader writer old reads count after writer_now said new page now
+    next_open : (said : Next) (after : S) (new : BufferView) → (has_lf buffer.held ≡ false → page ≡ []) → buffer.phase ≡ phase.Open → Answers reading reader_now buffer said after new → AnsweringNext reading writing answers spelling is_legal reader writer old reads count after writer_now said new page now
     next_open said after new none opened n =
         let on : list_all goes_on (calls_of a.rounds) ≡ true = subst (λ (p : Phase). Stops p (calls_of a.rounds) buffer.reads) opened a.stops in
         let begins : Begins (read_in a.rounds) a.lines buffer.held = subst (λ (p : Phase). Cuts p (read_in a.rounds) a.lines buffer.held) opened a.cuts in
@@ -157,6 +171,7 @@ module _ {S V A B : Type 0} (reading : S → Reading → S → Type 0) (writing 
           come = n.given;
           shows = n.shows;
           run = a.run;
+          legal = a.legal;
           made = rounds-add_calls reading writing reader writer a.rounds n.log reader_now after writer_now a.made n.calls;
           in_turn = in_turn_more spelling a.given a.rounds a.lines buffer.held n.log a.in_turn
               (λ unheld. sym (append-nil (written_in a.rounds)) ∙ ap (λ (l : List ℕ). written_in a.rounds ++ l) (sym (none unheld)) ∙ a.whole)
@@ -170,7 +185,7 @@ module _ {S V A B : Type 0} (reading : S → Reading → S → Type 0) (writing 
         }
 
     -- and after the last
-    next_again : (final said : Next) (after : S) (new : BufferView) → Repeats reader_now buffer final said after new → Shows final [] buffer.phase → AnsweringNext reading writing answers spelling reader writer old reads count after writer_now said new page now
+    next_again : (final said : Next) (after : S) (new : BufferView) → Repeats reader_now buffer final said after new → Shows final [] buffer.phase → AnsweringNext reading writing answers spelling is_legal reader writer old reads count after writer_now said new page now
     next_again final said after new r shows = rw (r.reader, r.buffer, r.same) (record {
       rounds = a.rounds;
       lines = a.lines;
@@ -178,6 +193,7 @@ module _ {S V A B : Type 0} (reading : S → Reading → S → Type 0) (writing 
       come = [];
       shows = shows;
       run = a.run;
+      legal = a.legal;
       made = a.made;
       in_turn = a.in_turn;
       whole = a.whole;
@@ -189,39 +205,41 @@ module _ {S V A B : Type 0} (reading : S → Reading → S → Type 0) (writing 
     })
 
     -- any answer of the buffer
-    pub next_answer : (said : Next) (after : S) (new : BufferView) → (has_lf buffer.held ≡ false → page ≡ []) → GivesNext reading reader_now buffer said after new → AnsweringNext reading writing answers spelling reader writer old reads count after writer_now said new page now
+    pub next_answer : (said : Next) (after : S) (new : BufferView) → (has_lf buffer.held ≡ false → page ≡ []) → GivesNext reading reader_now buffer said after new → AnsweringNext reading writing answers spelling is_legal reader writer old reads count after writer_now said new page now
     next_answer said after new none n =
-        elim buffer.phase as (λ p. buffer.phase ≡ p → GivesAt p reading reader_now buffer said after new → AnsweringNext reading writing answers spelling reader writer old reads count after writer_now said new page now) [
+        elim buffer.phase as (λ p. buffer.phase ≡ p → GivesAt p reading reader_now buffer said after new → AnsweringNext reading writing answers spelling is_legal reader writer old reads count after writer_now said new page now) [
           | phase.Open ↦ λ e gives. next_open said after new none e gives
           | phase.Ended ↦ λ e again. next_again next.End said after new again (refl, e)
           | phase.Faulted fault ↦ λ e again. next_again (next.Fault fault) said after new again (refl, e)
         ] refl n
 
     -- writing failed
-    pub fails : (writer_then : V) → WroteFront writing writer_now page writer_then → AnswersLines reading writing answers spelling reader writer old reads (Err fault.Write) reader_now writer_then now
+    pub fails : (writer_then : V) → WroteFront writing writer_now page writer_then → AnswersLines reading writing answers spelling is_legal reader writer old reads (Err fault.Write) reader_now writer_then now
     fails writer_then failed = record {
       rounds = a.rounds;
       lines = a.lines;
       given = a.given;
       run = a.run;
+      legal = tt;
       granted = omega (arith, a.spent);
       in_turn = a.in_turn;
       answered = owed_first buffer.phase (calls_of a.rounds) buffer.reads a.lines buffer.held a.stops a.cuts;
       writes = record { out = writer_now; made = a.made; owed = page; whole = a.whole; failed = failed };
     }
 
-  module _ (count : ℕ) (reader_now : S) (writer_now : V) (buffer : BufferView) (now : A) (a : Answering reading writing answers spelling reader writer old reads count reader_now writer_now buffer [] now) where
+  module _ (count : ℕ) (reader_now : S) (writer_now : V) (buffer : BufferView) (now : A) (a : Answering reading writing answers spelling is_legal reader writer old reads count reader_now writer_now buffer [] now) where
     -- all answers are written
     wrote_all : WroteAll reading writing reader writer a.rounds (text_of spelling a.given) reader_now writer_now
     wrote_all = record { made = a.made; all = sym (append-nil (written_in a.rounds)) ∙ a.whole }
 
     -- at the end of the input
-    ends : buffer.phase ≡ phase.Ended → AnswersLines reading writing answers spelling reader writer old reads (Ok count) reader_now writer_now now
+    ends : buffer.phase ≡ phase.Ended → AnswersLines reading writing answers spelling is_legal reader writer old reads (Ok count) reader_now writer_now now
     ends ended = record {
       rounds = a.rounds;
       lines = a.lines;
       given = a.given;
       run = a.run;
+      legal = a.legal;
       granted = omega (arith, a.spent);
       in_turn = a.in_turn;
       answered = (
@@ -233,12 +251,13 @@ module _ {S V A B : Type 0} (reading : S → Reading → S → Type 0) (writing 
     }
 
     -- after a fault of the reader
-    faults : (faulted : LineFault) → Stops (phase.Faulted faulted) (calls_of a.rounds) buffer.reads → whole_lines_of (read_in a.rounds) ≡ a.lines → AnswersLines reading writing answers spelling reader writer old reads (Err faulted) reader_now writer_now now
+    faults : (faulted : LineFault) → Stops (phase.Faulted faulted) (calls_of a.rounds) buffer.reads → whole_lines_of (read_in a.rounds) ≡ a.lines → AnswersLines reading writing answers spelling is_legal reader writer old reads (Err faulted) reader_now writer_now now
     faults fault.Read stops cuts = record {
       rounds = a.rounds;
       lines = a.lines;
       given = a.given;
       run = a.run;
+      legal = a.legal;
       granted = omega (arith, a.spent);
       in_turn = a.in_turn;
       answered = (stops, sym cuts);
@@ -249,6 +268,7 @@ module _ {S V A B : Type 0} (reading : S → Reading → S → Type 0) (writing 
       lines = a.lines;
       given = a.given;
       run = a.run;
+      legal = a.legal;
       granted = omega (arith, a.spent);
       in_turn = a.in_turn;
       answered = (stops.0, omega (arith, a.spent, stops.1), sym cuts);
@@ -257,14 +277,14 @@ module _ {S V A B : Type 0} (reading : S → Reading → S → Type 0) (writing 
     faults fault.Write stops cuts = absurd stops
     faults fault.NoMemory stops cuts = absurd stops
 
-  module _ (count : ℕ) (reader_now : S) (writer_now : V) (buffer : BufferView) (page : List ℕ) (now : A) (a : Answering reading writing answers spelling reader writer old reads count reader_now writer_now buffer page now) where
+  module _ (count : ℕ) (reader_now : S) (writer_now : V) (buffer : BufferView) (page : List ℕ) (now : A) (a : Answering reading writing answers spelling is_legal reader writer old reads count reader_now writer_now buffer page now) where
     -- a close at the end of the input
-    pub closes_end : (result : Result ℕ LineFault) (writer_then : V) → buffer.phase ≡ phase.Ended → Closes writing writer_now page (Ok count) result writer_then → (page ≡ [] → writer_then ≡ writer_now) → AnswersLines reading writing answers spelling reader writer old reads result reader_now writer_then now
+    pub closes_end : (result : Result ℕ LineFault) (writer_then : V) → buffer.phase ≡ phase.Ended → Closes writing writer_now page (Ok count) result writer_then → (page ≡ [] → writer_then ≡ writer_now) → AnswersLines reading writing answers spelling is_legal reader writer old reads result reader_now writer_then now
     closes_end result writer_then ended (inl done) still = rw done.0 (ends count reader_now writer_then buffer now (emptied count reader_now writer_now buffer page now a writer_then done.1 still) ended)
     closes_end result writer_then ended (inr failed) still = rw failed.0 (fails count reader_now writer_now buffer page now a writer_then failed.1)
 
     -- a close after a fault of the reader
-    pub closes_fault : (faulted : LineFault) (result : Result ℕ LineFault) (writer_then : V) → buffer.phase ≡ phase.Faulted faulted → Closes writing writer_now page (Err faulted) result writer_then → (page ≡ [] → writer_then ≡ writer_now) → AnswersLines reading writing answers spelling reader writer old reads result reader_now writer_then now
+    pub closes_fault : (faulted : LineFault) (result : Result ℕ LineFault) (writer_then : V) → buffer.phase ≡ phase.Faulted faulted → Closes writing writer_now page (Err faulted) result writer_then → (page ≡ [] → writer_then ≡ writer_now) → AnswersLines reading writing answers spelling is_legal reader writer old reads result reader_now writer_then now
     closes_fault faulted result writer_then is (inl done) still =
         let b = emptied count reader_now writer_now buffer page now a writer_then done.1 still in
         rw done.0 (faults count reader_now writer_then buffer now b faulted
@@ -272,9 +292,9 @@ module _ {S V A B : Type 0} (reading : S → Reading → S → Type 0) (writing 
         (subst (λ (p : Phase). Cuts p (read_in b.rounds) b.lines buffer.held) is b.cuts))
     closes_fault faulted result writer_then is (inr failed) still = rw failed.0 (fails count reader_now writer_now buffer page now a writer_then failed.1)
 
-  module _ (count : ℕ) (reader_now : S) (writer_now : V) (said : Next) (buffer : BufferView) (page : List ℕ) (now : A) (n : AnsweringNext reading writing answers spelling reader writer old reads count reader_now writer_now said buffer page now) where
+  module _ (count : ℕ) (reader_now : S) (writer_now : V) (said : Next) (buffer : BufferView) (page : List ℕ) (now : A) (n : AnsweringNext reading writing answers spelling is_legal reader writer old reads count reader_now writer_now said buffer page now) where
     -- the buffer gave no line
-    pub answering_over : n.come ≡ [] → Answering reading writing answers spelling reader writer old reads count reader_now writer_now buffer page now
+    pub answering_over : n.come ≡ [] → Answering reading writing answers spelling is_legal reader writer old reads count reader_now writer_now buffer page now
     answering_over none =
         let same : n.lines ++ n.come ≡ n.lines = ap (λ (l : List (List ℕ)). n.lines ++ l) none ∙ append-nil n.lines in
         record {
@@ -282,6 +302,7 @@ module _ {S V A B : Type 0} (reading : S → Reading → S → Type 0) (writing 
           lines = n.lines;
           given = n.given;
           run = n.run;
+          legal = n.legal;
           made = n.made;
           in_turn = n.in_turn;
           whole = n.whole;
@@ -293,21 +314,18 @@ module _ {S V A B : Type 0} (reading : S → Reading → S → Type 0) (writing 
         }
 
     -- the buffer gave a line, and its answer comes behind what stands on the page
-    pub answering_line : (answer : B) (new : A) → Turned answers n.come now answer new → Answering reading writing answers spelling reader writer old reads (count + 1) reader_now writer_now buffer (page ++ spelling answer) new
-    answering_line answer new t =
+    pub answering_line : (answer : B) (new : A) → Turned answers n.come now answer new → is_legal answer → Answering reading writing answers spelling is_legal reader writer old reads (count + 1) reader_now writer_now buffer (page ++ spelling answer) new
+    answering_line answer new t told =
         let same : n.lines ++ n.come ≡ n.lines ++ t.line ∷ [] = ap (λ (l : List (List ℕ)). n.lines ++ l) t.is_come in
         record {
           rounds = n.rounds;
           lines = n.lines ++ t.line ∷ [];
           given = n.given ++ answer ∷ [];
           run = run_more answers old n.lines n.given now t.line answer new n.run t.answered;
+          legal = All-push is_legal n.given answer n.legal told;
           made = n.made;
           in_turn = in_turn-append spelling n.given answer n.rounds n.in_turn;
-          whole =
-              sym (append_assoc (written_in n.rounds) page (spelling answer))
-              ∙ ap (λ (text : List ℕ). text ++ spelling answer) n.whole
-              ∙ ap (λ (text : List ℕ). text_of spelling n.given ++ text) (sym (append-nil (spelling answer)))
-              ∙ sym (flat_map-append spelling n.given (answer ∷ []));
+          whole = text_more spelling (written_in n.rounds) page n.given answer n.whole;
           spent = n.spent;
           stops = n.stops;
           cuts = subst (λ (lines : List (List ℕ)). Cuts buffer.phase (read_in n.rounds) lines buffer.held) same n.cuts;
@@ -316,15 +334,33 @@ module _ {S V A B : Type 0} (reading : S → Reading → S → Type 0) (writing 
         }
 
     -- and its answer was passed on
-    pub answering_passed : (answer : B) (new : A) (writer_then : V) (page_then : List ℕ) → Turned answers n.come now answer new → Passes writing writer_now page (spelling answer) writer_then page_then → Answering reading writing answers spelling reader writer old reads (count + 1) reader_now writer_then buffer page_then new
-    answering_passed answer new writer_then page_then t p =
-        let a = answering_line answer new t in
+    pub answering_passed : (answer : B) (new : A) (writer_then : V) (page_then : List ℕ) → Turned answers n.come now answer new → is_legal answer → Passes writing writer_now page (spelling answer) writer_then page_then → Answering reading writing answers spelling is_legal reader writer old reads (count + 1) reader_now writer_then buffer page_then new
+    answering_passed answer new writer_then page_then t told p =
+        let a = answering_line answer new t told in
         let later : a.rounds ≡ [] → writer_then ≡ writer_now = λ none.
         let lines : a.lines ≡ [] = cuts_none buffer.phase a.lines buffer.held (subst (λ (rounds : List Round). Cuts buffer.phase (read_in rounds) a.lines buffer.held) none a.cuts) in
         absurd (omega (arith, ap length lines, length-append n.lines (t.line ∷ []))) in
         moved (count + 1) reader_now writer_now buffer (page ++ spelling answer) new a writer_then page_then
         (record { written = p.written; wrote = p.wrote; whole = p.whole ∙ sym (append-nil (page ++ spelling answer)) }) later
 
-    -- a line that is given leaves less to come
-    pub fewer_left : (answer : B) (new : A) → Turned answers n.come now answer new → length n.lines + 1 + most_bytes buffer ≤ 4096 * reads
-    fewer_left answer new t = omega (arith, n.fewer, length-append n.lines n.come, ap length t.is_come)
+    -- and writing failed before all of its answer was passed on
+    pub fails_line : (answer : B) (new : A) (writer_then : V) → Turned answers n.come now answer new → WroteFront writing writer_now (page ++ spelling answer) writer_then → AnswersLines reading writing answers spelling is_legal reader writer old reads (Err fault.Write) reader_now writer_then new
+    fails_line answer new writer_then t failed =
+        let same : n.lines ++ n.come ≡ n.lines ++ t.line ∷ [] = ap (λ (l : List (List ℕ)). n.lines ++ l) t.is_come in
+        record {
+          rounds = n.rounds;
+          lines = n.lines ++ t.line ∷ [];
+          given = n.given ++ answer ∷ [];
+          run = run_more answers old n.lines n.given now t.line answer new n.run t.answered;
+          legal = tt;
+          granted = omega (arith, n.spent);
+          in_turn = in_turn-append spelling n.given answer n.rounds n.in_turn;
+          answered = owed_first buffer.phase (calls_of n.rounds) buffer.reads (n.lines ++ t.line ∷ []) buffer.held n.stops (subst (λ (lines : List (List ℕ)). Cuts buffer.phase (read_in n.rounds) lines buffer.held) same n.cuts);
+          writes = record {
+            out = writer_now;
+            made = n.made;
+            owed = page ++ spelling answer;
+            whole = text_more spelling (written_in n.rounds) page n.given answer n.whole;
+            failed = failed;
+          };
+        }

@@ -14,40 +14,53 @@ const PAGE: usize = 65536;
 
 /// What answers lines, one after another.
 ///
-/// The ghost member says which answer it may give to which line, and what it is after that. A line is
-/// given without its LF.
+/// What an answer changes is its state, and the answerer itself stays as it is. The ghost members say
+/// what an answer needs of the state, which it keeps, and which answer may be given to which line in
+/// which state, and what the state is after that. A line is given without its LF.
 pub trait Answerer {
     ghost use Rattle.std.specs.Prelude.{List, ℕ, ◌<◌, length};
+
+    /// What answers change.
+    type State;
 
     /// What it answers.
     type Answer: Spell + Drop;
 
-    ghost answers: { List ℕ → Self → Self.Answer → Self → Type 0 };
+    ghost holds: { Self → Self.State → Type 0 };
+
+    ghost answers: { Self → List ℕ → Self.State → Self.Answer → Self.State → Type 0 };
 
     /// The answer to a line.
-    fn answer(&mut self, alloc: Global, line: &[u8]) -> Self::Answer
-        ensures { answers line.now self.old result self.new };
+    fn answer(&self, state: &mut Self::State, alloc: Global, line: &[u8]) -> Self::Answer
+        requires { holds self.now state.old }
+        ensures kept { holds self.now state.new }
+        ensures answer { answers self.now line.now state.old result state.new };
 
     /// The answer to any line of more than 128 bytes, which were dropped.
-    fn answer_long(&mut self) -> Self::Answer
-        ensures { (line : List ℕ) → 128 < length line → answers line self.old result self.new };
+    fn answer_long(&self, state: &mut Self::State) -> Self::Answer
+        requires { holds self.now state.old }
+        ensures kept { holds self.now state.new }
+        ensures answer { (line : List ℕ) → 128 < length line → answers self.now line state.old result state.new };
 }
 
 /// Answers each line of the reader by the spelling of one answer to the writer, in order.
 ///
 /// Before each read call exactly the answers to the lines that were read whole are written, and each
-/// line gets its answer from what the answerer has become by the lines before it. `Ok` is the number
+/// line gets its answer in the state that the lines before it left. `Ok` is the number
 /// of lines, and comes at the end of the input alone. At `Read` and at `Endless` the lines that an LF
 /// ends are answered; at `Write` a front of the answers was written; at `NoMemory` nothing was read
 /// or answered. Makes at most `reads` read calls.
 pub fn answer_lines<A: Answerer, R: Intake, W: Outlet>(
     alloc: Global,
-    answerer: &mut A,
+    answerer: &A,
+    state: &mut A::State,
     reader: &mut R,
     writer: &mut W,
     reads: u32,
 ) -> Result<u64, LineFault>
-    ensures { AnswersLines R.read_gives W.write_gives A.answers A.Answer.spelling reader.old writer.old answerer.old reads result reader.new writer.new answerer.new }
+    requires { A.holds answerer.now state.old }
+    ensures kept { A.holds answerer.now state.new }
+    ensures lines { AnswersLines R.read_gives W.write_gives (A.answers answerer.now) A.Answer.spelling A.Answer.is_legal reader.old writer.old state.old reads result reader.new writer.new state.new }
 {
     let Ok(mut lines) = LineBuffer::new(alloc, reads) else {
         return Err(LineFault::NoMemory);
@@ -61,8 +74,8 @@ pub fn answer_lines<A: Answerer, R: Intake, W: Outlet>(
             return Err(LineFault::Write);
         };
         let answer = match lines.next(reader) {
-            Next::Line(line) => answerer.answer(alloc, line.bytes()),
-            Next::Long => answerer.answer_long(),
+            Next::Line(line) => answerer.answer(state, alloc, line.bytes()),
+            Next::Long => answerer.answer_long(state),
             Next::End => return close(&mut page, writer, Ok(count)),
             Next::Fault(fault) => return close(&mut page, writer, Err(fault)),
         };

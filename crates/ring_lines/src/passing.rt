@@ -62,6 +62,7 @@ pub(crate) fn pass_on<A: Spell, W: Outlet>(
 ) -> Result<(), WriteFailed>
     ensures ok { OnOk result (Passes W.write_gives writer.old page.old.text (A.spelling answer.now) writer.new page.new.text) }
     ensures err { OnErr result (WroteFront W.write_gives writer.old (page.old.text ++ A.spelling answer.now) writer.new) }
+    ensures legal { OnOk result (A.is_legal answer.now) }
 {
     let mut feeder = Feeder { page, writer };
     match answer.spell(&mut feeder) {

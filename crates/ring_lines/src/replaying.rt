@@ -9,23 +9,30 @@ use ring_id::Refusal;
 use ring_mux::{Mux, Reply};
 use std::alloc::Global;
 
-/// A mux answers a schedule: a line that spells an event by the reply of its step, and any other line
-/// by `no bad-line`.
-impl Answerer for Mux<Any> {
+/// What answers a schedule: a line that spells an event by the reply of a mux to its step, and any
+/// other line by `no bad-line`.
+#[derive(Clone, Copy, Debug)]
+pub(crate) struct Replayer;
+
+impl Answerer for Replayer {
     ghost use Rattle.ring_lines.specs.Replay.{RepliesTo};
+
+    type State = Mux<Any>;
 
     type Answer = Reply;
 
-    ghost answers = { RepliesTo };
+    ghost holds = { λ _ _. Unit {0} };
 
-    fn answer(&mut self, alloc: Global, line: &[u8]) -> Reply {
+    ghost answers = { λ _. RepliesTo };
+
+    fn answer(&self, state: &mut Mux<Any>, alloc: Global, line: &[u8]) -> Reply {
         match parse_event(line) {
-            Some(event) => self.step(alloc, event),
+            Some(event) => state.step(alloc, event),
             None => Reply::Refused(Refusal::BadLine),
         }
     }
 
-    fn answer_long(&mut self) -> Reply {
+    fn answer_long(&self, _state: &mut Mux<Any>) -> Reply {
         Reply::Refused(Refusal::BadLine)
     }
 }
@@ -48,7 +55,7 @@ pub fn replay<R: Intake, W: Outlet>(
     let Ok(mut mux) = Mux::new(alloc) else {
         return Err(LineFault::NoMemory);
     };
-    answer_lines(alloc, &mut mux, reader, writer, reads)
+    answer_lines(alloc, &Replayer, &mut mux, reader, writer, reads)
 }
 
 #[cfg(test)]

@@ -5,23 +5,29 @@ use ring_mux::Reply;
 
 /// What is spelled by bytes, as an answer to a line is.
 ///
-/// The ghost member is its spelling, with the LF that ends it.
+/// The ghost members are its spelling, with the LF that ends it, and whether it is a legal value: one
+/// that no other value shares its spelling with.
 pub trait Spell {
     ghost use Rattle.std.specs.Prelude.{List, ℕ};
 
     ghost spelling: { Self → List ℕ };
 
-    /// Puts its spelling, or fails after a front of it. Takes no memory.
+    ghost is_legal: { Self → Type 0 };
+
+    /// Puts its spelling, or fails after a front of it. What is put whole is legal. Takes no memory.
     fn spell<S: Sink>(&self, out: &mut S) -> Result<(), SinkFailed>
         ensures ok { OnOk result (S.takes out.old (spelling self.now) out.new) }
-        ensures err { OnErr result (S.takes_front out.old (spelling self.now) out.new) };
+        ensures err { OnErr result (S.takes_front out.old (spelling self.now) out.new) }
+        ensures legal { OnOk result (is_legal self.now) };
 }
 
 /// A reply is spelled by its line.
 impl Spell for Reply {
-    ghost use Rattle.ring_grammar.specs.Spelling.{reply_line};
+    ghost use Rattle.ring_grammar.specs.Spelling.{IsReply, reply_line};
 
     ghost spelling = { reply_line };
+
+    ghost is_legal = { IsReply };
 
     fn spell<S: Sink>(&self, out: &mut S) -> Result<(), SinkFailed> {
         print_reply(self, out)

@@ -8,7 +8,7 @@ use Rattle.ring_mux.specs.declared.event.Command.{Command}
 use Rattle.ring_mux.specs.declared.event.Event.TheVariants.{Client}
 use Rattle.ring_mux.specs.declared.reply.Reply.{Reply}
 use Rattle.ring_mux.specs.declared.reply.Reply.TheVariants.{Refused}
-use Rattle.ring_grammar.specs.Spelling.{Spells, reply_line}
+use Rattle.ring_grammar.specs.Spelling.{IsReply as IsLegalReply, Spells, reply_line}
 use Rattle.ring_lines.specs.Ends.{Reading, Writing}
 use Rattle.ring_lines.specs.Rounds.{AnswersLines}
 use Rattle.ring_lines.specs.declared.answers.LineFault.{LineFault}
@@ -36,11 +36,10 @@ pub record IsUnread (line : List ℕ) (answer : Reply) : Type 0 where
 abbrev pub RepliesTo : ℕ → List ℕ → Reply → Type 0
 RepliesTo session line answer = IsServed session line answer ⊎ IsUnread line answer
 
--- the same from one line to the next: the session keeps its number
-abbrev pub AnswersIn : List ℕ → ℕ → Reply → ℕ → Type 0
-AnswersIn line session answer now = RepliesTo session line answer × (now ≡ session)
+-- the same where nothing changes from one line to the next but the table
+abbrev pub AnswersIn : ℕ → List ℕ → Unit {0} → Reply → Unit {0} → Type 0
+AnswersIn session line before answer after = RepliesTo session line answer
 
 -- A session: the lines are answered by rounds.
 pub record Serves {S V : Type 0} (reading : S → Reading → S → Type 0) (writing : V → Writing → V → Type 0) (session : ℕ) (reader : S) (writer : V) (reads : ℕ) (result : Result ℕ LineFault) (reader_now : S) (writer_now : V) : Type 0 where
-  pub final : ℕ
-  pub answered : AnswersLines reading writing AnswersIn reply_line reader writer session reads result reader_now writer_now final
+  pub answered : AnswersLines reading writing (AnswersIn session) reply_line IsLegalReply reader writer tt reads result reader_now writer_now tt

@@ -44,12 +44,13 @@ impl Front {
     ) -> Result<u64, LineFault>
         ensures { Serves I.read_gives O.write_gives session reader.old writer.old reads result reader.new writer.new }
     {
-        let mut session = Session {
+        let session = Session {
             front: self,
             rt,
             number: session,
         };
-        answer_lines(self.alloc, &mut session, reader, writer, reads)
+        let mut state = ();
+        answer_lines(self.alloc, &session, &mut state, reader, writer, reads)
     }
 
     // The reply to a line.
@@ -94,15 +95,19 @@ impl<'a, R> Model for Session<'a, R> {
 impl<R: Wait> Answerer for Session<'_, R> {
     ghost use Rattle.ring_service.specs.Sessions.{AnswersIn};
 
+    type State = ();
+
     type Answer = Reply;
+
+    ghost holds = { λ _ _. Unit {0} };
 
     ghost answers = { AnswersIn };
 
-    fn answer(&mut self, _alloc: Global, line: &[u8]) -> Reply {
+    fn answer(&self, _state: &mut (), _alloc: Global, line: &[u8]) -> Reply {
         self.front.reply_to(self.rt, self.number, line)
     }
 
-    fn answer_long(&mut self) -> Reply {
+    fn answer_long(&self, _state: &mut ()) -> Reply {
         Reply::Refused(Refusal::BadLine)
     }
 }

@@ -96,6 +96,7 @@ impl<E: RingElection> Group<E> {
 
     /// The leader of each term.
     pub(crate) fn terms(&self, alloc: Global) -> Result<TermList, Refusal>
+        requires { IsGroupOf E.winner self.now.name self.now }
         ensures { Shows (never_refused (group_view self.now)) true result
             (λ list. list ≡ leaders (group_view self.now)) }
     {

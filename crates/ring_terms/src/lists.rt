@@ -1,4 +1,4 @@
-ghost use Rattle.std.specs.Prelude.{◌≡◌};
+ghost use Rattle.std.specs.Prelude.{◌≡◌, ◌≤◌, length};
 
 use ring_id::{GroupName, NodeId};
 use std::marker::Model;
@@ -34,23 +34,26 @@ impl MemberList {
 }
 
 /// The leader of each term of a group, or none, in order, the first being that of term 1. Contracts
-/// see it as that list.
+/// see it as that list, which has at most 1000 elements.
 #[derive(Debug, Drop)]
 pub struct TermList {
     leaders: Vec<Option<NodeId>>,
 }
 
 impl Model for TermList {
-    ghost use Rattle.std.specs.Prelude.{List, Option, ℕ};
+    ghost use Rattle.std.specs.Prelude.{List, Option, ℕ, ◌≤◌, length};
 
     ghost Value = { List (Option ℕ) };
 
     ghost view = { λ a. a.leaders.items };
+
+    ghost invariant = { λ a. length a.leaders.items ≤ 1000 };
 }
 
 impl TermList {
     /// The list of these leaders.
     pub(crate) fn new(leaders: Vec<Option<NodeId>>) -> TermList
+        requires { length leaders.items ≤ 1000 }
         ensures { result ≡ leaders.items }
     {
         TermList { leaders }
@@ -58,7 +61,8 @@ impl TermList {
 
     /// The leaders. Takes no memory.
     pub fn as_slice(&self) -> &[Option<NodeId>]
-        ensures { result.now ≡ self.now }
+        ensures value { result.now ≡ self.now }
+        ensures few { length result.now ≤ 1000 }
     {
         &self.leaders
     }

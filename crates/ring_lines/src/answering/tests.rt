@@ -1,6 +1,7 @@
 use super::answer_lines;
 use crate::answers::LineFault;
 use crate::ends::{FromRead, ToWrite};
+use crate::replaying::Replayer;
 use ring_any::Any;
 use ring_mux::Mux;
 use std::alloc::{AllocError, Global};
@@ -79,7 +80,7 @@ fn comes(alloc: Global, pieces: &[&[u8]], lines: u64, wanted: &[u8]) -> Result<b
     let Ok(mut mux) = Mux::<Any>::new(alloc) else {
         return Ok(false);
     };
-    let answer = answer_lines(alloc, &mut mux, &mut reader, &mut writer, 1000);
+    let answer = answer_lines(alloc, &Replayer, &mut mux, &mut reader, &mut writer, 1000);
     Ok(answer == Ok(lines) && log.into_inner().as_slice() == wanted)
 }
 
@@ -147,7 +148,7 @@ fn passes_the_page(alloc: Global) -> Result<bool, AllocError> {
     let Ok(mut mux) = Mux::<Any>::new(alloc) else {
         return Ok(false);
     };
-    let answer = answer_lines(alloc, &mut mux, &mut reader, &mut writer, 1000);
+    let answer = answer_lines(alloc, &Replayer, &mut mux, &mut reader, &mut writer, 1000);
     let log = log.into_inner();
     let mut text = Vec::new(alloc);
     let mut longest = 0;

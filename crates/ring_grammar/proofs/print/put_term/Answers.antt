@@ -1,7 +1,7 @@
 use Rattle.std.specs.Prelude.{◌++◌, codes}
 use Rattle.std.proofs.lemmas.Result.{on_err_weaker, on_ok_weaker}
 use Rattle.ring_grammar.specs.Spelling.{leader_word}
-use Rattle.ring_grammar.proofs.Putting.{on_err_anyway}
+use Rattle.ring_grammar.proofs.Putting.{on_err_anyway, on_ok_anyway}
 use Rattle.ring_grammar.proofs.print.put_term.Goals as goal
 
 pub returns-in_err-put_number-clause-err : goal.returns-in_err-put_number-clause-err
@@ -23,3 +23,9 @@ returns-in-None-clause-ok g c =
 pub returns-in-None-clause-err : goal.returns-in-None-clause-err
 returns-in-None-clause-err g c =
     rw c.in-None.is (on_err_weaker c.put.result (g.met.W.Sink.laws.then_front _ _ _ _ _ c.in_ok-put_number.ensures.ok) c.put.ensures.err)
+
+pub returns-in-Some-clause-legal : goal.returns-in-Some-clause-legal
+returns-in-Some-clause-legal g c = rw c.in-Some.is (on_ok_anyway c.put_node.result c.put_node.ensures.legal)
+
+pub returns-in-None-clause-legal : goal.returns-in-None-clause-legal
+returns-in-None-clause-legal g c = rw c.in-None.is (on_ok_anyway c.put.result tt)
