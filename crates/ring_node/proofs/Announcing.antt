@@ -1,6 +1,6 @@
 -- Announcements among what a node sends: there is at most one, and its place tells how many messages of
 -- the algorithm were sent before each packet.
-use Rattle.std.proofs.Common.{◌≡◌, ◌+◌, ◌-◌, ◌≤◌, ℕ, zero, suc, true, false, cond, nat_lt, List, [], ◌∷◌, ◌++◌, length, take, Option, Some, None, option_map, refl, sym, ap, ◌∙◌, arith}
+use Rattle.std.proofs.Common.{◌≡◌, ◌+◌, ◌-◌, ◌≤◌, ℕ, zero, suc, cond, nat_lt, List, [], ◌∷◌, ◌++◌, length, take, Option, Some, None, option_map, refl, sym, ap, ◌∙◌, arith}
 use Rattle.std.proofs.lemmas.Bool.Decides.{nat_tests}
 use Rattle.ring_id.specs.declared.side.Side.{Side}
 use Rattle.ring_id.specs.declared.side.Side.TheVariants.{Left, Right}
@@ -8,7 +8,7 @@ use Rattle.ring_election.specs.Tables.{Table, to_side}
 use Rattle.ring_node.specs.declared.packet.Packet.{Packet}
 use Rattle.ring_node.specs.declared.packet.Packet.TheVariants.{Algo, Leader}
 use Rattle.ring_node.specs.Journals.{algo_count, algo_sends, announcement, brought, kept_or, leader_count, leader_place, news, packets_after, packets_from, state_on}
-use Rattle.ring_node.specs.Ports.{all_algos, all_leaders}
+use Rattle.ring_node.specs.Ports.{all_algos}
 use Rattle.ring_node.proofs.Receipts.{leader_count-append}
 
 -- a message that is sent leaves the place of the announcement

@@ -1,5 +1,5 @@
 -- What a receipt adds to what a node has sent and taken.
-use Rattle.std.proofs.Common.{◌≡◌, ◌≤◌, ℕ, List, [], ◌∷◌, ◌++◌, length, Option, Some, None, refl, ◌∙◌, length-append, arith}
+use Rattle.std.proofs.Common.{◌≡◌, ◌≤◌, ℕ, List, [], ◌∷◌, ◌++◌, length, Option, Some, None, ◌∙◌, length-append, arith}
 use Rattle.std.proofs.lemmas.List.{append-nil}
 use Rattle.ring_id.specs.declared.side.Side.{Side}
 use Rattle.ring_id.specs.declared.side.Side.TheVariants.{Left, Right}
@@ -8,8 +8,8 @@ use Rattle.ring_election.specs.Tables.{Table, to_side}
 use Rattle.ring_election.specs.Traces.{state_after, taken_from}
 use Rattle.ring_node.specs.declared.packet.Packet.{Packet}
 use Rattle.ring_node.specs.declared.packet.Packet.TheVariants.{Algo, Leader}
-use Rattle.ring_node.specs.Journals.{algo_part, algo_sends, announcement, brought, known_after, news, packets_after}
-use Rattle.ring_node.specs.Nodes.{Extends, Gains, Seated, member_of, receiving, sent_of, taken_of}
+use Rattle.ring_node.specs.Journals.{algo_part, algo_sends, announcement, brought, known_after, news}
+use Rattle.ring_node.specs.Nodes.{Extends, Gains, Seated, member_of, receiving, sent_of}
 use Rattle.ring_node.specs.Ports.{all_algos}
 use Rattle.ring_node.proofs.Receipts.{packets_after-snoc, taken_from-snoc}
 
