@@ -4,3 +4,4 @@ pub mod Deciding
 pub mod Lawful
 pub mod Records
 pub mod Steps
+pub mod Work

@@ -37,7 +37,7 @@ fn exceeds(node: NodeId, earlier: &[NodeId]) -> bool
 
 #[cfg(test)]
 mod tests {
-    use crate::fitting;
+    use crate::{fitting, work_is_triangular};
     use ring_id::NodeId;
     use ring_roster::Roster;
     use std::alloc::Global;
@@ -65,6 +65,19 @@ mod tests {
         assert_eq!(rt; messages(alloc, &numbers)?, 511);
         numbers.reverse();
         assert_eq!(rt; messages(alloc, &numbers)?, 32896);
+        Ok(())
+    }
+
+    #[test]
+    fn a_falling_ring_reaches_the_bound(rt: HostRuntime) -> Result<(), Fail> {
+        work_is_triangular();
+        let alloc = rt.alloc();
+        for length in 1..17_u32 {
+            let mut numbers: Vec<u32> = (1..length + 1).collect(alloc)?;
+            numbers.reverse();
+            let bound = length as usize * (length as usize + 1) / 2;
+            assert_eq!(rt; messages(alloc, &numbers)?, bound);
+        }
         Ok(())
     }
 }

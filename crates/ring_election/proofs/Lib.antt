@@ -1,3 +1,4 @@
 pub mod Families
 pub mod Members
 pub mod Rings
+pub mod Sums

@@ -1,6 +1,6 @@
 -- An election takes at most 4 n n (1 + ceil(log2 n)) messages: of each member's tokens, any position
 -- takes at most 1 + ceil(log2 n) on their way out and as many on their way home, from either side.
--- (Lynch, Distributed Algorithms, 3.4, has 8 n (1 + ceil(log2 n)) by counting a phase's tokens.)
+-- (Lynch, Distributed Algorithms, 3.4, has 8 n (1 + ceil(log2 n)) by counting a phase's tokens: see Work.)
 use Rattle.std.specs.Prelude.{◌≡◌, ◌+◌, ◌-◌, ◌*◌, ◌<◌, ◌≤◌, ℕ, zero, suc, List, [], ◌∷◌, length, Some, slice_get}
 use Rattle.std.proofs.Common.{◌∙◌, ap, refl, le_trans, arith}
 use Rattle.std.proofs.lemmas.Bool.Decides.{nat_tests}
@@ -88,12 +88,12 @@ module _ (ring : List ℕ) (is : IsRing ring) (family : ℕ → List (Side × Hi
       )
 
 -- whose token it is
-abbrev owner : HirschbergMsg → ℕ
+abbrev pub owner : HirschbergMsg → ℕ
 owner (Out v hops) = v
 owner (Back v) = v
 
 -- it is a member's, where the message may be on a link
-owner_is_member : (ring : List ℕ) (i : ℕ) (side : Side) (m : HirschbergMsg) → allows ring i side m → IsMember ring (owner m)
+pub owner_is_member : (ring : List ℕ) (i : ℕ) (side : Side) (m : HirschbergMsg) → allows ring i side m → IsMember ring (owner m)
 owner_is_member ring i side (Out v hops) fit = member_of ring side v i fit.1
 owner_is_member ring i side (Back v) fit = fit
 
@@ -102,11 +102,11 @@ owner_counted : (m : HirschbergMsg) → is_out (owner m) m + is_back (owner m) m
 owner_counted m = grind (arith, nat_tests)
 
 -- the number of tokens of v among some messages
-abbrev tokens_of : List HirschbergMsg → ℕ → ℕ
+abbrev pub tokens_of : List HirschbergMsg → ℕ → ℕ
 tokens_of ms v = weight (is_out v) ms + weight (is_back v) ms
 
 -- messages of members are at most as many as the tokens of all members among them
-members_cover : (ring : List ℕ) (ms : List HirschbergMsg) → ((k : ℕ) (m : HirschbergMsg) → slice_get ms k ≡ Some m → IsMember ring (owner m)) → length ms ≤ weight (tokens_of ms) ring
+pub members_cover : (ring : List ℕ) (ms : List HirschbergMsg) → ((k : ℕ) (m : HirschbergMsg) → slice_get ms k ≡ Some m → IsMember ring (owner m)) → length ms ≤ weight (tokens_of ms) ring
 members_cover ring [] each = omega arith
 members_cover ring (m ∷ ms) each =
     let first = each 0 m refl in

@@ -11,3 +11,4 @@ pub mod States
 pub mod Tokens
 pub mod Walks
 pub mod Weights
+pub mod Work

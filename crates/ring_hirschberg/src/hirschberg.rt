@@ -303,15 +303,16 @@ mod tests {
         assert!(rt; Hirschberg.two_way());
         assert!(rt; Hirschberg.greatest());
         crate::phases_are_few();
+        crate::messages_are_few();
     }
 
     #[test]
     fn counts_messages(rt: HostRuntime) -> Result<(), Fail> {
-        for (numbers, messages, leader) in [
-            (&[3, 1, 2][..], 23, 3),
-            (&[1, 2, 3, 4], 28, 4),
-            (&[5, 9], 10, 9),
-            (&[7], 2, 7),
+        for (numbers, messages, most, leader) in [
+            (&[3, 1, 2][..], 23, 60, 3),
+            (&[1, 2, 3, 4], 28, 80, 4),
+            (&[5, 9], 10, 24, 9),
+            (&[7], 2, 4, 7),
         ] {
             let mut members = Vec::new(rt.alloc());
             for number in numbers {
@@ -319,6 +320,7 @@ mod tests {
             }
             let (delivered, decided) = elect(rt.alloc(), &members)?;
             assert_eq!(rt; delivered, messages);
+            assert!(rt; messages <= most);
             assert_eq!(rt; decided, NodeId::new(leader));
         }
         Ok(())

@@ -4,12 +4,14 @@
 //! twice as far each time both its tokens have come home. Greater nodes drop a token, smaller ones
 //! pass it on and turn it at its last hop. A node whose token goes all round has the greatest
 //! identity and is the leader. The code is its table for every message from either side, the laws
-//! of a ring election are proved of that table, and no phase goes beyond the logarithm of the
-//! ring's length.
+//! of a ring election are proved of that table, no phase goes beyond the logarithm of the ring's
+//! length, and a ring of n takes at most 4n + 8n ceil(log₂ n) messages.
 #![tactic(auto)]
 
 mod hirschberg;
 mod phases;
+mod work;
 
 pub use hirschberg::{Hirschberg, HirschbergMsg, HirschbergState};
 pub use phases::phases_are_few;
+pub use work::messages_are_few;

@@ -5,7 +5,7 @@ use lib.ListN.{get_elem?}
 use Rattle.crossbeam_channel.specs.Fifo.{Pushes, Pops, Forks, Merges, Learns}
 use Rattle.ring_inbox.specs.declared.rule.Known.{Known}
 use Rattle.ring_inbox.specs.Inbox.{items_of, Moment, IsLegal, with_stored}
-use Rattle.ring_inbox.specs.Rule.{Ledger, receiver, sender, met, nobody, moment_of, IsSender, IsReceiver, Fits, Holds, Stands, IsStored, IsTaken, IsPrefixTaken}
+use Rattle.ring_inbox.specs.Rule.{Ledger, receiver, sender, met, nobody, moment_of, IsSender, IsReceiver, Fits, Holds, SaysNothing, IsStored, IsTaken, IsPrefixTaken}
 use Rattle.ring_inbox.proofs.Views.{element_after_set, Each, each_of_none, each_after_set, each_after_push}
 use Rattle.ring_inbox.proofs.Steps.{legal_after_store, legal_after_take, with_stored-own, with_stored-other}
 
@@ -141,7 +141,7 @@ module _ {T : Type 0} where
           later = λ p late. with_stored-other number p x h.ledger.stored (λ same. let e : number ≡ p = same in omega arith) ∙ h.later p late;
           fits = each_after_set (Fits ledger) views pass left here others;
         },
-        (refl, record { moment = now; legal = is_legal; own = sym own; room = room; legal_after = after }),
+        refl,
       )
 
   -- the receiver may take the front
@@ -168,7 +168,7 @@ module _ {T : Type 0} where
           later = h.later;
           fits = each_after_set (Fits ledger) views pass left here others;
         },
-        (refl, record { moment = now; rest = queue; legal = is_legal; own = sym mine.taken; front = refl; numbered = subst (λ (n : ℕ). m.0 < n) (sym mine.made) front; legal_after = after }),
+        (refl, subst (λ (n : ℕ). m.0 < n) (sym mine.made) front),
       )
 
   -- a sender's pass may take in the receiver's
@@ -232,29 +232,6 @@ module _ {T : Type 0} where
       let both : Fits h.ledger pass (met capacity number stored made taken) = h.fits pass (met capacity number stored made taken) at in
       (items_of number queue, ap (λ (l : List (ℕ × T)). items_of number l ++ items_of number queue) (both.gets refl).taken ∙ sym (h.legal.in_order number) ∙ sym (both.sends refl).stored)
 
-  -- a sender's pass, and the receiver's, learn of the queue that it stands in a legal inbox with the pass's own list
-  stands_at_sender : (pass capacity number : ℕ) (stored : List T) → Learns Holds pass (sender capacity number stored) (Stands (sender capacity number stored))
-  stands_at_sender pass capacity number stored queue views h at =
-      let mine = (h.fits pass (sender capacity number stored) at).sends refl in
-      record {
-        moment = moment_of h.ledger queue;
-        queue_is = refl;
-        legal = subst (λ (n : ℕ). IsLegal n (moment_of h.ledger queue)) (sym mine.capacity) h.legal;
-        stored = λ _. sym mine.stored;
-        taken = no_role;
-      }
-
-  stands_at_receiver : (pass capacity made : ℕ) (taken : List (ℕ × T)) → Learns Holds pass (receiver capacity made taken) (Stands (receiver capacity made taken))
-  stands_at_receiver pass capacity made taken queue views h at =
-      let mine = (h.fits pass (receiver capacity made taken) at).gets refl in
-      record {
-        moment = moment_of h.ledger queue;
-        queue_is = refl;
-        legal = subst (λ (n : ℕ). IsLegal n (moment_of h.ledger queue)) (sym mine.capacity) h.legal;
-        stored = no_role;
-        taken = λ _. sym mine.taken;
-      }
-
   -- The moves again, as the calls ask for them: each is of a view that is known to be a sender's, the receiver's, or both.
 
   -- `sizes` of such a view
@@ -266,17 +243,17 @@ module _ {T : Type 0} where
       → Forks Holds pass v (receiver v.capacity (v.made + 1) v.taken) (sender v.capacity v.made [])
   makes_as pass v capacity made taken is = subst (λ (u : Known T). Forks Holds pass u (receiver u.capacity (u.made + 1) u.taken) (sender u.capacity u.made [])) (sym is) (makes pass capacity made taken)
 
-  -- `stores` of such a view, and what a look at the queue tells it
+  -- `stores` of such a view
   pub stores_as : (capacity pass : ℕ) (v : Known T) (number : ℕ) (x : T) (stored : List T) → v ≡ sender capacity number stored
-      → Pushes Holds capacity pass v (number, x) (IsStored v (number, x)) × Learns Holds pass v (Stands v)
-  stores_as capacity pass v number x stored is = subst (λ (u : Known T). Pushes Holds capacity pass u (number, x) (IsStored u (number, x)) × Learns Holds pass u (Stands u)) (sym is)
-      (stores pass capacity number stored x, stands_at_sender pass capacity number stored)
+      → Pushes Holds capacity pass v (number, x) (IsStored v (number, x)) × Learns Holds pass v (SaysNothing v)
+  stores_as capacity pass v number x stored is = subst (λ (u : Known T). Pushes Holds capacity pass u (number, x) (IsStored u (number, x)) × Learns Holds pass u (SaysNothing u)) (sym is)
+      (stores pass capacity number stored x, λ _ _ _ _. tt)
 
-  -- `takes` of such a view, and what a look at the queue tells it
+  -- `takes` of such a view
   pub takes_as : (pass : ℕ) (v : Known T) (capacity made : ℕ) (taken : List (ℕ × T)) → v ≡ receiver capacity made taken
-      → Pops Holds pass v (IsTaken v) × Learns Holds pass v (Stands v)
-  takes_as pass v capacity made taken is = subst (λ (u : Known T). Pops Holds pass u (IsTaken u) × Learns Holds pass u (Stands u)) (sym is)
-      (takes pass capacity made taken, stands_at_receiver pass capacity made taken)
+      → Pops Holds pass v (IsTaken v) × Learns Holds pass v (SaysNothing v)
+  takes_as pass v capacity made taken is = subst (λ (u : Known T). Pops Holds pass u (IsTaken u) × Learns Holds pass u (SaysNothing u)) (sym is)
+      (takes pass capacity made taken, λ _ _ _ _. tt)
 
   -- `meets` of such a view
   pub meets_as : (pass : ℕ) (v : Known T) (other : ℕ) (w : Known T) (capacity number : ℕ) (stored : List T) (room made : ℕ) (taken : List (ℕ × T))

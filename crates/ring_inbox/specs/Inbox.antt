@@ -1,5 +1,5 @@
 -- An inbox with one receiver and numbered senders, at one moment, and the two steps that change it.
-use Rattle.std.specs.Prelude.{◌≡◌, ◌==◌, ℕ, ◌<◌, ◌≤◌, if◌then◌else◌, List, [], ◌∷◌, ◌++◌, length}
+use Rattle.std.specs.Prelude.{◌≡◌, ◌==◌, ℕ, ◌≤◌, if◌then◌else◌, List, [], ◌∷◌, ◌++◌, length}
 
 -- the items of one sender among numbered items, in order
 abbrev pub items_of : {T : Type 0} → ℕ → List (ℕ × T) → List T
@@ -29,35 +29,3 @@ module _ {T : Type 0} where
   -- the step of a receiver that takes the front: what is left is `rest`
   abbrev pub after_take : ℕ → T → List (ℕ × T) → Moment T → Moment T
   after_take sender item rest now = record { queue = rest; stored = now.stored; taken = now.taken ++ (sender, item) ∷ [] }
-
-  -- at one moment, a legal one with room, the sender with this list stored the item, and the inbox was legal after it
-  pub record StoredOnce (capacity sender : ℕ) (list : List T) (item : T) : Type 0 where
-    pub moment : Moment T
-    pub legal : IsLegal capacity moment
-    pub own : moment.stored sender ≡ list
-    pub room : length moment.queue < capacity
-    pub legal_after : IsLegal capacity (after_store sender item moment)
-
-  -- at one moment, a legal one, the inbox was full while the sender had this list
-  pub record WasFull (capacity sender : ℕ) (list : List T) : Type 0 where
-    pub moment : Moment T
-    pub legal : IsLegal capacity moment
-    pub own : moment.stored sender ≡ list
-    pub full : length moment.queue ≡ capacity
-
-  -- at one moment, a legal one, the receiver with this list took the item of this sender from the front, and the inbox was legal after it
-  pub record TakenOnce (capacity senders : ℕ) (list : List (ℕ × T)) (sender : ℕ) (item : T) : Type 0 where
-    pub moment : Moment T
-    pub rest : List (ℕ × T)
-    pub legal : IsLegal capacity moment
-    pub own : moment.taken ≡ list
-    pub front : moment.queue ≡ (sender, item) ∷ rest
-    pub numbered : sender < senders
-    pub legal_after : IsLegal capacity (after_take sender item rest moment)
-
-  -- at one moment, a legal one, the inbox was empty while the receiver had this list
-  pub record WasEmpty (capacity : ℕ) (list : List (ℕ × T)) : Type 0 where
-    pub moment : Moment T
-    pub legal : IsLegal capacity moment
-    pub own : moment.taken ≡ list
-    pub empty : moment.queue ≡ []

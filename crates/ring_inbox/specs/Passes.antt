@@ -1,12 +1,11 @@
 -- What each call answers, and what it leaves of its pass.
-use Rattle.std.specs.Prelude.{◌≡◌, [], ◌∷◌, ◌++◌}
+use Rattle.std.specs.Prelude.{◌≡◌, ◌<◌, [], ◌∷◌, ◌++◌}
 use Rattle.ring_inbox.specs.declared.passes.Put.{Put}
 use Rattle.ring_inbox.specs.declared.passes.Put.TheVariants as put
 use Rattle.ring_inbox.specs.declared.passes.Take.{Take}
 use Rattle.ring_inbox.specs.declared.passes.Take.TheVariants as take
 use Rattle.ring_inbox.specs.declared.passes.TryTake.{TryTake}
 use Rattle.ring_inbox.specs.declared.passes.TryTake.TheVariants as try_take
-use Rattle.ring_inbox.specs.Inbox.{StoredOnce, WasFull, TakenOnce, WasEmpty}
 use Rattle.ring_inbox.specs.Values.{SenderLog, ReceiverLog}
 
 module _ {T : Type 0} where
@@ -16,28 +15,21 @@ module _ {T : Type 0} where
   AfterPut old item (put.Full back) new = (back ≡ item) × (new ≡ old)
   AfterPut old item (put.Gone back) new = (back ≡ item) × (new ≡ old)
 
-  -- the moment of the whole inbox by which a put answers: of Gone nothing is known
-  abbrev pub PutMoment : SenderLog T → T → Put T → Type 0
-  PutMoment old item put.Stored = StoredOnce old.inbox.capacity old.number old.stored item
-  PutMoment old item (put.Full _) = WasFull old.inbox.capacity old.number old.stored
-  PutMoment old item (put.Gone _) = Unit {0}
-
   -- a taken item joins the pass's list with its sender's number; else nothing changes
   abbrev pub AfterTake : ReceiverLog T → Take T → ReceiverLog T → Type 0
   AfterTake old (take.Taken sender item) new = new ≡ record old { taken = old.taken ++ (sender, item) ∷ [] }
   AfterTake old take.Closed new = new ≡ old
 
-  -- the moment of the whole inbox by which a take answers: Closed comes only where the inbox was empty at one
-  abbrev pub TakeMoment : ReceiverLog T → Take T → Type 0
-  TakeMoment old (take.Taken sender item) = TakenOnce old.inbox.capacity old.senders old.taken sender item
-  TakeMoment old take.Closed = WasEmpty old.inbox.capacity old.taken
+  -- a taken item is of a sender of this inbox
+  abbrev pub IsNumbered : ReceiverLog T → Take T → Type 0
+  IsNumbered old (take.Taken sender item) = sender < old.senders
+  IsNumbered old take.Closed = Unit {0}
 
   -- the same of a take that does not wait
   abbrev pub AfterTryTake : ReceiverLog T → TryTake T → ReceiverLog T → Type 0
   AfterTryTake old (try_take.Taken sender item) new = new ≡ record old { taken = old.taken ++ (sender, item) ∷ [] }
   AfterTryTake old try_take.Empty new = new ≡ old
 
-  -- the moment by which it answers: Empty comes only where the inbox was empty at one
-  abbrev pub TryTakeMoment : ReceiverLog T → TryTake T → Type 0
-  TryTakeMoment old (try_take.Taken sender item) = TakenOnce old.inbox.capacity old.senders old.taken sender item
-  TryTakeMoment old try_take.Empty = WasEmpty old.inbox.capacity old.taken
+  abbrev pub IsNumberedIfTaken : ReceiverLog T → TryTake T → Type 0
+  IsNumberedIfTaken old (try_take.Taken sender item) = sender < old.senders
+  IsNumberedIfTaken old try_take.Empty = Unit {0}

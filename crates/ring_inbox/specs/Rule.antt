@@ -4,7 +4,7 @@ use mathlib.Core.Option.{some}
 use lib.ListN.{get_elem?}
 use mathlib.Core.List.{IsPrefix}
 use Rattle.ring_inbox.specs.declared.rule.Known.{Known}
-use Rattle.ring_inbox.specs.Inbox.{items_of, Moment, IsLegal, StoredOnce, TakenOnce}
+use Rattle.ring_inbox.specs.Inbox.{items_of, Moment, IsLegal}
 
 -- what the inbox's parts are, beside its queue: `seat` is the pass of each sender, `reader` the pass of the receiver, and `made` counts the senders
 pub record Ledger (T : Type 0) : Type 0 where
@@ -62,21 +62,17 @@ module _ {T : Type 0} where
     pub later : (p : ℕ) → ledger.made ≤ p → ledger.stored p ≡ []
     pub fits : (pass : ℕ) (v : Known T) → get_elem? views pass ≡ some v → Fits ledger pass v
 
-  -- what a look at the queue tells a pass: a legal moment with this queue, and with the pass's own list
-  pub record Stands (v : Known T) (queue : List (ℕ × T)) : Type 0 where
-    pub moment : Moment T
-    pub queue_is : moment.queue ≡ queue
-    pub legal : IsLegal v.capacity moment
-    pub stored : v.sends ≡ true → moment.stored v.number ≡ v.stored
-    pub taken : v.gets ≡ true → moment.taken ≡ v.taken
+  -- a look at the queue tells a pass nothing: what it saw may be gone when the call returns
+  abbrev pub SaysNothing : Known T → List (ℕ × T) → Type 0
+  SaysNothing v queue = Unit {0}
 
   -- what a send tells its pass
   abbrev pub IsStored : Known T → ℕ × T → Known T → Type 0
-  IsStored v m w = (w ≡ sender v.capacity v.number (v.stored ++ m.1 ∷ [])) × StoredOnce v.capacity v.number v.stored m.1
+  IsStored v m w = w ≡ sender v.capacity v.number (v.stored ++ m.1 ∷ [])
 
   -- what a receive tells its pass
   abbrev pub IsTaken : Known T → ℕ × T → Known T → Type 0
-  IsTaken v m w = (w ≡ receiver v.capacity v.made (v.taken ++ m ∷ [])) × TakenOnce v.capacity v.made v.taken m.0 m.1
+  IsTaken v m w = (w ≡ receiver v.capacity v.made (v.taken ++ m ∷ [])) × (m.0 < v.made)
 
   -- what was taken of the sender is a prefix of what it stored
   abbrev pub IsPrefixTaken : Known T → Type 0

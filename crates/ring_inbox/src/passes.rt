@@ -2,7 +2,7 @@
 ghost use Rattle.std.specs.Prelude.{◌≡◌};
 ghost use mathlib.Core.List.{IsPrefix};
 ghost use Rattle.ring_inbox.specs.Inbox.{items_of};
-ghost use Rattle.ring_inbox.specs.Passes.{AfterPut, PutMoment, AfterTake, TakeMoment, AfterTryTake, TryTakeMoment};
+ghost use Rattle.ring_inbox.specs.Passes.{AfterPut, AfterTake, AfterTryTake, IsNumbered, IsNumberedIfTaken};
 
 use crate::rule::{InOrder, Known, Meets, Stores, Takes};
 use crossbeam_channel::{Pass, RuledReceiver, RuledSender, TrySendError};
@@ -15,7 +15,7 @@ use std::sync::Wait;
 pub enum Put<T> {
     /// It stands at the back of the queue.
     Stored,
-    /// The queue was full at one moment of the call: the item is given back.
+    /// The channel says that the queue was full, which isn't claimed: the item is given back.
     Full(T),
     /// The channel says that the receiver ended, which isn't claimed: the item is given back.
     Gone(T),
@@ -27,7 +27,7 @@ pub enum Put<T> {
 pub enum Take<T> {
     /// The number of a sender, and the oldest item of the queue, which that sender stored.
     Taken(usize, T),
-    /// The channel says that all senders ended, which isn't claimed. The queue was empty at one moment of the call.
+    /// The channel says that all senders ended and nothing is left, which isn't claimed.
     Closed,
 }
 
@@ -37,7 +37,7 @@ pub enum Take<T> {
 pub enum TryTake<T> {
     /// The number of a sender, and the oldest item of the queue, which that sender stored.
     Taken(usize, T),
-    /// The queue was empty at one moment of the call.
+    /// The channel says that the queue was empty, which isn't claimed.
     Empty,
 }
 
@@ -87,12 +87,11 @@ impl<T: Drop> Model for ReceiverPass<T> {
 }
 
 impl<T: Drop> SenderPass<T> {
-    /// Stores the item at the back of the queue, or gives it back and changes nothing: `Full` only where the queue was
-    /// full at one moment of the call, `Gone` where the channel says that the receiver ended. It takes no memory. That it
-    /// returns isn't claimed.
+    /// Stores the item at the back of the queue, or gives it back and changes nothing: `Full` where the channel says that
+    /// there was no room, `Gone` where it says that the receiver ended. What another thread does to the queue is no part
+    /// of a contract, so tests show when these come. It takes no memory. That it returns isn't claimed.
     pub fn put<R: Wait>(&mut self, rt: &R, item: T) -> Put<T>
-        ensures pass { AfterPut self.old item result self.new }
-        ensures inbox { PutMoment self.old item result }
+        ensures { AfterPut self.old item result self.new }
     {
         let message = (self.number, item);
         match self
@@ -123,10 +122,10 @@ impl<T: Drop> SenderPass<T> {
 
 impl<T: Drop> ReceiverPass<T> {
     /// Waits for an item, and takes the oldest of the queue, or says `Closed` and changes nothing. It takes no memory.
-    /// That it returns isn't claimed, nor when `Closed` comes, but that the queue was empty at one moment of such a call.
+    /// That it returns isn't claimed, nor when `Closed` comes: tests show it.
     pub fn take<R: Wait>(&mut self, rt: &R) -> Take<T>
         ensures pass { AfterTake self.old result self.new }
-        ensures inbox { TakeMoment self.old result }
+        ensures sender { IsNumbered self.old result }
     {
         match self.from.recv_as::<Takes, R>(rt, &mut self.pass) {
             Ok((sender, item)) => Take::Taken(sender, item),
@@ -134,11 +133,11 @@ impl<T: Drop> ReceiverPass<T> {
         }
     }
 
-    /// Takes the oldest item of the queue, or says `Empty` and changes nothing, which it does only where the queue was
-    /// empty at one moment of the call. It takes no memory. That it returns isn't claimed.
+    /// Takes the oldest item of the queue, or says `Empty` and changes nothing. Tests show when `Empty` comes. It takes no
+    /// memory. That it returns isn't claimed.
     pub fn try_take<R: Wait>(&mut self, rt: &R) -> TryTake<T>
         ensures pass { AfterTryTake self.old result self.new }
-        ensures inbox { TryTakeMoment self.old result }
+        ensures sender { IsNumberedIfTaken self.old result }
     {
         match self.from.try_recv_as::<Takes, R>(rt, &mut self.pass) {
             Ok((sender, item)) => TryTake::Taken(sender, item),

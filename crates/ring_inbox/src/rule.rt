@@ -87,7 +87,7 @@ impl<T> Split<Known<T>> for Meets {
     ghost right = { λ v. receiver v.capacity v.made v.taken };
 }
 
-// The step of a sender that stores, and what its look at a full queue tells.
+// The step of a sender that stores; its look at a full queue tells nothing.
 pub struct Stores;
 
 impl<T> Outcome<(usize, T), Known<T>> for Stores {
@@ -97,12 +97,12 @@ impl<T> Outcome<(usize, T), Known<T>> for Stores {
 }
 
 impl<T> Lesson<(usize, T), Known<T>> for Stores {
-    ghost use Rattle.ring_inbox.specs.Rule.{Stands};
+    ghost use Rattle.ring_inbox.specs.Rule.{SaysNothing};
 
-    ghost fact = { Stands };
+    ghost fact = { SaysNothing };
 }
 
-// The step of the receiver that takes, and what its look at an empty queue tells.
+// The step of the receiver that takes; its look at an empty queue tells nothing.
 pub struct Takes;
 
 impl<T> Outcome<(usize, T), Known<T>> for Takes {
@@ -112,7 +112,7 @@ impl<T> Outcome<(usize, T), Known<T>> for Takes {
 }
 
 impl<T> Lesson<(usize, T), Known<T>> for Takes {
-    ghost use Rattle.ring_inbox.specs.Rule.{Stands};
+    ghost use Rattle.ring_inbox.specs.Rule.{SaysNothing};
 
-    ghost fact = { Stands };
+    ghost fact = { SaysNothing };
 }

@@ -1,7 +1,7 @@
 -- Where all that was sent was taken, this algorithm has decided.
 use Rattle.std.specs.Prelude.{◌≢◌, ℕ, List, [], Some, refl}
-use Rattle.std.proofs.Common.{◌∙◌, sym, ap, get_or, subst}
-use Rattle.std.proofs.lemmas.Option.{slice_get-get_or}
+use Rattle.std.proofs.Common.{◌≡◌, ◌∙◌, sym, ap, get_or, slice_get, subst}
+use Rattle.std.proofs.lemmas.Option.{slice_get-get_or, slice_get_within}
 use Rattle.ring_id.specs.declared.side.Side.{Side}
 use Rattle.ring_id.specs.declared.side.Side.TheVariants.{Left, Right}
 use Rattle.ring_roster.specs.Ring.{IsRing}
@@ -21,18 +21,24 @@ passes_on me v receipts differs came =
     in_rest me (sent_from lelann_table Right (lelann_first me) receipts) v
     (subst (λ (l : List ℕ). IsIn l v) (sym (sent_from-right (lelann_first me) receipts)) (in_without me v (taken_from Left receipts) differs came))
 
--- the identity of the first position goes all the way round, and that position decides
+-- the identity of each position goes all the way round and comes home
+pub comes_home : (ring : List ℕ) (family : ℕ → List (Side × ℕ)) (i me : ℕ) → IsRing ring → IsComplete lelann_table ring family → slice_get ring i ≡ Some me
+    → IsIn (taken_from Left (family i)) me
+comes_home ring family i me is complete there =
+    goes_round lelann_table ring family i me me complete there (in_first me (sent_from lelann_table Right (lelann_first me) (family i)))
+    (λ j sender at elsewhere came.
+    passes_on sender me (family j)
+    (λ same. elsewhere (same_position ring j i me is (at ∙ ap (λ (v : ℕ). Some v) (sym same)) there))
+    came)
+    i (slice_get_within ring i me there)
+
+-- the identity of the first position comes home, and that position decides
 complete_decides : (ring : List ℕ) (family : ℕ → List (Side × ℕ)) → IsRing ring → FamilyFits lelann_fits ring family → IsComplete lelann_table ring family
     → HasDecided lelann_table ring family
 complete_decides ring family is fit complete =
     let me = get_or ring 0 0 in
     let there = slice_get-get_or ring 0 0 is.some in
-    let home = goes_round lelann_table ring family 0 me me complete there (in_first me (sent_from lelann_table Right (lelann_first me) (family 0)))
-    (λ j sender at elsewhere came.
-    passes_on sender me (family j)
-    (λ same. elsewhere (same_position ring j 0 me is (at ∙ ap (λ (v : ℕ). Some v) (sym same)) there))
-    came)
-    0 is.some in
+    let home = comes_home ring family 0 me is complete there in
     let decision = decision_at_home-home me [] (taken_from Left (family 0)) home in
     record {
       position = 0;

@@ -5,3 +5,4 @@ pub mod LeLann
 pub mod Others
 pub mod Taken
 pub mod Traces
+pub mod Work

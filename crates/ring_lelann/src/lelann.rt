@@ -166,6 +166,7 @@ fn greatest(me: NodeId, seen: &[NodeId]) -> NodeId
 #[cfg(test)]
 mod tests {
     use super::*;
+    use crate::work_is_square;
     use std::collections::VecDeque;
     use std::test::Fail;
 
@@ -223,6 +224,21 @@ mod tests {
             }
         }
         Err("more than 100 messages".into())
+    }
+
+    #[test]
+    fn a_settled_ring_took_the_square_of_its_length(rt: HostRuntime) -> Result<(), Fail> {
+        work_is_square();
+        for (numbers, square) in [
+            ([7].as_slice(), 1),
+            ([5, 9].as_slice(), 4),
+            ([3, 1, 2].as_slice(), 9),
+            ([4, 1, 3, 2].as_slice(), 16),
+        ] {
+            let mut ring = started(rt.alloc(), numbers)?;
+            assert_eq!(rt; settled(&mut ring)?, square);
+        }
+        Ok(())
     }
 
     #[test]

@@ -22,6 +22,21 @@ fn a_full_inbox_gives_back_and_an_empty_one_has_nothing(rt: HostRuntime) -> Resu
 }
 
 #[test]
+fn an_item_is_found_where_none_was_before(rt: HostRuntime) -> Result<(), Fail> {
+    let (mut receiver, mut senders) = inbox::<u64>(rt.alloc(), 2, 1)?;
+    assert_eq!(rt; senders.len(), 1);
+    for item in 0..5 {
+        assert_eq!(rt; receiver.try_take(&rt), TryTake::Empty);
+        assert_eq!(rt; senders[0].put(&rt, item), Put::Stored);
+        assert_eq!(rt; senders[0].put(&rt, item + 10), Put::Stored);
+        assert_eq!(rt; senders[0].put(&rt, item), Put::Full(item));
+        assert_eq!(rt; receiver.try_take(&rt), TryTake::Taken(0, item));
+        assert_eq!(rt; receiver.take(&rt), Take::Taken(0, item + 10));
+    }
+    Ok(())
+}
+
+#[test]
 fn a_call_says_that_the_other_end_is_gone(rt: HostRuntime) -> Result<(), Fail> {
     let (mut receiver, mut senders) = inbox::<u64>(rt.alloc(), 2, 1)?;
     assert_eq!(rt; senders.len(), 1);

@@ -1,0 +1,76 @@
+"""Growth refused in turn in `ringd replay`, over the files of rows."""
+
+from importlib.machinery import SourceFileLoader
+import re
+
+from sweep import Bad, NO_MEMORY, ROOT, run
+
+ROWS = SourceFileLoader("check_rows", str(ROOT / "examples/check-rows")).load_module()
+DRAIN = re.compile(rb"drain (\S+) ([0-9]+)")
+STARVED = re.compile(rb"drained ([0-9]+) left [0-9]+ no-memory")
+DRAINED = re.compile(rb"drained ([0-9]+) left ([0-9]+)")
+
+
+class Lines:
+    """A file of rows: the lines of a run, and the replies that it has to give."""
+
+    def __init__(self, path):
+        rows = ROWS.rows_of(path)
+        self.name = path.stem
+        self.commands = [ROWS.ESCAPE.sub(ROWS.unescaped, row.command) for row in rows]
+        self.replies = [row.reply for row in rows]
+
+
+def text(lines):
+    return b"".join(line + b"\n" for line in lines)
+
+
+def asked_again(lines, place, reply):
+    """The lines and replies of a run in which the line at this place got this reply, which says that
+    memory was refused, and is then asked again: the rest of a drain, or else the line itself."""
+    command, expected = lines.commands[place], lines.replies[place]
+    starved, drain, whole = STARVED.fullmatch(reply), DRAIN.fullmatch(command), DRAINED.fullmatch(expected)
+    if starved and drain and whole:
+        done = int(starved[1])
+        again = b"drain %s %d" % (drain[1], int(drain[2]) - done)
+        then = b"drained %d left %s" % (int(whole[1]) - done, whole[2])
+    elif reply == b"no no-memory":
+        again, then = command, expected
+    else:
+        raise Bad(f"line {place + 1} is answered {reply!r} and not {expected!r}")
+    commands = lines.commands[: place + 1] + [again] + lines.commands[place + 1 :]
+    replies = lines.replies[:place] + [reply, then] + lines.replies[place + 1 :]
+    return commands, replies
+
+
+def first_difference(replies, expected):
+    """The first place at which the replies differ from those expected; none where none does."""
+    for place, reply in enumerate(expected):
+        if place >= len(replies) or replies[place] != reply:
+            return place
+    return None
+
+
+def refuse(library, program, lines, growth):
+    """One run in which this growth is refused: whether it was told, or `None` where no such growth is made."""
+    command = [program, "replay"]
+    ran = run(library, command, text(lines.commands), growth=growth)
+    if not ran.told:
+        if ran.status != 0 or ran.out != text(lines.replies):
+            raise Bad(f"{lines.name}: a run without refusals is answered otherwise")
+        return None
+    if ran.status == 1 and ran.err == NO_MEMORY and ran.out == b"":
+        return True
+    replies = ran.out.split(b"\n")[:-1]
+    place = first_difference(replies, lines.replies)
+    if ran.status != 0 or ran.err:
+        raise Bad(f"{lines.name}: growth {growth}: status {ran.status}, {ran.err!r}")
+    if place is None:
+        return False
+    if place >= len(replies):
+        raise Bad(f"{lines.name}: growth {growth}: line {place + 1} has no reply")
+    commands, expected = asked_again(lines, place, replies[place])
+    again = run(library, command, text(commands), growth=growth)
+    if again.status != 0 or again.out != text(expected):
+        raise Bad(f"{lines.name}: growth {growth}: otherwise after line {place + 1} was asked again")
+    return True
