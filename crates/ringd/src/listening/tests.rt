@@ -52,7 +52,16 @@ fn two_clients<R: Net<Stream = TcpStream>>(rt: &R, alloc: Global, port: u16) -> 
 // One whole run: whether both clients got their replies, and both lines were written.
 fn serves_both<R>(rt: &R, config: &Config) -> io::Result<bool>
 where
-    R: AllocGlobal + Threads + Wait + Clock + Copy + Send + Sync + Drop + 'static + Net<Stream = TcpStream, Listener = TcpListener>,
+    R: AllocGlobal
+        + Threads
+        + Wait
+        + Clock
+        + Copy
+        + Send
+        + Sync
+        + Drop
+        + 'static
+        + Net<Stream = TcpStream, Listener = TcpListener>,
 {
     let alloc = rt.alloc();
     let listener = rt.bind(SocketAddr::from((Ipv4Addr::LOCALHOST, config.port)))?;
