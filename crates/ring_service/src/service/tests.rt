@@ -28,7 +28,7 @@ struct Opened {
 }
 
 // A service of so many workers with this gate, and seats for two sessions.
-fn opened<
+fn open_service<
     G: Gate + Send + Sync + Drop + 'static,
     R: Threads + Wait + Clock + Copy + Send + Drop + 'static,
 >(rt: &R, alloc: Global, workers: usize, inbox: usize, gate: Arc<G>) -> Option<Opened> {
@@ -82,7 +82,13 @@ fn two_sessions<R: Threads + Wait + Clock + Copy + Send + Drop + 'static>(
     rt: &R,
     alloc: Global,
 ) -> Option<bool> {
-    let Opened { service, mut seats } = opened(rt, alloc, 1, 64, Arc::new(alloc, OpenGate).ok()?)?;
+    let Opened { service, mut seats } = open_service(
+        rt,
+        alloc,
+        1,
+        64,
+        Arc::new(alloc, OpenGate).ok()?,
+    )?;
     let front = service.front();
     let mut seat = seats.pop()?;
     let first = b"create a chang\njoin a 5\nstart a\nmembers a\ndrain a 1\n".as_slice();
@@ -145,7 +151,7 @@ fn two_threads<R: Threads + Wait + Clock + Copy + Send + Sync + Drop + 'static>(
     alloc: Global,
 ) -> Option<bool> {
     let gate = Arc::new(alloc, OpenGate).ok()?;
-    let Opened { service, mut seats } = opened(rt, alloc, 1, 1, gate)?;
+    let Opened { service, mut seats } = open_service(rt, alloc, 1, 1, gate)?;
     let front = service.front();
     let (mut one, mut other) = (seats.pop()?, seats.pop()?);
     session(rt, alloc, front, &mut one, 1, b"create a chang")?;
@@ -255,7 +261,13 @@ fn decides<R: Threads + Wait + Clock + Copy + Send + Sync + Drop + 'static>(
         },
     )
     .ok()?;
-    let Opened { service, mut seats } = opened(rt, alloc, 2, inbox, Arc::try_clone(&gate).ok()?)?;
+    let Opened { service, mut seats } = open_service(
+        rt,
+        alloc,
+        2,
+        inbox,
+        Arc::try_clone(&gate).ok()?,
+    )?;
     let mut seat = seats.pop()?;
     let lines = b"create a peterson\njoin a 4\njoin a 1\njoin a 3\njoin a 2\nstart a\n".as_slice();
     session(rt, alloc, service.front(), &mut seat, 1, lines)?;
@@ -317,7 +329,7 @@ fn begins_twenty<R: Threads + Wait + Clock + Copy + Send + Sync + Drop + 'static
     alloc: Global,
 ) -> Option<bool> {
     let gate = Arc::new(alloc, OpenGate).ok()?;
-    let Opened { service, mut seats } = opened(rt, alloc, 2, 1, gate)?;
+    let Opened { service, mut seats } = open_service(rt, alloc, 2, 1, gate)?;
     let mut seat = seats.pop()?;
     let lines = twenty_groups(alloc)?;
     session(rt, alloc, service.front(), &mut seat, 1, &lines)?;
