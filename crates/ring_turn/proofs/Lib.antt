@@ -10,3 +10,4 @@ pub mod Closing
 pub mod Calling
 pub mod Gaining
 pub mod Returning
+pub mod Crossing
