@@ -43,7 +43,7 @@ where
     let (service, seats) = sessions::open(rt, config, connections)?;
     let served = serve_all(
         rt,
-        service.front(),
+        sessions::front(&service),
         listener,
         listening.as_str(),
         seats,

@@ -65,7 +65,7 @@ where
     let (service, seats) = sessions::open(rt, config, limits.sessions)?;
     let begun = begin(
         rt,
-        service.front(),
+        sessions::front(&service),
         listener,
         listening.as_str(),
         seats,

@@ -49,6 +49,11 @@ where
     Ok((service, guests))
 }
 
+/// What the sessions of a service share. Takes no memory.
+pub fn front(service: &Service) -> &Front {
+    service.front()
+}
+
 /// Ends the service. What it leaves is let go.
 pub fn close<R: Threads + Wait>(rt: &R, service: Service) {
     let _closing = service.close(rt);
