@@ -78,6 +78,13 @@ fn stop<R: Wait + Clock>(rt: &R, to: &mut SenderPass<Item<Peterson>>) {
     }
 }
 
+/// The passes of the two workers to one inbox.
+fn pair<T: Drop>(workers: &mut Vec<SenderPass<T>>) -> Result<(SenderPass<T>, SenderPass<T>), Fail> {
+    let last = workers.pop().ok_or("a pass for each worker")?;
+    let first = workers.pop().ok_or("a pass for each worker")?;
+    Ok((first, last))
+}
+
 /// What the two workers hand over, with inboxes of this capacity.
 fn handed_by_two<R: Threads + Wait + Clock + Copy + Send + Sync + 'static>(
     rt: R,
@@ -91,19 +98,19 @@ fn handed_by_two<R: Threads + Wait + Clock + Copy + Send + Sync + 'static>(
     let gates = (Arc::try_clone(&gate)?, Arc::try_clone(&gate)?);
     let mut zero = opened(&rt, alloc, capacity, items.0)?;
     let mut one = opened(&rt, alloc, capacity, items.1)?;
-    let mut passes = (Vec::new(alloc), Vec::new(alloc));
-    for inbox in [&mut zero, &mut one] {
-        let last = inbox.workers.pop().ok_or("a pass for each worker")?;
-        let first = inbox.workers.pop().ok_or("a pass for each worker")?;
-        passes.0.push(first)?;
-        passes.1.push(last)?;
-    }
-    let (receiver, senders, meeting) = (zero.receiver, passes.0, gates.0);
+    let (first_to_zero, last_to_zero) = pair(&mut zero.workers)?;
+    let (first_to_one, last_to_one) = pair(&mut one.workers)?;
+    let (mut firsts, mut lasts) = (Vec::new(alloc), Vec::new(alloc));
+    firsts.push(first_to_zero)?;
+    firsts.push(first_to_one)?;
+    lasts.push(last_to_zero)?;
+    lasts.push(last_to_one)?;
+    let (receiver, senders, meeting) = (zero.receiver, firsts, gates.0);
     let first = thread::spawn(
         &rt,
         move || work(&rt, alloc, 0, receiver, senders, &meeting),
     )?;
-    let (receiver, senders, meeting) = (one.receiver, passes.1, gates.1);
+    let (receiver, senders, meeting) = (one.receiver, lasts, gates.1);
     let last = thread::spawn(
         &rt,
         move || work(&rt, alloc, 1, receiver, senders, &meeting),
