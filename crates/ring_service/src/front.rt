@@ -142,6 +142,3 @@ impl<A: Access<Any> + Drop> Front<A> {
         }
     }
 }
-
-#[cfg(test)]
-mod tests;

@@ -186,6 +186,3 @@ where
     }
     Ok(())
 }
-
-#[cfg(test)]
-mod tests;

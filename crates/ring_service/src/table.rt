@@ -220,6 +220,3 @@ fn share<E: RingElection>(
     }
     Ok(shared)
 }
-
-#[cfg(test)]
-mod tests;
