@@ -76,20 +76,3 @@ fn nodes_by_themselves_settle_and_a_double_does_not(rt: HostRuntime) -> Result<(
     assert_eq!(rt; settle(&charter, &nodes), Settlement::Incomplete);
     Ok(())
 }
-
-#[test]
-fn nodes_settle_in_any_order_and_among_others(rt: HostRuntime) -> Result<(), Fail> {
-    let charter_of = |term| charter(rt.alloc(), term, Chang, &[3, 1, 2]);
-    let (first, second) = (charter_of(1)?, charter_of(2)?);
-    let mut nodes = settled_nodes(rt.alloc(), &second)?;
-    let mut others = settled_nodes(rt.alloc(), &first)?;
-    while let Some(node) = others.pop() {
-        nodes.push(node)?;
-    }
-    assert_eq!(rt; settle(&first, &nodes), Settlement::Settled);
-    assert_eq!(rt; settle(&second, &nodes), Settlement::Settled);
-    nodes.swap_remove(0);
-    assert_eq!(rt; settle(&first, &nodes), Settlement::Settled);
-    assert_eq!(rt; settle(&second, &nodes), Settlement::Incomplete);
-    Ok(())
-}
