@@ -1,6 +1,6 @@
 //! A node of the election of Chang and Roberts on 3, 1, 2, receipt by receipt.
 
-use crate::rings::{charter, seated};
+use crate::rings::{charter, identity, seated};
 use ring_chang::Chang;
 use ring_id::Side;
 use ring_node::{Envelope, Node, Packet, TakeFault};
@@ -71,6 +71,17 @@ fn a_node_sends_its_own_and_passes_a_greater_on(rt: HostRuntime) -> Result<(), F
     assert_eq!(rt; counts(&second), (1, 2));
     assert_eq!(rt; shown(&sent(&second, 0)?), Some((1, 0)));
     assert_eq!(rt; shown(&sent(&second, 1)?), Some((3, 1)));
+    Ok(())
+}
+
+#[test]
+fn a_node_shows_what_it_has_received(rt: HostRuntime) -> Result<(), Fail> {
+    let second = passed_on(rt.alloc())?;
+    let three = Packet::Algo(identity(3)?);
+    assert_eq!(rt; second.receipt(Side::Left, 0), Some(three));
+    assert_eq!(rt; second.receipt(Side::Left, 1), None);
+    assert_eq!(rt; second.receipt(Side::Right, 0), None);
+    assert_eq!(rt; second.receipts(), [(Side::Left, three)].as_slice());
     Ok(())
 }
 

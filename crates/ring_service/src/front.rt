@@ -142,3 +142,6 @@ impl<A: Access<Any> + Drop> Front<A> {
         }
     }
 }
+
+#[cfg(test)]
+mod tests;

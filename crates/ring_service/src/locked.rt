@@ -178,3 +178,6 @@ impl<E: RingElection> Access<E> for LockedTable<E> {
         seat.report(&mut self.table.lock(rt), report)
     }
 }
+
+#[cfg(test)]
+mod tests;

@@ -220,3 +220,6 @@ fn share<E: RingElection>(
     }
     Ok(shared)
 }
+
+#[cfg(test)]
+mod tests;
