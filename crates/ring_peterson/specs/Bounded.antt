@@ -50,7 +50,7 @@ log2_up_to-above (suc limit) n h =
       | false ↦ λ above. h
     ] refl
 
-floor_log2-above : (n : ℕ) → n < 2 ^ suc (floor_log2 n)
+pub floor_log2-above : (n : ℕ) → n < 2 ^ suc (floor_log2 n)
 floor_log2-above n = log2_up_to-above n n (below_power n)
 
 -- what one position has taken

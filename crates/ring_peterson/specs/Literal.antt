@@ -2,7 +2,7 @@
 -- round shrinks.
 use Rattle.std.specs.Prelude.{◌≡◌, ◌+◌, ◌*◌, ℕ, zero, suc, [], ◌∷◌, length, None}
 use Rattle.std.proofs.Common.{refl, sym, ap, ◌∙◌, subst, arith}
-use Rattle.ring_peterson.specs.Rounds.{Round, RoundsShrink, first_round, message_of, next_round, rounds}
+use Rattle.ring_peterson.specs.Rounds.{MessagesAreOfRounds, Round, RoundsShrink, first_round, message_of, next_round, rounds}
 use Rattle.ring_peterson.specs.Walk.{walk_next}
 use Rattle.ring_peterson.specs.Values.{IsRound, IsRound-next}
 use Rattle.ring_peterson.specs.FirstRound.{IsRound-first}
@@ -27,6 +27,9 @@ message_of-odd zero round i = refl
 message_of-odd (suc p) round i =
     let e : 2 * suc p + 1 ≡ suc (suc (2 * p + 1)) = omega arith in
     rw e (message_of-next round i (2 * p + 1) ∙ message_of-odd p (next_round round) i)
+
+pub messages_by_rounds : MessagesAreOfRounds
+messages_by_rounds ring p i = (message_of-even p (first_round ring) i, message_of-odd p (first_round ring) i)
 
 -- nothing is sent past the last round
 message_of-past : (p : ℕ) (round : Round) (i : ℕ) → rounds p round ≡ [] → message_of round i (2 * p) ≡ None

@@ -124,3 +124,17 @@ pub record Shrinks (before after : Round) : Type 0 where
 -- each round of a ring shrinks, as long as it has two or more positions
 abbrev pub RoundsShrink : Type 0
 RoundsShrink = (ring : List ℕ) (p : ℕ) → IsRing ring → 2 ≤ length (rounds p (first_round ring)) → Shrinks (rounds p (first_round ring)) (rounds (p + 1) (first_round ring))
+
+-- the last round of a ring has one position, the one whose member wins
+abbrev pub LastRoundIsOne : Type 0
+LastRoundIsOne = (ring : List ℕ) → IsRing ring → length (last_round (length ring) (first_round ring)) ≡ 1
+
+-- Two messages on each link for each round (Lynch, Distributed Algorithms, 15.1.3): those numbered
+-- 2p and 2p + 1 are the first and the second of round p.
+abbrev pub MessagesAreOfRounds : Type 0
+MessagesAreOfRounds = (ring : List ℕ) (p i : ℕ) →
+    (message_of (first_round ring) i (2 * p) ≡ message_of (rounds p (first_round ring)) i 0) × (message_of (first_round ring) i (2 * p + 1) ≡ message_of (rounds p (first_round ring)) i 1)
+
+-- The logarithm of n rounded down is the greatest exponent whose power of two is not above n.
+abbrev pub LogarithmIsGreatest : Type 0
+LogarithmIsGreatest = (n : ℕ) → 1 ≤ n → (2 ^ floor_log2 n ≤ n) × ((e : ℕ) → 2 ^ e ≤ n → e ≤ floor_log2 n)

@@ -1,16 +1,23 @@
 ghost use Rattle.std.specs.Prelude.{◌≡◌, [], IfOk, MatchOption};
-ghost use Rattle.ring_peterson.specs.Rounds.{RoundsShrink, first_round, rounds, stays_active, two_of};
+ghost use Rattle.ring_peterson.specs.Rounds.{LastRoundIsOne, LogarithmIsGreatest, MessagesAreOfRounds, RoundsShrink, first_round, rounds, stays_active, two_of};
 ghost use Rattle.ring_peterson.specs.Walk.{two_ends, walk_next};
 
 use ring_id::{NoMemory, NodeId};
 use ring_roster::Roster;
 use std::alloc::Global;
 
-/// How fast Peterson's election shrinks: its contract says that each round of two or more active
-/// nodes leaves at least one of them active, and at most half (Lynch, Distributed Algorithms,
-/// 15.1.3: at least half of the active processes become relays in each phase). It does nothing.
+/// How fast Peterson's election shrinks (Lynch, Distributed Algorithms, 15.1.3: at least half of the
+/// active processes become relays in each phase).
+///
+/// The laws are the contract; the call does nothing. Each round of two or more active nodes leaves at
+/// least one of them active, and at most half; the last round has one node, which wins; a link
+/// carries two messages for each round; and the logarithm in the bound on all messages is the
+/// greatest exponent whose power of two is not above the ring's length.
 pub fn rounds_shrink()
-    ensures { RoundsShrink }
+    ensures shrink { RoundsShrink }
+    ensures last { LastRoundIsOne }
+    ensures messages { MessagesAreOfRounds }
+    ensures logarithm { LogarithmIsGreatest }
 {}
 
 /// The round of this number of Peterson's election on a ring: the positions that are still active,
