@@ -35,13 +35,14 @@ PATIENCE = 3
 
 
 class Worker:
-    """A worker's process, and when it was last heard of."""
+    """A worker's process, and when it was last heard of. As a member it has the number of its process, which
+    no other process has while it lives: so none can be taken for one that went before."""
 
-    def __init__(self, number, ports):
-        words = [sys.executable, "-B", WORKER, number, *ports]
-        self.number = number
+    def __init__(self, ports):
+        words = [sys.executable, "-B", WORKER, *ports]
         self.process = subprocess.Popen([str(word) for word in words], stdin=subprocess.DEVNULL,
                                         stdout=subprocess.PIPE)
+        self.number = self.process.pid
         self.heard = 0
 
     def hear(self):
@@ -58,7 +59,7 @@ class Worker:
 
 
 class Supervisor:
-    """Starts so many workers, numbered from 1, and speaks for them to ringd."""
+    """Keeps so many workers running, and speaks for them to ringd."""
 
     def __init__(self, ring_port, store_port, count, tell=lambda text: None):
         self.ports = ring_port, store_port
@@ -72,15 +73,15 @@ class Supervisor:
         self.looked = self.decided = time.monotonic()
         self.is_over = threading.Event()
         self.selector = selectors.DefaultSelector()
-        self.workers = {}
-        for number in range(1, count + 1):
-            self.employ(number)
+        self.workers = {}  # (by their numbers)
+        for _ in range(count):
+            self.employ()
 
-    def employ(self, number):
-        """Starts the process of a worker."""
-        worker = Worker(number, self.ports)
+    def employ(self):
+        """Starts a worker."""
+        worker = Worker(self.ports)
         self.selector.register(worker.process.stdout, selectors.EVENT_READ, worker)
-        self.workers[number] = worker
+        self.workers[worker.number] = worker
 
     def run(self):
         """Goes on until it is told to end."""
@@ -104,7 +105,8 @@ class Supervisor:
             if not worker.hear():
                 self.selector.unregister(worker.process.stdout)
                 worker.end()
-                self.employ(worker.number)
+                del self.workers[worker.number]
+                self.employ()
 
     def follow(self):
         """Makes the members those that are alive, and starts a term where somebody went."""
@@ -156,4 +158,5 @@ class Supervisor:
         standing, *_ = self.ring.ask("who", self.group, self.asked)
         if standing == "leader":
             self.decided = self.looked
-        self.is_due = self.looked - self.decided > PATIENCE
+        elif self.looked - self.decided > PATIENCE:
+            self.is_due = True

@@ -1,10 +1,10 @@
 """A worker: does jobs while it leads. The supervisor starts it.
 
-    worker.py NUMBER RINGD-PORT STORE-PORT
+    worker.py RINGD-PORT STORE-PORT
 
-It asks `ringd` who leads only while it doesn't lead itself. As a leader it goes on until the store says
-that it is late: being told `leader` is never a licence to write, since between the answer and the
-write any time may pass, and a newer term may have begun meanwhile.
+It asks `ringd` who leads, often while it doesn't lead itself, and once a second while it does. What stops a
+leader is the store, which says that it is late: being told `leader` is never a licence to write, since between
+the answer and the write any time may pass, and a newer term may have begun meanwhile.
 """
 
 import os
@@ -17,6 +17,9 @@ from lines import Lines, Refused
 # How often somebody who doesn't lead asks, in seconds. Each question stays in the memory of ringd for
 # good: see docs/OPERATING.md for what that costs.
 PAUSE = 0.05
+# For how long a leader goes on before it asks again.
+STRETCH = 1
+# How long a job takes.
 WORK = 0.01
 
 
@@ -34,8 +37,9 @@ def token_of(ring, store, me):
 
 
 def lead(store, token, me):
-    """Does one job after another, until the store refuses one."""
-    while True:
+    """Does one job after another, for a while or until the store refuses one."""
+    latest = time.monotonic() + STRETCH
+    while time.monotonic() < latest:
         _, job = store.ask("take", *token, me)
         time.sleep(WORK)  # (here the job is done; another leader may begin meanwhile)
         store.ask("did", *token, me, job)
@@ -51,7 +55,7 @@ def say_alive():
 
 
 def main():
-    me, ring, store = int(sys.argv[1]), Lines(int(sys.argv[2])), Lines(int(sys.argv[3]))
+    me, ring, store = os.getpid(), Lines(int(sys.argv[1])), Lines(int(sys.argv[2]))
     while True:
         say_alive()
         try:
