@@ -36,7 +36,7 @@ PATIENCE = 3
 
 class Worker:
     """A worker's process, and when it was last heard of. As a member it has the number of its process, which
-    no other process has while it lives: so none can be taken for one that went before."""
+    no other process has while it lives: two with one number would show one token."""
 
     def __init__(self, ports):
         words = [sys.executable, "-B", WORKER, *ports]
