@@ -1,0 +1,114 @@
+"""The store: what the leaders write to. It keeps the fence.
+
+It takes no part in the election and asks nobody who leads. It keeps one token, the newest that it ever
+accepted, and refuses every older one. All that it accepts stands in its journal, from which a store that
+is started again learns where it was.
+
+    take EPOCH TERM WORKER        ->  job J       the job to do next; raises the fence
+    did EPOCH TERM WORKER JOB     ->  ok          the job is done; raises the fence
+    epoch                         ->  epoch E     the epoch that was begun last
+    begin                         ->  epoch E     begins an epoch, with a number that none had before
+
+A `take` or `did` with a token older than the fence is answered `no late`, and changes nothing.
+"""
+
+import os
+import socketserver
+import threading
+
+import journal
+from journal import Entry, Token
+
+
+class Store:
+    """The fence, the jobs and the journal. Each call is one step: a lock is held for it."""
+
+    def __init__(self, path, is_fenced=True):
+        self.lock = threading.Lock()
+        self.is_fenced = is_fenced
+        self.epoch = 0
+        self.job = 1
+        self.last = Entry("take", Token(0, 0))
+        for entry in journal.read(path) if os.path.exists(path) else []:
+            self.count(entry)
+        self.file = open(path, "a", encoding="ascii")
+
+    def count(self, entry):
+        """What an entry changes."""
+        if entry.kind == "epoch":
+            self.epoch = entry.token.epoch
+        if entry.kind in ("take", "did") and entry.token >= self.last.token:
+            self.last = entry  # (its token is the fence)
+        if entry.kind == "did":
+            self.job = entry.job + 1
+
+    def write(self, entry):
+        """Puts an entry into the journal before anybody is told of it."""
+        self.file.write(entry.line())
+        self.file.flush()
+        os.fsync(self.file.fileno())
+        self.count(entry)
+
+    def begin_epoch(self):
+        """A number that no epoch had before."""
+        with self.lock:
+            self.write(Entry("epoch", Token(self.epoch + 1, 0)))
+            return self.epoch
+
+    def take(self, token, worker):
+        """The job to do next, or None for a late leader. A leader takes before it works, so that from then
+        on its predecessor is late."""
+        with self.lock:
+            return self.job if self.accepts(Entry("take", token, worker, self.job)) else None
+
+    def did(self, token, worker, job):
+        """Whether it was written that the job is done."""
+        with self.lock:
+            return self.accepts(Entry("did", token, worker, job))
+
+    def accepts(self, entry):
+        """Writes an entry, if it is not late. Here is the fence."""
+        is_late = self.is_fenced and entry.token < self.last.token
+        self.write(entry._replace(kind="late") if is_late else entry)
+        return not is_late
+
+    def answer(self, line):
+        """The answer to a line."""
+        word, *numbers = line.split() or [""]
+        if not all(number.isdecimal() for number in numbers):
+            return "no bad-line"
+        numbers = [int(number) for number in numbers]
+        if word == "epoch" and not numbers:
+            return f"epoch {self.epoch}"
+        if word == "begin" and not numbers:
+            return f"epoch {self.begin_epoch()}"
+        if word == "take" and len(numbers) == 3:
+            job = self.take(Token(*numbers[:2]), numbers[2])
+            return "no late" if job is None else f"job {job}"
+        if word == "did" and len(numbers) == 4:
+            return "ok" if self.did(Token(*numbers[:2]), *numbers[2:]) else "no late"
+        return "no bad-line"
+
+
+class Session(socketserver.StreamRequestHandler):
+    """One connection: each line gets one answer."""
+
+    def handle(self):
+        try:
+            for line in self.rfile:
+                answer = self.server.store.answer(line.decode("ascii", "replace"))
+                self.wfile.write(answer.encode() + b"\n")
+        except OSError:
+            pass  # (a worker that was killed)
+
+
+class Server(socketserver.ThreadingTCPServer):
+    """The store on a free port of this machine, in a thread of its own."""
+
+    daemon_threads = True
+
+    def __init__(self, store):
+        super().__init__(("127.0.0.1", 0), Session)
+        self.store = store
+        self.port = self.server_address[1]
+        threading.Thread(target=self.serve_forever, daemon=True).start()
