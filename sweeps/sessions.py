@@ -5,6 +5,7 @@ is refused memory before its first line ends without a reply, and its client com
 members undecided; but whoever is named a leader is named the one of the ring, and the list of terms names it too.
 """
 
+import contextlib
 import re
 import time
 
@@ -15,6 +16,7 @@ from sweep import Bad, NO_MEMORY
 LEADERS = {b"lelann": 3, b"chang": 3, b"hirschberg": 3, b"peterson": 1}
 # How often a client may come, in all.
 CONNECTIONS = 6
+RUN_SESSIONS = 3
 # What the program may say before it listens, and behind it.
 BEFORE = (NO_MEMORY, b"ringd: thread failed\n")
 BEHIND = (b"ringd: thread failed\n",)
@@ -126,13 +128,19 @@ class Guests:
             return client
         return None
 
+    def leave(self):
+        """The connections that are left come and go, as far as the program takes them."""
+        with contextlib.suppress(Lost):
+            for _ in range(self.left):
+                Client(self.server.port).leave()
 
-def elect(server, kind, most):
-    """Both clients' sessions, as far as the program takes them; the number of connections that are left."""
-    guests, election = Guests(server, most), Election(server, kind)
+
+def elect(server, kind, guests):
+    """Both clients' sessions, as far as the program takes them; whether it took both."""
+    election = Election(server, kind)
     first = guests.come(b"")
     if first is None:
-        return guests.left
+        return False
     election.first(first)
     second = guests.come(b"")
     if second is not None:
@@ -142,11 +150,11 @@ def elect(server, kind, most):
     else:
         election.terms(first, 1)
     first.leave()
-    return guests.left
+    return second is not None
 
 
 def expect_end(server, has_begun):
-    """The program has ended as it has to."""
+    """The program ends by itself as it has to."""
     status, out, error = server.ends()
     listening = server.listening()
     if not has_begun:
@@ -166,11 +174,26 @@ def refuse(library, program, kind, growth, **wrong):
     what = f"serve, {kind.decode()}, growth {growth}{wrong or ''}"
     with serving(library, program, words, what, growth=growth, **wrong) as server:
         has_begun = server.listens()
-        left = elect(server, kind, CONNECTIONS) if has_begun else 0
-        for _ in range(left):
-            try:
-                Client(server.port).leave()
-            except Lost:
-                break
+        if has_begun:
+            guests = Guests(server, CONNECTIONS)
+            elect(server, kind, guests)
+            guests.leave()
         expect_end(server, has_begun)
+        return True if server.told() else None
+
+
+def refuse_in_run(library, program, kind, growth):
+    """The same of `run`, which is ended from outside where it took both clients."""
+    words = ["run", "--sessions", str(RUN_SESSIONS)]
+    with serving(library, program, words, f"run, {kind.decode()}, growth {growth}", growth=growth) as server:
+        has_begun = server.listens()
+        if not (has_begun and elect(server, kind, Guests(server, CONNECTIONS))):
+            status, out, error = server.ends()
+            listening = server.listening() if has_begun else b""
+            if status != 1 or out != listening or error not in BEFORE or not server.told():
+                raise Bad(f"status {status}, {out!r}, {error!r}")
+            return True
+        was_there, out, error = server.is_ended_by_us()
+        if not was_there or out != server.listening() or error:
+            raise Bad(f"it ended, or said {out!r}, {error!r}")
         return True if server.told() else None
