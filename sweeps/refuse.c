@@ -6,7 +6,8 @@
  *     SWEEP_WRITE=N       the Nth write goes wrong, as SWEEP_HOW says
  *     SWEEP_ACCEPT=N      the Nth accept fails, as for want of descriptors, or is interrupted
  *     SWEEP_SPAWN=N       the Nth thread can't be made
- *     SWEEP_HOW=WORD      fail (the default), interrupt, or byte: the call moves one byte
+ *     SWEEP_HOW=WORD      fail (the default), interrupt, byte: the call moves one byte, or count: it goes well, and
+ *                         is only told
  *     SWEEP_TIMES=K       so many calls go wrong, from the Nth on (1 where it isn't given)
  *     SWEEP_SEED=S        the Nth growth and, by chance, one in SWEEP_CHANCE of those behind it are refused; equal
  *                         seeds refuse the same growths
@@ -26,7 +27,7 @@
 #include <sys/syscall.h>
 #include <unistd.h>
 
-enum how { FAIL, INTERRUPT, BYTE };
+enum how { FAIL, INTERRUPT, BYTE, COUNT };
 
 /* One sort of call: how many were made, and which of them goes wrong (0: none). */
 struct sort {
@@ -53,6 +54,7 @@ __attribute__((constructor)) static void begin(void) {
     const char *word = getenv("SWEEP_HOW");
     if (word && !strcmp(word, "interrupt")) how = INTERRUPT;
     if (word && !strcmp(word, "byte")) how = BYTE;
+    if (word && !strcmp(word, "count")) how = COUNT;
     by_bytes = number("SWEEP_BYTES") == 1;
     if (number("SWEEP_TIMES")) times = number("SWEEP_TIMES");
     if (number("SWEEP_CHANCE")) chance = number("SWEEP_CHANCE");
@@ -80,7 +82,7 @@ static int goes_wrong(struct sort *sort) {
     long behind = atomic_fetch_add(&sort->made, 1) + 1 - sort->chosen;
     if (behind < 0 || (behind >= times && !(seed && is_picked(behind)))) return 0;
     if (tell >= 0) syscall(SYS_write, tell, "!", 1);
-    return 1;
+    return how != COUNT;
 }
 
 void *malloc(size_t size) {

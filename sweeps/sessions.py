@@ -1,8 +1,9 @@
-"""Growth refused in turn in the program as a server: its sessions are answered as they would be, and workers may starve.
+"""Growth refused in turn in the program as a server: sessions are answered as they would be, though workers may starve.
 
 Two clients ask beside each other, line by line. A line that is answered `no no-memory` is sent again. A session that
 is refused memory before its first line ends without a reply, and its client comes again. A worker that starves leaves
 members undecided; but whoever is named a leader is named the one of the ring, and the list of terms names it too.
+Where many growths are refused in a run, chance picks them by a seed.
 """
 
 import contextlib

@@ -1,7 +1,7 @@
 """Calls on sockets, and threads, that go wrong in turn in the program as a server.
 
-Three clients come to `serve`: one asks line by line, one sends all its lines at once beside it, and one comes last. Each
-works in a group of its own, so the replies of each are the same whatever befalls the others.
+Three clients come to `serve`: one asks line by line, one sends all its lines at once beside it, and one comes last.
+Each works in a group of its own, so the replies of each are the same whatever befalls the others.
 """
 
 import time
@@ -105,7 +105,8 @@ def fails(library, program, call, number, by_bytes):
         status, out, error = server.ends()
         well = (status, out, error) == (0, listening + closed, b"")
         if call == "write" and early == 0 and status == 1:
-            well = (listening + closed).startswith(out) and out != listening + closed and error == b"ringd: write failed\n"
+            is_front = (listening + closed).startswith(out) and out != listening + closed
+            well = is_front and error == b"ringd: write failed\n"
         if not well or early > (1 if server.told() else 0):
             raise Bad(f"{early} sessions ended early, status {status}, {out!r}, {error!r}")
         return bool(server.told())
@@ -197,8 +198,8 @@ def goes_on(library, program, number, times):
 
 
 def run_lacks_thread(library, program, number, workers):
-    """One run of `run` in which that thread can't be made: it ends with the fault, before it listens where the thread is
-    a worker's, and serves nobody; whether such a call was made."""
+    """One run of `run` in which that thread can't be made: it ends with the fault, before it listens where the thread
+    is a worker's, and serves nobody; whether such a call was made."""
     words = ["run", "--sessions", str(RUN_SESSIONS)]
     what = f"run with {workers} workers, spawn {number} fails"
     with serving(library, program, words, what, workers=workers, spawn=number) as server:
