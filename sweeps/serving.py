@@ -4,6 +4,7 @@ import contextlib
 import itertools
 import os
 import pathlib
+import random
 import select
 import signal
 import socket
@@ -16,14 +17,17 @@ from sweep import Bad
 
 HOST = "127.0.0.1"
 PATIENCE = 20
+# How often a program is started anew because somebody else took its port.
+TRIES = 5
 # Below the ports that the system gives to clients, so that no client of another run is in the way.
-PORTS = itertools.cycle(range(11000, 32000))
+LOWEST, HIGHEST = 11000, 32000
+PORTS = itertools.cycle(random.sample(range(LOWEST, HIGHEST), HIGHEST - LOWEST))
 PORTS_LOCK = threading.Lock()
 
 
 def free_port():
     """A port that nobody listens on."""
-    for _ in range(21000):
+    for _ in range(HIGHEST - LOWEST):
         with PORTS_LOCK:
             port = next(PORTS)
         with contextlib.suppress(OSError), socket.socket() as probe:
@@ -94,20 +98,25 @@ class Server:
     """A run of the program that serves clients, where the calls go wrong that the names say."""
 
     def __init__(self, library, program, words, workers=2, inbox=64, **wrong):
-        self.port = free_port()
+        self.program, self.words, self.workers, self.inbox = program, words, workers, inbox
+        settings = {f"SWEEP_{name.upper()}": str(value) for name, value in wrong.items()}
+        self.environment = {**os.environ, "LD_PRELOAD": str(library), **settings}
+        self.folder = tempfile.TemporaryDirectory()
+        self.start()
+
+    def start(self):
+        """Starts the program on a free port."""
+        self.port, self.out, self.error, self.refusals = free_port(), b"", b"", 0
         self.ours, theirs = os.pipe()
         os.set_blocking(self.ours, False)
-        self.refusals = 0
-        self.folder = tempfile.TemporaryDirectory()
         file = pathlib.Path(self.folder.name) / "ring.toml"
-        file.write_text(f"workers = {workers}\ninbox = {inbox}\nport = {self.port}\n", encoding="utf-8")
-        settings = {f"SWEEP_{name.upper()}": str(value) for name, value in wrong.items()}
-        environment = {**os.environ, "LD_PRELOAD": str(library), "SWEEP_TELL": str(theirs), **settings}
-        self.run = subprocess.Popen([program, words[0], file, *words[1:]], stdin=subprocess.DEVNULL,
-                                    stdout=subprocess.PIPE, stderr=subprocess.PIPE, env=environment,
-                                    pass_fds=[theirs])
+        text = f"workers = {self.workers}\ninbox = {self.inbox}\nport = {self.port}\n"
+        file.write_text(text, encoding="utf-8")
+        words = [self.program, self.words[0], file, *self.words[1:]]
+        self.run = subprocess.Popen(words, stdin=subprocess.DEVNULL, stdout=subprocess.PIPE,
+                                    stderr=subprocess.PIPE, pass_fds=[theirs],
+                                    env={**self.environment, "SWEEP_TELL": str(theirs)})
         os.close(theirs)
-        self.out = b""
 
     def told(self):
         """How often a call went wrong so far."""
@@ -117,7 +126,20 @@ class Server:
         return self.refusals
 
     def listens(self):
-        """Whether the program came to say that it listens; where it didn't, it ends."""
+        """Whether the program came to say that it listens; where it didn't, it ends. It is started anew where
+        somebody else took its port."""
+        for _ in range(TRIES):
+            if self.says_so():
+                return True
+            self.error = self.run.stderr.read()
+            if self.error != b"ringd: listen failed\n":
+                return False
+            self.stop()
+            self.start()
+        raise Bad("each port is taken")
+
+    def says_so(self):
+        """Whether a line comes on standard output before its end."""
         until = time.monotonic() + PATIENCE
         while b"\n" not in self.out:
             ready, _, _ = select.select([self.run.stdout], [], [], max(until - time.monotonic(), 0))
@@ -139,8 +161,8 @@ class Server:
             out, error = self.run.communicate(timeout=PATIENCE)
         except subprocess.TimeoutExpired:
             raise Bad("the program doesn't end") from None
-        self.out += out
-        return self.run.returncode, self.out, error
+        self.out, self.error = self.out + out, self.error + error
+        return self.run.returncode, self.out, self.error
 
     def is_ended_by_us(self):
         """Ends it from outside; what it said, and whether it was still there."""
@@ -149,21 +171,24 @@ class Server:
         status, out, error = self.ends()
         return was_there and status == -signal.SIGTERM, out, error
 
-    def close(self):
-        """Ends it, whatever comes of it, and lets all go."""
+    def stop(self):
+        """Ends it, whatever comes of it."""
         if self.run.poll() is None:
             self.run.kill()
         self.run.wait()
         self.run.stdout.close()
         self.run.stderr.close()
         os.close(self.ours)
+
+    def close(self):
+        """Ends it, and lets all go."""
+        self.stop()
         self.folder.cleanup()
 
 
 @contextlib.contextmanager
 def serving(library, program, words, what, **given):
-    """A run of the program; what is bad in it is told with these words. Where another took the port in between,
-    it begins anew with another port."""
+    """A run of the program; what is bad in it is told with these words."""
     server = Server(library, program, words, **given)
     try:
         yield server
