@@ -54,10 +54,11 @@ def is_left_out(library, program, name):
 
 
 def numbers(is_full):
-    """Which growths are refused: all, or the first forty and then each a fifth further than the last."""
+    """Which growths are refused: the first forty, and then each a fifth further than the last; or ten times as many."""
+    each, part = (400, 50) if is_full else (40, 5)
     number = 0
     while True:
-        number += 1 if is_full or number < 40 else number // 5
+        number += 1 if number < each else number // part
         yield number
 
 
