@@ -168,6 +168,15 @@ def expect_end(server, has_begun):
         raise Bad(f"status {status}, {out!r}, {error!r}")
 
 
+def growths_before(library, program):
+    """How many growths the program makes before it listens."""
+    words = ["serve", "--connections", str(CONNECTIONS)]
+    with serving(library, program, words, "serve", growth=1, times=1 << 30, how="count") as server:
+        if not server.listens():
+            raise Bad("it doesn't listen")
+        return server.told()
+
+
 def refuse(library, program, kind, growth, **wrong):
     """One run of `serve` in which this growth is refused, and maybe others behind it: whether it was told, or `None`
     where no such growth is made."""
