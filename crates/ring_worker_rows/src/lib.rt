@@ -8,4 +8,6 @@ mod one_worker;
 #[cfg(test)]
 mod rings;
 #[cfg(test)]
+mod starved_worker;
+#[cfg(test)]
 mod two_workers;

@@ -1,0 +1,104 @@
+"""Growth refused in turn in the crates' test programs.
+
+A test that is refused memory may pass, may end by an error, or may stop at an assertion of its own that takes memory
+for granted; it never ends by a fault of its memory, and never hangs. Tests that ask once more where they are refused
+memory have to pass whichever growth is refused. Tests that start threads are left out, but for some: where one side
+of such a test is refused memory, the other may wait for it for ever.
+"""
+
+import os
+import re
+import subprocess
+import tempfile
+
+from sweep import Bad, ROOT
+
+# Tests that ask once more, by crate and by the beginnings of their names: for each growth they have to pass.
+ASK_AGAIN = {
+    "ring_grammar_tests": ("",),
+    "ring_lines_tests": ("",),
+    "ring_service_tests": (
+        "front::tests::a_session_counts_its_lines",
+        "front::tests::a_session_tells_which_end_failed"),
+    "ring_worker_rows_tests": ("starved_worker::",),
+}
+# Tests that start threads, and end whichever growth is refused.
+THREADED = {
+    "ring_service_tests": ASK_AGAIN["ring_service_tests"],
+    "ringd_tests": ("listening::tests::a_failed_", "running::tests::a_run_says_that_it_listens"),
+}
+# What the test program says where a test ends by an error, and where it stops at an assertion.
+ENDED, STOPPED = b"the test failed: its result gives status 1\n", b"\ntest stopped at "
+SECONDS = 30
+
+
+def programs():
+    """The test programs that the gate built."""
+    return sorted((ROOT / "crates").glob("*/out/*_tests"))
+
+
+def tests_of(program):
+    """The names of a program's tests."""
+    listed = subprocess.run([program, "--list"], capture_output=True, check=True, timeout=SECONDS)
+    return re.findall(r"^(\S+): test$", listed.stdout.decode(), re.M)
+
+
+def is_among(program, name, listed):
+    """Whether a test is among those of this list."""
+    return name.startswith(listed.get(program.name, ()))
+
+
+def is_left_out(library, program, name):
+    """Whether a test starts threads, and is none of those that are known to end."""
+    return not is_among(program, name, THREADED) and run(library, program, name, spawn=1, how="count")[1]
+
+
+def numbers(is_full):
+    """Which growths are refused: the first forty, and then each a fifth further than the last; or ten times as many."""
+    each, part = (400, 50) if is_full else (40, 5)
+    number = 0
+    while True:
+        number += 1 if number < each else number // part
+        yield number
+
+
+def run(library, program, name, **wrong):
+    """Runs a test in which the calls go wrong that the words say: how it ended, and whether one did."""
+    ours, theirs = os.pipe()
+    os.set_blocking(ours, False)
+    settings = {f"SWEEP_{word.upper()}": str(value) for word, value in wrong.items()}
+    environment = {**os.environ, "LD_PRELOAD": str(library), "SWEEP_TELL": str(theirs), **settings}
+    try:
+        with tempfile.TemporaryDirectory() as folder:
+            ran = subprocess.run([program, name], cwd=folder, stdin=subprocess.DEVNULL, capture_output=True,
+                                 env=environment, pass_fds=[theirs], timeout=SECONDS)
+        return ran, bool(os.read(ours, 1))
+    except BlockingIOError:
+        return ran, False
+    except subprocess.TimeoutExpired:
+        raise Bad(f"{program.name} {name}, {wrong}: it doesn't end") from None
+    finally:
+        os.close(ours)
+        os.close(theirs)
+
+
+def refuse(library, program, name, growth):
+    """One run of a test in which this growth is refused: how it ended, or `None` where no such growth is made."""
+    ran, told = run(library, program, name, growth=growth)
+    ended = how(ran)
+    if ended is None or (ended != "passed" and (not told or is_among(program, name, ASK_AGAIN))):
+        raise Bad(f"{program.name} {name}, growth {growth}: status {ran.returncode}, {ran.stdout[-200:]!r}, "
+                  f"{ran.stderr[-200:]!r}")
+    return ended if told else None
+
+
+def how(ran):
+    """How a test ended: it passed, or it stopped by an error or an assertion of its own; `None` where it ended in
+    another way."""
+    if ran.returncode == 0:
+        return "passed"
+    if ran.returncode == 101 and ran.stderr.endswith(ENDED):
+        return "stopped"
+    if ran.returncode == -6 and ran.stdout.startswith(STOPPED):
+        return "stopped"
+    return None

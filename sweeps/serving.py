@@ -1,0 +1,200 @@
+"""The program as a server under the library that stands before the C library, and its clients."""
+
+import contextlib
+import itertools
+import os
+import pathlib
+import random
+import select
+import signal
+import socket
+import subprocess
+import tempfile
+import threading
+import time
+
+from sweep import Bad
+
+HOST = "127.0.0.1"
+PATIENCE = 20
+# How often a program is started anew because somebody else took its port.
+TRIES = 5
+# Below the ports that the system gives to clients, so that no client of another run is in the way.
+LOWEST, HIGHEST = 11000, 32000
+PORTS = itertools.cycle(random.sample(range(LOWEST, HIGHEST), HIGHEST - LOWEST))
+PORTS_LOCK = threading.Lock()
+
+
+def free_port():
+    """A port that nobody listens on."""
+    for _ in range(HIGHEST - LOWEST):
+        with PORTS_LOCK:
+            port = next(PORTS)
+        with contextlib.suppress(OSError), socket.socket() as probe:
+            probe.setsockopt(socket.SOL_SOCKET, socket.SO_REUSEADDR, 1)
+            probe.bind((HOST, port))
+            return port
+    raise Bad("there is no free port")
+
+
+class Lost(Exception):
+    """The connection ended before a reply came whole."""
+
+
+class Client:
+    """A client of the program; what it is told is kept."""
+
+    def __init__(self, port):
+        self.socket = socket.socket()
+        self.socket.settimeout(PATIENCE)
+        self.told, self.taken = b"", 0
+        try:
+            self.socket.connect((HOST, port))
+        except ConnectionError:
+            self.socket.close()
+            raise Lost from None
+
+    def ask(self, line):
+        """Sends a line, and waits for its reply, without its LF."""
+        with contextlib.suppress(ConnectionError):
+            self.socket.sendall(line + b"\n")
+        return self.reply()
+
+    def reply(self):
+        """The next reply."""
+        while b"\n" not in self.told[self.taken :]:
+            if not self.more():
+                raise Lost
+        line = self.told[self.taken : self.told.index(b"\n", self.taken)]
+        self.taken += len(line) + 1
+        return line
+
+    def send(self, text):
+        """Sends a text and ends the sending."""
+        with contextlib.suppress(OSError):
+            self.socket.sendall(text)
+            self.socket.shutdown(socket.SHUT_WR)
+
+    def more(self):
+        """Whether more came before the end of the connection."""
+        try:
+            part = self.socket.recv(65536)
+        except ConnectionError:
+            return False
+        except TimeoutError:
+            raise Bad(f"no reply came in {PATIENCE} s behind {self.told[-60:]!r}") from None
+        self.told += part
+        return bool(part)
+
+    def leave(self):
+        """Ends the sending, and takes what comes to the end of the connection."""
+        self.send(b"")
+        while self.more():
+            pass
+        self.socket.close()
+
+
+class Server:
+    """A run of the program that serves clients, where the calls go wrong that the names say."""
+
+    def __init__(self, library, program, words, workers=2, inbox=64, **wrong):
+        self.program, self.words, self.workers, self.inbox = program, words, workers, inbox
+        settings = {f"SWEEP_{name.upper()}": str(value) for name, value in wrong.items()}
+        self.environment = {**os.environ, "LD_PRELOAD": str(library), **settings}
+        self.folder = tempfile.TemporaryDirectory()
+        self.start()
+
+    def start(self):
+        """Starts the program on a free port."""
+        self.port, self.out, self.error, self.refusals = free_port(), b"", b"", 0
+        self.ours, theirs = os.pipe()
+        os.set_blocking(self.ours, False)
+        file = pathlib.Path(self.folder.name) / "ring.toml"
+        text = f"workers = {self.workers}\ninbox = {self.inbox}\nport = {self.port}\n"
+        file.write_text(text, encoding="utf-8")
+        words = [self.program, self.words[0], file, *self.words[1:]]
+        self.run = subprocess.Popen(words, stdin=subprocess.DEVNULL, stdout=subprocess.PIPE,
+                                    stderr=subprocess.PIPE, pass_fds=[theirs],
+                                    env={**self.environment, "SWEEP_TELL": str(theirs)})
+        os.close(theirs)
+
+    def told(self):
+        """How often a call went wrong so far."""
+        with contextlib.suppress(BlockingIOError):
+            while part := os.read(self.ours, 65536):
+                self.refusals += len(part)
+        return self.refusals
+
+    def listens(self):
+        """Whether the program came to say that it listens; where it didn't, it ends. It is started anew where
+        somebody else took its port."""
+        for _ in range(TRIES):
+            if self.says_so():
+                return True
+            self.error = self.run.stderr.read()
+            if self.error != b"ringd: listen failed\n":
+                return False
+            self.stop()
+            self.start()
+        raise Bad("each port is taken")
+
+    def says_so(self):
+        """Whether a line comes on standard output before its end."""
+        until = time.monotonic() + PATIENCE
+        while b"\n" not in self.out:
+            ready, _, _ = select.select([self.run.stdout], [], [], max(until - time.monotonic(), 0))
+            if not ready:
+                raise Bad("the program neither listens nor ends")
+            part = os.read(self.run.stdout.fileno(), 65536)
+            if not part:
+                return False
+            self.out += part
+        return True
+
+    def listening(self):
+        """The line by which it says so."""
+        return b"listening 127.0.0.1:%d\n" % self.port
+
+    def ends(self):
+        """Its status, standard output and standard error, once it has ended by itself."""
+        try:
+            out, error = self.run.communicate(timeout=PATIENCE)
+        except subprocess.TimeoutExpired:
+            raise Bad("the program doesn't end") from None
+        self.out, self.error = self.out + out, self.error + error
+        return self.run.returncode, self.out, self.error
+
+    def is_ended_by_us(self):
+        """Ends it from outside; what it said, and whether it was still there."""
+        was_there = self.run.poll() is None
+        self.run.send_signal(signal.SIGTERM)
+        status, out, error = self.ends()
+        return was_there and status == -signal.SIGTERM, out, error
+
+    def stop(self):
+        """Ends it, whatever comes of it."""
+        if self.run.poll() is None:
+            self.run.kill()
+        self.run.wait()
+        self.run.stdout.close()
+        self.run.stderr.close()
+        os.close(self.ours)
+
+    def close(self):
+        """Ends it, and lets all go."""
+        self.stop()
+        self.folder.cleanup()
+
+
+@contextlib.contextmanager
+def serving(library, program, words, what, **given):
+    """A run of the program; what is bad in it is told with these words."""
+    server = Server(library, program, words, **given)
+    try:
+        yield server
+    except Bad as bad:
+        raise Bad(f"{what}: {bad}") from None
+    except Lost:
+        raise Bad(f"{what}: a connection ended too early") from None
+    finally:
+        server.close()
