@@ -5,5 +5,5 @@ use Rattle.ring_service.proofs.table.Table.call.Goals as goal
 pub invariant_of-self-2 : goal.invariant_of-self-2
 invariant_of-self-2 g c =
     let performs = c.in-Ok-perform.ensures in
-    rw (c.push_reserved.ensures.items, c.in-Ok.ensures.items)
+    rw (c.push_reserved.ensures, c.in-Ok.ensures.items)
     (follows_more _ _ _ _ _ _ _ c.self.invariant (rw performs.twice.0 (record { step = performs.step; granted = performs.twice.2 })))

@@ -4,5 +4,5 @@ use Rattle.ring_service.proofs.table.Table.report.Goals as goal
 
 pub invariant_of-self-2 : goal.invariant_of-self-2
 invariant_of-self-2 g c =
-    rw (c.push_reserved.ensures.items, c.in-Ok.ensures.items, c.group.ensures, c.deref.ensures, c.charter.ensures, c.term.ensures, c.deref-2.ensures, c.charter-2.ensures, c.member.ensures.value, c.leader.ensures.value)
+    rw (c.push_reserved.ensures, c.in-Ok.ensures.items, c.group.ensures, c.deref.ensures, c.charter.ensures, c.term.ensures, c.deref-2.ensures, c.charter-2.ensures, c.member.ensures.value, c.leader.ensures.value)
     (follows_more _ _ _ _ _ _ _ c.self.invariant (filing_of _ _ _ _ _ c.note-noting.ensures))
