@@ -1,6 +1,6 @@
 use super::History;
 use crate::entry::Entry;
-use ring_id::{GroupName, NodeId, NoMemory, TermNo};
+use ring_id::{GroupName, NoMemory, NodeId, TermNo};
 use ring_terms::Noting;
 use std::alloc::Global;
 use std::test::Fail;
