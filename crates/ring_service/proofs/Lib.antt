@@ -1,6 +1,8 @@
 pub mod Chartering
+pub mod Chunking
 pub mod Finishing
 pub mod Following
+pub mod Iterating
 pub mod Outcomes
 pub mod Replying
 pub mod Showing

@@ -1,4 +1,5 @@
 pub mod Accesses
+pub mod Chunks
 pub mod Finishing
 pub mod Histories
 pub mod Locks

@@ -10,9 +10,11 @@
 #![tactic(auto)]
 
 mod access;
+mod chunks;
 mod crew;
 mod entry;
 mod front;
+mod history;
 mod locked;
 mod mesh;
 mod posts;
@@ -24,6 +26,7 @@ mod twice;
 pub use access::{Access, Answer};
 pub use entry::{Entry, is_refused};
 pub use front::Front;
+pub use history::{Entries, History};
 pub use locked::{LockedSeat, LockedTable};
 pub use posts::Waiting;
 pub use ring_workers::Filed;

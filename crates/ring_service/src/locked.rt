@@ -132,9 +132,11 @@ fn keep_last<E: RingElection>(own: &mut Vec<Snapshot<Entry<E>>>, table: &Table<E
         map (λ own. own.value) own.new.items ≡ map (λ own. own.value) own.old.items ++ entry ∷ [] }
 {
     let history = table.history();
-    let place = history.len();
-    own.push_reserved(Snapshot::of(&history[place - 1]));
-    place
+    let Some(entry) = history.last() else {
+        unreachable!()
+    };
+    own.push_reserved(Snapshot::of(entry));
+    history.len()
 }
 
 impl<E: RingElection> Access<E> for LockedTable<E> {

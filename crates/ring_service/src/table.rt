@@ -11,6 +11,7 @@ ghost use Rattle.ring_service.specs.Histories.{IsLegal, starved};
 ghost use Rattle.ring_service.specs.Tables.{Calls, Files, GivesCharters};
 
 use crate::entry::{Entry, filed_from, is_refused};
+use crate::history::History;
 use crate::twice::perform;
 use ring_election::RingElection;
 use ring_id::{GroupName, NoMemory, Refusal};
@@ -31,7 +32,7 @@ use std::sync::Arc;
 pub struct Table<E: RingElection> {
     alloc: Global,
     book: Book<E>,
-    entries: Vec<Entry<E>>,
+    history: History<E>,
 }
 
 impl<E: RingElection> Model for Table<E> {
@@ -41,9 +42,9 @@ impl<E: RingElection> Model for Table<E> {
 
     ghost use Rattle.ring_service.specs.Histories.{IsLegal};
 
-    ghost view = { λ a. record { book = a.book; history = a.entries.items } };
+    ghost view = { λ a. record { book = a.book; history = a.history } };
 
-    ghost invariant = { λ a. IsLegal E.is_two_way E.is_greatest a.entries.items a.book };
+    ghost invariant = { λ a. IsLegal E.is_two_way E.is_greatest a.history a.book };
 }
 
 impl<E: RingElection> Table<E> {
@@ -54,7 +55,7 @@ impl<E: RingElection> Table<E> {
         Table {
             alloc,
             book: Book::new(alloc),
-            entries: Vec::new(alloc),
+            history: History::new(alloc),
         }
     }
 
@@ -67,11 +68,11 @@ impl<E: RingElection> Table<E> {
 
     /// All calls and filings so far, in order. Takes no memory. Its second clause is what every table
     /// keeps.
-    pub fn history(&self) -> &[Entry<E>]
+    pub fn history(&self) -> &History<E>
         ensures value { result.now ≡ self.now.history }
         ensures legal { IsLegal E.is_two_way E.is_greatest self.now.history self.now.book }
     {
-        &self.entries
+        &self.history
     }
 
     /// A command of a session: one step of the election object, and one entry with its reply.
@@ -82,13 +83,13 @@ impl<E: RingElection> Table<E> {
     pub fn call(&mut self, session: u32, command: Command<E>) -> Reply
         ensures { Calls E.is_two_way E.is_greatest session command self.old result self.new }
     {
-        let Ok(()) = self.entries.reserve(1) else {
+        let Ok(()) = self.history.entries.reserve() else {
             return Reply::Refused(Refusal::NoMemory);
         };
         let Ok(answer) = perform(&mut self.book, self.alloc, command) else {
             return Reply::Refused(Refusal::NoMemory);
         };
-        self.entries.push_reserved(Entry::Call {
+        self.history.entries.push_reserved(Entry::Call {
             session,
             command,
             reply: answer.kept,
@@ -140,11 +141,11 @@ impl<E: RingElection> Table<E> {
     pub fn report(&mut self, report: &Report<E>) -> Filed
         ensures { Files E.is_greatest report.now self.old result self.new }
     {
-        let Ok(()) = self.entries.reserve(1) else {
+        let Ok(()) = self.history.entries.reserve() else {
             return Filed::Refused(Refusal::NoMemory);
         };
         let noting = self.book.note(report);
-        self.entries.push_reserved(Entry::Filing {
+        self.history.entries.push_reserved(Entry::Filing {
             group: report.charter().group(),
             term: report.charter().term(),
             member: report.member(),
