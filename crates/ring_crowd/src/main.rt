@@ -2,7 +2,7 @@
 //!
 //! Standard input has scripts of lines, which an empty line parts. All but the last are sessions, numbered
 //! from 1. They run at once, each in a thread of its own, over one service with four workers. Then the last
-//! script is answered again and again, as one more session, until no reply in it is `undecided`.
+//! script is answered again and again, as a session with the number 0, until no reply in it is `undecided`.
 //!
 //! When the service is closed, standard output gets the history, one entry a line, and then the replies of
 //! each session, each after an empty line. The program ends with status 1 where any of this fails.
