@@ -21,6 +21,8 @@ mod posts;
 mod service;
 mod session;
 mod table;
+#[cfg(test)]
+mod trial;
 mod twice;
 
 pub use access::{Access, Answer};

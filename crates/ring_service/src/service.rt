@@ -186,3 +186,6 @@ where
     }
     Ok(())
 }
+
+#[cfg(test)]
+mod tests;

@@ -1,0 +1,75 @@
+//! The lines of a history.
+use anyhow::{Result, anyhow};
+use ring_any::Any;
+use ring_grammar::print_reply;
+use ring_id::GroupName;
+use ring_mux::Command;
+use ring_service::Entry;
+use ring_terms::Noting;
+use std::alloc::Global;
+use std::fmt::Write;
+use std::str;
+
+/// The line of an entry: `SESSION COMMAND => REPLY`, or `filed GROUP TERM MEMBER LEADER` and what became
+/// of the report.
+pub fn tell(alloc: Global, entry: &Entry<Any>) -> Result<Vec<u8>> {
+    let mut text = String::new(alloc);
+    match entry {
+        Entry::Call {
+            session,
+            command,
+            reply,
+        } => {
+            write!(text, "{session} ")?;
+            write_command(&mut text, command)?;
+            text.push_str(" => ")?;
+            let mut line = text.into_bytes();
+            print_reply(reply, &mut line).map_err(|_| anyhow!("a reply is not written"))?;
+            Ok(line)
+        }
+        Entry::Filing {
+            group,
+            term,
+            member,
+            leader,
+            noting,
+        } => {
+            let (group, term, member) = (name(group)?, term.get(), member.get());
+            let (leader, became) = (leader.get(), word(*noting));
+            writeln!(text, "filed {group} {term} {member} {leader} {became}")?;
+            Ok(text.into_bytes())
+        }
+    }
+}
+
+// A group's name as text.
+fn name(group: &GroupName) -> Result<&str> {
+    Ok(str::from_utf8(group.bytes())?)
+}
+
+// What became of a report, in a word.
+fn word(noting: Noting) -> &'static str {
+    match noting {
+        Noting::Noted => "noted",
+        Noting::Known => "known",
+        Noting::Stale => "stale",
+    }
+}
+
+// Writes a command as its line spells it.
+fn write_command(text: &mut String, command: &Command<Any>) -> Result<()> {
+    match command {
+        Command::Create(group, kind) => {
+            let kind = str::from_utf8(kind.word())?;
+            write!(text, "create {} {kind}", name(group)?)?;
+        }
+        Command::Join(group, node) => write!(text, "join {} {}", name(group)?, node.get())?,
+        Command::Leave(group, node) => write!(text, "leave {} {}", name(group)?, node.get())?,
+        Command::Start(group) => write!(text, "start {}", name(group)?)?,
+        Command::Who(group, node) => write!(text, "who {} {}", name(group)?, node.get())?,
+        Command::Members(group) => write!(text, "members {}", name(group)?)?,
+        Command::Terms(group) => write!(text, "terms {}", name(group)?)?,
+        Command::Groups => text.push_str("groups")?,
+    }
+    Ok(())
+}
