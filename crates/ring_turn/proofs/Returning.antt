@@ -1,6 +1,9 @@
--- For callers that close a lock: its seats in a row, each with the next number, are all that it has.
+-- For callers that share a lock's seats out, or close it: its seats in a row, each with the next number, are all
+-- that it has.
 use Rattle.std.proofs.Common.{◌≡◌, ℕ, zero, suc, ◌+◌, ◌<◌, List, [], ◌∷◌, ◌++◌, length, length-append, sym, refl, ap, ◌∙◌, subst, arith}
-use Rattle.std.specs.Prelude.{Some, None, slice_get}
+use Rattle.std.specs.Prelude.{All, Some, None, slice_get}
+use Rattle.std.specs.List.{range_with_len}
+use Rattle.std.proofs.lemmas.List.Elements.{All-map}
 use Rattle.std.proofs.lemmas.List.FromFn.{map-range_with_len_more}
 use Rattle.atomic_table.specs.Seated.{TableId}
 use Rattle.ring_service.specs.declared.entry.Entry.{Entry}
@@ -60,3 +63,8 @@ module _ {E : Type 0} where
   -- each of all seats is of the lock
   pub seat_is_of_lock : (lock : LockView E) (seats before after : List (SeatView E)) (seat : SeatView E) → HasAllSeats lock seats → seats ≡ before ++ seat ∷ after → seat.lock ≡ lock.id
   seat_is_of_lock lock seats before after seat has is = has.of_lock (length before) seat (ap (λ (l : List (SeatView E)). slice_get l (length before)) is ∙ stands_behind before after seat)
+
+  -- the seats that a lock was opened with are of the lock
+  pub all_are_of_lock : (id : TableId) (turns seats : ℕ) (opening : List (Entry E)) (all : List (SeatView E)) → all ≡ fresh_seats id turns opening seats → All (λ (seat : SeatView E). seat.lock ≡ id) all
+  all_are_of_lock id turns seats opening all fresh =
+      subst (All (λ (seat : SeatView E). seat.lock ≡ id)) (sym fresh) (All-map (λ (seat : SeatView E). seat.lock ≡ id) (fresh_seat id turns opening) (range_with_len 0 seats) (λ k number within. refl))

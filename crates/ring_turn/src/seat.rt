@@ -1,4 +1,5 @@
 //! The seats of a turn lock.
+ghost use Rattle.std.specs.Prelude.{◌≡◌, IsTrue, ◌↔◌};
 
 use crate::rule::Place;
 use ring_election::RingElection;
@@ -23,4 +24,13 @@ impl<E: RingElection> Model for Seat<E> {
     ghost view = { λ seat. seat_of seat.place.table_id seat.left seat.place.me.0 };
 
     ghost invariant = { λ seat. IsIdle seat.left seat.place.me };
+}
+
+impl<E: RingElection> Seat<E> {
+    /// Whether the seat has no turn left, so that each further call is answered `SeatSpent`. Takes no memory.
+    pub fn is_spent(&self) -> bool
+        ensures { IsTrue result ↔ (self.now.left ≡ 0) }
+    {
+        self.left == 0
+    }
 }
