@@ -24,6 +24,10 @@ class Group(NamedTuple):
     ring: tuple = ()
     informed: frozenset = frozenset()
 
+    def __hash__(self):
+        # (of the long lists of terms the length alone: groups are put into sets all the time)
+        return hash((self.members, len(self.leaders), self.ring, self.informed))
+
 
 @functools.lru_cache(maxsize=4096)
 def winner(kind, ring):
