@@ -99,15 +99,18 @@ def terms(group, reply):
     name, *words = reply.split(" ")
     if name != "terms" or len(words) != len(group.leaders):
         return None
-    leaders = list(group.leaders)
-    for place, (word, known, rightful) in enumerate(zip(words, group.leaders, group.rightful)):
-        if word == f"{place + 1}:{rightful}" and known != NOBODY:
-            leaders[place] = rightful
+    leaders, rightful = list(group.leaders), list(group.rightful)
+    for place, (word, known) in enumerate(zip(words, group.leaders)):
+        if word == f"{place + 1}:{rightful[place]}" and known != NOBODY:
+            leaders[place] = rightful[place]
         elif word != f"{place + 1}:-" or known not in (None, NOBODY):
             return None
         elif place + 1 < len(words):
-            leaders[place] = NOBODY
-    return group if leaders == list(group.leaders) else group._replace(leaders=tuple(leaders))
+            # (who could have led such a term is forgotten, so that groups that differ in this alone are one)
+            leaders[place], rightful[place] = NOBODY, None
+    if leaders == list(group.leaders):
+        return group
+    return group._replace(leaders=tuple(leaders), rightful=tuple(rightful))
 
 
 STEPS = {"join": join, "leave": leave, "start": start, "who": who, "members": members, "terms": terms}
