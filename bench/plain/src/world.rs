@@ -18,7 +18,7 @@ pub enum Delivery {
 }
 
 /// A running term, whatever its algorithm.
-pub trait RunningTerm {
+pub trait RunningTerm: Send {
     /// Moves the front packet of the link that leads to this position from this side.
     fn deliver(&mut self, link: Link) -> Delivery;
 

@@ -149,7 +149,7 @@ fn idle_arg<'a>(alloc: Global) -> Arg<'a>
         .value_name("SECONDS")
         .value_parser(clap::value_parser!(u32).range(0..=86400))
         .help(
-            "Ends a session whose client sends nothing, or takes no reply, for so long, to 86400; 0, as usual, never",
+            "Ends a session whose client sends nothing, or takes no reply, for so long, 1 to 86400; never at 0, or where it isn't given",
         )
 }
 

@@ -77,8 +77,8 @@ impl<M: Copy> Sends<M> {
 }
 
 /// A ring algorithm: the value is the state of one node.
-pub trait Algorithm: Sized {
-    type Message: Copy;
+pub trait Algorithm: Sized + Send {
+    type Message: Copy + Send;
 
     /// Whether it sends to the left.
     const TWO_WAY: bool;

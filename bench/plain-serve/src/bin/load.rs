@@ -1,0 +1,165 @@
+//! Asks a server on 127.0.0.1 who leads, over and over, and counts the replies.
+//!
+//! `load PORT CONNECTIONS DEPTH SECONDS WHAT`: each connection has a thread, which writes DEPTH lines at
+//! once and reads as many replies before it writes the next. WHAT is `leader`, where every reply has to
+//! be the leader of the group that is made first, or `echo`, where it has to be the line itself. One line
+//! is printed: the number of replies, and the seconds that they took.
+
+use std::io::{self, Read, Write};
+use std::net::{Ipv4Addr, TcpStream};
+use std::process::ExitCode;
+use std::sync::Barrier;
+use std::thread;
+use std::time::{Duration, Instant};
+
+/// The members of the group are 1 to this number, joined in rising order, so that it leads.
+const MEMBERS: u32 = 16;
+
+/// How long the election may take.
+const PATIENCE: Duration = Duration::from_secs(10);
+
+#[derive(Clone, Copy, PartialEq, Eq)]
+enum Wanted {
+    Leader,
+    Echo,
+}
+
+struct Load {
+    port: u16,
+    connections: usize,
+    depth: usize,
+    time: Duration,
+    wanted: Wanted,
+}
+
+impl Load {
+    fn from_words(words: &[String]) -> Option<Load> {
+        let [port, connections, depth, seconds, wanted] = words else {
+            return None;
+        };
+        Some(Load {
+            port: port.parse().ok()?,
+            connections: connections.parse().ok()?,
+            depth: depth.parse().ok()?,
+            time: Duration::try_from_secs_f64(seconds.parse().ok()?).ok()?,
+            wanted: match wanted.as_str() {
+                "leader" => Wanted::Leader,
+                "echo" => Wanted::Echo,
+                _ => return None,
+            },
+        })
+    }
+
+    fn connect(&self) -> io::Result<TcpStream> {
+        let stream = TcpStream::connect((Ipv4Addr::LOCALHOST, self.port))?;
+        stream.set_nodelay(true)?;
+        Ok(stream)
+    }
+
+    /// Makes the group, and waits until each member knows that the last one leads.
+    fn prepare(&self) -> io::Result<()> {
+        let mut stream = self.connect()?;
+        let mut lines = String::from("create a chang\n");
+        for member in 1..=MEMBERS {
+            lines.push_str(&format!("join a {member}\n"));
+        }
+        lines.push_str("start a\n");
+        let mut replies = "ok\n".repeat(1 + MEMBERS as usize);
+        replies.push_str("term 1\n");
+        expect(&mut stream, lines.as_bytes(), replies.as_bytes())?;
+        let began = Instant::now();
+        for member in 1..=MEMBERS {
+            let line = format!("who a {member}\n");
+            while expect(&mut stream, line.as_bytes(), LEADER).is_err() {
+                if began.elapsed() > PATIENCE {
+                    return Err(io::Error::other("the term wasn't decided"));
+                }
+                stream = self.connect()?;
+            }
+        }
+        Ok(())
+    }
+
+    /// The lines that a connection writes at once, and their replies.
+    fn batch(&self, connection: usize) -> (Vec<u8>, Vec<u8>) {
+        let (mut lines, mut replies) = (Vec::new(), Vec::new());
+        for place in 0..self.depth {
+            let member = (connection + 7 * place) as u32 % MEMBERS + 1;
+            let line = format!("who a {member}\n");
+            lines.extend(line.as_bytes());
+            replies.extend(match self.wanted {
+                Wanted::Leader => LEADER,
+                Wanted::Echo => line.as_bytes(),
+            });
+        }
+        (lines, replies)
+    }
+
+    /// One connection, from the moment when all are there; the answer is how many replies it got.
+    fn ask(&self, connection: usize, begin: &Barrier) -> io::Result<usize> {
+        let connected = self.connect();
+        begin.wait();
+        let mut stream = connected?;
+        let (lines, replies) = self.batch(connection);
+        let began = Instant::now();
+        let mut count = 0;
+        while began.elapsed() < self.time {
+            expect(&mut stream, &lines, &replies)?;
+            count += self.depth;
+        }
+        Ok(count)
+    }
+
+    /// All connections at once; the answer is how many replies they got, and the seconds that passed.
+    fn run(&self) -> io::Result<(usize, f64)> {
+        if self.wanted == Wanted::Leader {
+            self.prepare()?;
+        }
+        let begin = Barrier::new(self.connections + 1);
+        thread::scope(|scope| {
+            let begin = &begin;
+            let asking: Vec<_> = (0..self.connections)
+                .map(|connection| scope.spawn(move || self.ask(connection, begin)))
+                .collect();
+            begin.wait();
+            let began = Instant::now();
+            let mut count = 0;
+            for each in asking {
+                count += each.join().expect("a connection doesn't panic")?;
+            }
+            Ok((count, began.elapsed().as_secs_f64()))
+        })
+    }
+}
+
+/// The reply of every member once the term is decided.
+const LEADER: &[u8] = b"leader 1 16\n";
+
+/// Writes lines, and reads their replies, which have to be these.
+fn expect(stream: &mut TcpStream, lines: &[u8], replies: &[u8]) -> io::Result<()> {
+    stream.write_all(lines)?;
+    let mut got = vec![0; replies.len()];
+    stream.read_exact(&mut got)?;
+    if got == replies {
+        return Ok(());
+    }
+    Err(io::Error::other("another reply than was wanted"))
+}
+
+fn main() -> ExitCode {
+    let words: Vec<String> = std::env::args().skip(1).collect();
+    let Some(load) = Load::from_words(&words) else {
+        eprintln!("usage: load PORT CONNECTIONS DEPTH SECONDS leader|echo");
+        return ExitCode::from(2);
+    };
+    match load.run() {
+        Ok((count, seconds)) => {
+            println!("{count} {seconds:.6}");
+            ExitCode::SUCCESS
+        }
+        Err(error) => {
+            eprintln!("load: {error}");
+            ExitCode::FAILURE
+        }
+    }
+}

@@ -1,0 +1,107 @@
+"""What the checks of the program as a server share: a client, a free port, a configuration."""
+
+import contextlib
+import socket
+import struct
+
+HOST = "127.0.0.1"
+PATIENCE = 20
+
+
+class Differs(Exception):
+    """The program did something else than it should."""
+
+
+def same(what, seen, wanted):
+    """Compares what was seen with what is wanted."""
+    if seen != wanted:
+        raise Differs(f"{what}: {short(seen)}, and not {short(wanted)}")
+
+
+def short(value):
+    """A value as a short text for a message."""
+    text = ascii(value)
+    return text if len(text) <= 200 else f"{text[:200]}.."
+
+
+def free_port():
+    """A port that nobody listens on."""
+    with socket.socket() as probe:
+        probe.bind((HOST, 0))
+        return probe.getsockname()[1]
+
+
+def text_of(port, workers=2, inbox=1024):
+    """The text of a configuration."""
+    return f"workers = {workers}\ninbox = {inbox}\nport = {port}\n".encode()
+
+
+class Client:
+    """A connection to the program."""
+
+    def __init__(self, port):
+        self.socket = socket.create_connection((HOST, port), timeout=PATIENCE)
+        self.socket.setsockopt(socket.IPPROTO_TCP, socket.TCP_NODELAY, 1)
+        self.rest = b""
+
+    def send(self, lines):
+        """Sends bytes."""
+        self.socket.sendall(lines)
+
+    def line(self):
+        """The next line of the replies, and what is left at their end."""
+        while b"\n" not in self.rest:
+            more = self.socket.recv(65536)
+            if not more:
+                break
+            self.rest += more
+        line, end, self.rest = self.rest.partition(b"\n")
+        return line + end
+
+    def ask(self, line):
+        """Sends one line and waits for its reply."""
+        self.send(line)
+        return self.line()
+
+    def end_sending(self):
+        """Says that no line follows."""
+        self.socket.shutdown(socket.SHUT_WR)
+
+    def all(self):
+        """All replies, to their end."""
+        parts = [self.rest]
+        while more := self.socket.recv(1 << 20):
+            parts.append(more)
+        return b"".join(parts)
+
+    def told(self, lines):
+        """Sends all lines, ends the sending, and reads all replies."""
+        self.send(lines)
+        self.end_sending()
+        replies = self.all()
+        self.close()
+        return replies
+
+    def close(self):
+        """Ends the connection."""
+        self.socket.close()
+
+    def reset(self):
+        """Ends the connection by a reset."""
+        linger = struct.pack("ii", 1, 0)
+        self.socket.setsockopt(socket.SOL_SOCKET, socket.SO_LINGER, linger)
+        self.socket.close()
+
+
+@contextlib.contextmanager
+def ended(run):
+    """A run that is ended with its check, whatever comes of it."""
+    try:
+        yield run
+    finally:
+        if run.poll() is None:
+            run.kill()
+        run.wait()
+        for stream in (run.stdout, run.stderr):
+            if stream:
+                stream.close()
