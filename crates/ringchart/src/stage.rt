@@ -9,7 +9,7 @@ use crate::recorder::Recorder;
 use crate::tale::Tale;
 use ring_any::Any;
 use ring_grammar::print_reply;
-use ring_id::GroupName;
+use ring_id::{GroupName, NodeId, Refusal, Side};
 use ring_mux::{Command, Event, Mux, Reply};
 use std::alloc::Global;
 use std::str;
@@ -56,26 +56,50 @@ impl Stage {
 
     // Does in the worlds what the event did; whether the same is in flight then.
     fn follow(&mut self, event: Event<Any>, reply: &Reply) -> Result<bool, Fault> {
-        match (event, reply) {
-            (_, Reply::Refused(ring_id::Refusal::NoMemory)) => Err(Fault::NoMemory),
-            (Event::Client(Command::Start(group)), Reply::Term(_)) => self.begin(group),
-            (Event::Deliver(group, node, side), Reply::Moved) => {
-                let Some(recorder) = running(&mut self.terms, group) else {
-                    return Ok(false);
-                };
-                recorder.deliver_to(self.alloc, node, side)?;
-                self.agrees(group)
-            }
-            (Event::Drain(_, _), Reply::Drained { starved: true, .. }) => Err(Fault::NoMemory),
-            (Event::Drain(group, _), Reply::Drained { done, .. }) => {
-                let Some(recorder) = running(&mut self.terms, group) else {
-                    return Ok(false);
-                };
-                recorder.drain(self.alloc, *done)?;
-                self.agrees(group)
-            }
+        if was_starved(reply) {
+            return Err(Fault::NoMemory);
+        }
+        match event {
+            Event::Client(command) => self.obey(command, reply),
+            Event::Deliver(group, node, side) => match reply {
+                Reply::Moved => self.deliver(group, node, side),
+                _ => Ok(true),
+            },
+            Event::Drain(group, _) => match reply {
+                Reply::Drained { done, .. } => self.drain(group, *done),
+                _ => Ok(true),
+            },
+            Event::Pending(_) => Ok(true),
+        }
+    }
+
+    // Begins a recorder where the command has started a term.
+    fn obey(&mut self, command: Command<Any>, reply: &Reply) -> Result<bool, Fault> {
+        match command {
+            Command::Start(group) => match reply {
+                Reply::Term(_) => self.begin(group),
+                _ => Ok(true),
+            },
             _ => Ok(true),
         }
+    }
+
+    // One delivery in a group's last term.
+    fn deliver(&mut self, group: GroupName, node: NodeId, side: Side) -> Result<bool, Fault> {
+        let Some(recorder) = running(&mut self.terms, group) else {
+            return Ok(false);
+        };
+        recorder.deliver_to(self.alloc, node, side)?;
+        self.agrees(group)
+    }
+
+    // So many deliveries in a group's last term.
+    fn drain(&mut self, group: GroupName, count: u32) -> Result<bool, Fault> {
+        let Some(recorder) = running(&mut self.terms, group) else {
+            return Ok(false);
+        };
+        recorder.drain(self.alloc, count)?;
+        self.agrees(group)
     }
 
     // A recorder for the term that has just been started.
@@ -120,6 +144,15 @@ fn running(terms: &mut [Recorder], group: GroupName) -> Option<&mut Recorder> {
         .iter_mut()
         .rev()
         .find(|recorder| recorder.group() == group)
+}
+
+// Whether memory was refused to the mux.
+fn was_starved(reply: &Reply) -> bool {
+    match reply {
+        Reply::Refused(refusal) => *refusal == Refusal::NoMemory,
+        Reply::Drained { starved, .. } => *starved,
+        _ => false,
+    }
 }
 
 // Refuses a reply that is another than the wanted one.

@@ -1,3 +1,4 @@
+-- How the program ends.
 use Rattle.std.specs.Prelude.{ℕ}
 use Rattle.ringctl.specs.declared.fault.Fault.{Fault}
 use Rattle.ringctl.specs.declared.fault.Fault.TheVariants.{Refused, NoService, Read, Write, NoMemory}

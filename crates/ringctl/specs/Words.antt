@@ -1,3 +1,4 @@
+-- The lines that the program sends.
 use Rattle.std.specs.Prelude.{◌≡◌, ℕ, List, string_bytes}
 use Rattle.ring_any.specs.declared.any.Any.{Any}
 use Rattle.ring_mux.specs.declared.event.Command.{Command}
