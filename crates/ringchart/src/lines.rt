@@ -1,4 +1,7 @@
 //! The lines of a schedule.
+ghost use Rattle.std.specs.Prelude.{IfOk, IfSome};
+ghost use Rattle.ring_grammar.specs.Spelling.{Spells};
+
 use crate::fault::Fault;
 use ring_any::Any;
 use ring_grammar::parse_event;
@@ -37,7 +40,9 @@ impl<'a> Line<'a> {
 
     /// What happens at this line; none where it says by itself that it is bad. A command that spells
     /// nothing is bad where the line doesn't say so.
-    pub fn event(self) -> Result<Option<Event<Any>>, Fault> {
+    pub fn event(self) -> Result<Option<Event<Any>>, Fault>
+        ensures { IfOk result (λ event. IfSome event (Spells self.command.now)) }
+    {
         match (parse_event(self.command.as_bytes()), self.reply) {
             (Some(event), _) => Ok(Some(event)),
             (None, Some("no bad-line")) => Ok(None),

@@ -97,20 +97,20 @@ impl Recorder {
         side: Side,
         before: usize,
     ) -> Result<Option<Arrow>, AllocError> {
-        let size = self.world.nodes().len();
+        let roster = self.world.charter().roster();
+        if position >= roster.len() {
+            return Ok(None);
+        }
+        let from = roster.neighbour(position, side);
         let Some(receiver) = self.world.nodes().get(position) else {
             return Ok(None);
-        };
-        let from = match side {
-            Side::Left => previous(position, size),
-            Side::Right => next(position, size),
         };
         let place = receiver.taken(side).saturating_add(before);
         let Some(packet) = self.packet(from, side.other(), place) else {
             return Ok(None);
         };
         let sent = self.sent_at(from, side.other(), place);
-        Ok(Some(arrow(alloc, size, position, side, packet, sent)?))
+        Ok(Some(arrow(alloc, roster.len(), position, side, packet, sent)?))
     }
 
     // The packet that a position sent to a side at this place.
@@ -191,23 +191,6 @@ impl Recorder {
             }
         }
         Ok(())
-    }
-}
-
-// The position to the left of this one in a ring of this size.
-fn previous(position: usize, size: usize) -> usize {
-    match position {
-        0 => size.saturating_sub(1),
-        _ => position - 1,
-    }
-}
-
-// The position to the right.
-fn next(position: usize, size: usize) -> usize {
-    if position >= size.saturating_sub(1) {
-        0
-    } else {
-        position + 1
     }
 }
 

@@ -198,11 +198,11 @@ fn ask_order(line: String) -> Option<Order>
 // The words with one space between them.
 fn line_of(alloc: Global, words: &[&str]) -> Result<String, AllocError> {
     let mut line = String::new(alloc);
+    let mut gap = "";
     for word in words {
-        if !line.is_empty() {
-            line.push(' ')?;
-        }
+        line.push_str(gap)?;
         line.push_str(word)?;
+        gap = " ";
     }
     Ok(line)
 }
