@@ -23,10 +23,10 @@ pub fn print_svg(rt: &(impl Print + AllocGlobal), tales: &[Tale]) -> Result<(), 
     let mut widest = 0u64;
     let mut top = 0u64;
     for tale in tales {
-        let (picture, width, height) = svg::draw(alloc, tale, top)?;
-        all.push_str(picture.as_str())?;
-        widest = widest.max(width);
-        top = top.saturating_add(height);
+        let picture = svg::draw(alloc, tale, top)?;
+        all.push_str(picture.svg.as_str())?;
+        widest = widest.max(picture.width);
+        top = top.saturating_add(picture.height);
     }
     written(println!(rt;
         "<svg xmlns=\"http://www.w3.org/2000/svg\" width=\"{widest}\" height=\"{top}\" viewBox=\"0 0 {widest} {top}\">"
@@ -43,8 +43,8 @@ pub fn write_files(
     let alloc = rt.alloc();
     for tale in tales {
         let name = format!(in alloc; "{folder}/{}-{}.svg", tale.group_text(), tale.term)?;
-        let (picture, _, _) = svg::draw(alloc, tale, 0)?;
-        written(fs::write(rt, name.as_str(), picture.as_str()))?;
+        let picture = svg::draw(alloc, tale, 0)?;
+        written(fs::write(rt, name.as_str(), picture.svg.as_str()))?;
         written(println!(rt; "{name}"))?;
     }
     Ok(())

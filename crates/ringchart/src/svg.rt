@@ -38,15 +38,23 @@ const LEGEND: [&str; 3] = [
     "and the line of a member from when it knows the leader. Dashed: in flight at the end.",
 ];
 
-/// A drawing that grows.
+/// A picture, and how large it is.
+#[derive(Debug, Drop)]
+pub struct Picture {
+    pub svg: String,
+    pub width: u64,
+    pub height: u64,
+}
+
+// A drawing that grows.
 #[derive(Drop)]
-pub struct Drawing {
+struct Drawing {
     out: String,
     frame: Frame,
 }
 
-/// The picture of a term, `top` pixels below where it stands, and its width and height.
-pub fn draw(alloc: Global, tale: &Tale, top: u64) -> Result<(String, u64, u64), AllocError> {
+/// The picture of a term, to stand so many pixels below the top of a larger one.
+pub fn draw(alloc: Global, tale: &Tale, top: u64) -> Result<Picture, AllocError> {
     let title = tale.title(alloc)?;
     let frame = Frame::of(tale, title.len());
     let mut drawing = Drawing {
@@ -67,13 +75,15 @@ pub fn draw(alloc: Global, tale: &Tale, top: u64) -> Result<(String, u64, u64), 
     drawing.words(24, 58, "small", tale.outcome(alloc)?.as_str())?;
     drawing.columns(tale)?;
     drawing.knowing(tale)?;
-    drawing.arrows(tale)?;
-    drawing.labels(tale)?;
+    drawing.delivered(tale)?;
+    drawing.flying(tale)?;
+    drawing.delivered_labels(tale)?;
+    drawing.flying_labels(tale)?;
     drawing.notes(tale)?;
     drawing.legend()?;
     drawing.out.push_str("</svg>\n")?;
-    let Drawing { out, frame: _ } = drawing;
-    Ok((out, width, height))
+    let Drawing { out: svg, frame: _ } = drawing;
+    Ok(Picture { svg, width, height })
 }
 
 impl Drawing {
@@ -168,14 +178,20 @@ impl Drawing {
         )
     }
 
-    // The arrows of deliveries, and of what is in flight at the end.
-    fn arrows(&mut self, tale: &Tale) -> Result<(), AllocError> {
+    // The arrows of deliveries.
+    fn delivered(&mut self, tale: &Tale) -> Result<(), AllocError> {
         let frame = self.frame;
         let mut now = 0u64;
         for step in &tale.steps {
             now = now.saturating_add(1);
             self.arrow(&step.arrow, "", frame.x(step.arrow.to), frame.y(now))?;
         }
+        Ok(())
+    }
+
+    // The arrows of what is in flight at the end.
+    fn flying(&mut self, tale: &Tale) -> Result<(), AllocError> {
+        let frame = self.frame;
         let mut nth = 0usize;
         for arrow in &tale.flying {
             let x = frame.x_flying(arrow.from, arrow.to);
@@ -199,14 +215,20 @@ impl Drawing {
         )
     }
 
-    // The labels of all arrows, above all lines.
-    fn labels(&mut self, tale: &Tale) -> Result<(), AllocError> {
+    // The labels of deliveries. Labels come after all lines, so that none runs over them.
+    fn delivered_labels(&mut self, tale: &Tale) -> Result<(), AllocError> {
         let frame = self.frame;
         let mut now = 0u64;
         for step in &tale.steps {
             now = now.saturating_add(1);
             self.label(&step.arrow, frame.x(step.arrow.to), frame.y(now))?;
         }
+        Ok(())
+    }
+
+    // The labels of what is in flight at the end.
+    fn flying_labels(&mut self, tale: &Tale) -> Result<(), AllocError> {
+        let frame = self.frame;
         let mut nth = 0usize;
         for arrow in &tale.flying {
             let x = frame.x_flying(arrow.from, arrow.to);

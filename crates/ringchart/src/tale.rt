@@ -104,17 +104,10 @@ impl Tale {
 
     /// How many characters the longest label has, or the longest number of a member.
     pub fn widest(&self) -> usize {
-        let mut widest = 0usize;
-        for member in &self.ring {
-            widest = widest.max(digits(member.get()));
-        }
-        for step in &self.steps {
-            widest = widest.max(step.arrow.label.len());
-        }
-        for arrow in &self.flying {
-            widest = widest.max(arrow.label.len());
-        }
-        widest
+        let names = self.ring.iter().map(|member| digits(member.get())).max();
+        let steps = self.steps.iter().map(|step| step.arrow.label.len()).max();
+        let flying = self.flying.iter().map(|arrow| arrow.label.len()).max();
+        names.max(steps).max(flying).unwrap_or(0)
     }
 }
 

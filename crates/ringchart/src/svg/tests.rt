@@ -7,8 +7,8 @@ use std::test::Fail;
 fn each_packet_has_an_arrow_and_a_label(rt: HostRuntime) -> Result<(), Fail> {
     let schedule = "create a chang\njoin a 3\njoin a 1\njoin a 2\nstart a\ndrain a 2\n";
     for tale in &play(rt.alloc(), schedule)? {
-        let (picture, width, height) = draw(rt.alloc(), tale, 5)?;
-        let picture = picture.as_str();
+        let Picture { svg, width, height } = draw(rt.alloc(), tale, 5)?;
+        let picture = svg.as_str();
         assert!(rt; picture.starts_with("<svg "));
         assert!(rt; picture.ends_with("</svg>\n"));
         assert!(rt; width >= 620 && height > 200, "{width} {height}");
