@@ -41,7 +41,7 @@ impl<'a> Line<'a> {
     /// What happens at this line; none where it says by itself that it is bad. A command that spells
     /// nothing is bad where the line doesn't say so.
     pub fn event(self) -> Result<Option<Event<Any>>, Fault>
-        ensures { IfOk result (λ event. IfSome event (Spells self.command.now)) }
+        ensures { IfOk result (λ event. IfSome event (Spells self.entry.command.now)) }
     {
         match (parse_event(self.command.as_bytes()), self.reply) {
             (Some(event), _) => Ok(Some(event)),
