@@ -1,0 +1,100 @@
+//! Where things stand in a picture, in pixels.
+use crate::tale::Tale;
+
+/// The least distance between two columns.
+const NARROW: u64 = 84;
+
+/// The distance between two rows.
+const ROW: u64 = 26;
+
+/// Where the first column stands, and where the members' names do.
+const LEFT: u64 = 92;
+
+const HEAD: u64 = 108;
+
+/// The room behind the last column, for what members then know.
+const MARGIN: u64 = 190;
+
+/// The places of a picture.
+#[derive(Clone, Copy, Debug)]
+pub struct Frame {
+    gap: u64,
+    columns: u64,
+    steps: u64,
+    flying: u64,
+    title: u64,
+}
+
+impl Frame {
+    /// The places of the picture of a term, which has a title of so many characters.
+    pub fn of(tale: &Tale, title: usize) -> Frame {
+        let label = (tale.widest() as u64).saturating_mul(7).saturating_add(44);
+        Frame {
+            gap: label.max(NARROW),
+            columns: tale.ring.len() as u64,
+            steps: tale.steps.len() as u64,
+            flying: tale.flying.len() as u64,
+            title: title as u64,
+        }
+    }
+
+    /// Where a column stands.
+    pub fn x(self, column: usize) -> u64 {
+        LEFT.saturating_add(self.gap.saturating_mul(column as u64))
+    }
+
+    /// Where an arrow ends that is in flight: near the column that it goes to.
+    pub fn x_flying(self, from: usize, to: usize) -> u64 {
+        let part = self.gap / 5;
+        if from < to {
+            self.x(to).saturating_sub(part)
+        } else {
+            self.x(to).saturating_add(part)
+        }
+    }
+
+    /// Where a delivery stands; the start is the one with number 0.
+    pub fn y(self, step: u64) -> u64 {
+        HEAD.saturating_add(ROW)
+            .saturating_add(ROW.saturating_mul(step))
+    }
+
+    /// Where the names of the members stand.
+    pub fn y_names(self) -> u64 {
+        HEAD
+    }
+
+    /// Where the line above what is in flight at the end stands.
+    pub fn y_end(self) -> u64 {
+        self.y(self.steps).saturating_add(ROW / 2)
+    }
+
+    /// Where the n-th packet in flight at the end stands.
+    pub fn y_flying(self, nth: usize) -> u64 {
+        self.y(self.steps.saturating_add(nth as u64).saturating_add(1))
+    }
+
+    /// Where the columns end.
+    pub fn y_bottom(self) -> u64 {
+        let rows = self.steps.saturating_add(self.flying);
+        self.y(rows).saturating_add(ROW / 2)
+    }
+
+    /// Where the room behind the last column begins.
+    pub fn x_margin(self) -> u64 {
+        let last = LEFT.saturating_add(self.gap.saturating_mul(self.columns));
+        last.saturating_add(36)
+    }
+
+    /// How wide the picture is.
+    pub fn width(self) -> u64 {
+        let columns = self.x_margin().saturating_add(MARGIN);
+        let title = self.title.saturating_mul(10).saturating_add(60);
+        columns.max(title).max(620)
+    }
+
+    /// How high the picture is.
+    pub fn height(self) -> u64 {
+        self.y_bottom().saturating_add(86)
+    }
+}

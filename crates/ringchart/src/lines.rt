@@ -1,0 +1,78 @@
+//! The lines of a schedule.
+ghost use Rattle.std.specs.Prelude.{IfOk, IfSome};
+ghost use Rattle.ring_grammar.specs.Spelling.{Spells};
+
+use crate::fault::Fault;
+use ring_any::Any;
+use ring_grammar::parse_event;
+use ring_mux::Event;
+use std::io::{BufReader, Read};
+use std::rt::Files;
+use std::{fs, io};
+
+/// A line of a schedule: its number, its command, and the reply that it has to get, if it says one.
+#[derive(Clone, Copy, Debug, PartialEq, Eq)]
+pub struct Line<'a> {
+    pub place: u64,
+    pub command: &'a str,
+    pub reply: Option<&'a str>,
+}
+
+impl<'a> Line<'a> {
+    /// This line of a schedule; none where it is empty or a comment.
+    pub fn read(place: u64, text: &'a str) -> Option<Line<'a>> {
+        if text.is_empty() || text.starts_with('#') {
+            return None;
+        }
+        let (command, reply) = match text.strip_prefix("=> ") {
+            Some(reply) => ("", Some(reply)),
+            None => match text.split_once(" => ") {
+                Some((command, reply)) => (command, Some(reply)),
+                None => (text, None),
+            },
+        };
+        Some(Line {
+            place,
+            command,
+            reply,
+        })
+    }
+
+    /// What happens at this line; none where it says by itself that it is bad. A command that spells
+    /// nothing is bad where the line doesn't say so.
+    pub fn event(self) -> Result<Option<Event<Any>>, Fault>
+        ensures { IfOk result (λ event. IfSome event (Spells self.entry.command.now)) }
+    {
+        match (parse_event(self.command.as_bytes()), self.reply) {
+            (Some(event), _) => Ok(Some(event)),
+            (None, Some("no bad-line")) => Ok(None),
+            (None, _) => Err(Fault::BadLine(self.place)),
+        }
+    }
+}
+
+/// The text of a schedule: of the file, or of standard input where no file is named.
+pub fn read_schedule<R>(rt: &R, path: Option<&str>) -> Result<String, Fault>
+where
+    R: Input + Files + AllocGlobal,
+{
+    let text = match path {
+        Some(path) => fs::read_to_string(rt, path),
+        None => read_input(rt),
+    };
+    match text {
+        Ok(text) => Ok(text),
+        Err(error) if error.kind() == io::ErrorKind::OutOfMemory => Err(Fault::NoMemory),
+        Err(_) => Err(Fault::Unreadable),
+    }
+}
+
+// All of standard input.
+fn read_input(rt: &(impl Input + AllocGlobal)) -> io::Result<String> {
+    let mut text = String::new(rt.alloc());
+    BufReader::new(rt.alloc(), rt.reader())?.read_to_string(&mut text)?;
+    Ok(text)
+}
+
+#[cfg(test)]
+mod tests;

@@ -1,0 +1,84 @@
+//! The program `ringchart`: a schedule in, a picture of each of its terms out.
+//!
+//! It runs the schedule as `ringd replay` does, and draws what each delivery did: a line for each
+//! member in ring order, an arrow for each delivery, when each member knew the leader, and what was in
+//! flight at the end.
+//!
+//! It ends with status 0 where all was drawn; with 1 and one line on standard error where a line is
+//! bad, a reply is another than its row says, no term was started, or reading, writing or memory
+//! failed; and with 2 and clap's text on standard error where the words are none that it takes, a
+//! request for help among them.
+#![tactic(auto)]
+
+ghost use Rattle.std.specs.Prelude.{◌≡◌, MatchResult};
+ghost use Rattle.std.specs.Process.{exit_status};
+
+mod fault;
+mod frame;
+mod label;
+mod lines;
+mod pictures;
+mod recorder;
+mod stage;
+mod svg;
+mod tale;
+mod text;
+mod words;
+
+use fault::Fault;
+use std::io::ErrorKind;
+use std::process::ExitCode;
+use std::rt::{Env, Files};
+use words::{Order, WordsFault, not_text, read_words};
+
+// The words of the command line, the program's name first.
+fn given_words(rt: &(impl Env + AllocGlobal)) -> Result<Vec<String>, WordsFault> {
+    let alloc = rt.alloc();
+    match std::env::args(rt) {
+        Ok(words) => Ok(words.collect(alloc)?),
+        Err(error) if error.kind() == ErrorKind::OutOfMemory => Err(WordsFault::NoMemory),
+        Err(_) => Err(WordsFault::Usage(not_text(alloc)?)),
+    }
+}
+
+// Runs the schedule, and draws its terms.
+fn obey(rt: &(impl Input + Files + Print + AllocGlobal), order: &Order) -> Result<(), Fault> {
+    let alloc = rt.alloc();
+    let schedule = lines::read_schedule(rt, order.path.as_ref().map(|path| path.as_str()))?;
+    let tales = stage::play(alloc, schedule.as_str())?;
+    match (order.text, &order.folder) {
+        (true, _) => pictures::print_texts(rt, &tales),
+        (false, Some(folder)) => pictures::write_files(rt, folder.as_str(), &tales),
+        (false, None) => pictures::print_svg(rt, &tales),
+    }
+}
+
+// Ends with status 0, or says the fault and ends with status 1.
+fn ended(rt: &impl Eprint, done: Result<(), Fault>) -> ExitCode
+    ensures { MatchResult done (λ _. exit_status result ≡ 0) (λ _. exit_status result ≡ 1) }
+{
+    match done {
+        Ok(()) => ExitCode::SUCCESS,
+        Err(fault) => {
+            let _ = eprintln!(rt; "ringchart: {fault}");
+            ExitCode::FAILURE
+        }
+    }
+}
+
+// Says why the command line was refused, and ends with status 2.
+fn refused(rt: &impl Eprint, error: &clap::Error) -> ExitCode
+    ensures { exit_status result ≡ 2 }
+{
+    let _ = eprint!(rt; "{error}");
+    ExitCode::from(2)
+}
+
+fn main(rt: HostRuntime) -> ExitCode {
+    let order = given_words(&rt).and_then(|words| read_words(rt.alloc(), words.as_slice()));
+    match order {
+        Ok(order) => ended(&rt, obey(&rt, &order)),
+        Err(WordsFault::NoMemory) => ended(&rt, Err(Fault::NoMemory)),
+        Err(WordsFault::Usage(error)) => refused(&rt, &error),
+    }
+}

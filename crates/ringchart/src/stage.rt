@@ -1,0 +1,172 @@
+//! A schedule, run.
+//!
+//! A mux answers the lines. Beside it each term has a world of its own, on which the same deliveries
+//! are made one at a time, since a picture needs to know each. Both are run by the same proved code,
+//! and what is in flight in both is compared after each line.
+use crate::fault::Fault;
+use crate::lines::Line;
+use crate::recorder::Recorder;
+use crate::tale::Tale;
+use ring_any::Any;
+use ring_grammar::print_reply;
+use ring_id::{GroupName, NodeId, Refusal, Side};
+use ring_mux::{Command, Event, Mux, Reply};
+use std::alloc::Global;
+use std::str;
+
+/// What happened in each term of a schedule, in the order in which they were started.
+pub fn play(alloc: Global, schedule: &str) -> Result<Vec<Tale>, Fault> {
+    let mut stage = Stage {
+        alloc,
+        mux: Mux::new(alloc)?,
+        terms: Vec::new(alloc),
+    };
+    let mut place = 0u64;
+    for text in schedule.lines() {
+        place = place.saturating_add(1);
+        if let Some(line) = Line::read(place, text) {
+            stage.take(line)?;
+        }
+    }
+    stage.tales()
+}
+
+// The mux, and a recorder for each term.
+#[derive(Drop)]
+struct Stage {
+    alloc: Global,
+    mux: Mux<Any>,
+    terms: Vec<Recorder>,
+}
+
+impl Stage {
+    // Runs a line, and compares its reply with the one that it says.
+    fn take(&mut self, line: Line<'_>) -> Result<(), Fault> {
+        let Some(event) = line.event()? else {
+            return Ok(());
+        };
+        let reply = self.mux.step(self.alloc, event);
+        if let Some(wanted) = line.reply {
+            compare(self.alloc, line.place, &reply, wanted)?;
+        }
+        self.follow(event, &reply)?
+            .then_some(())
+            .ok_or(Fault::Lost(line.place))
+    }
+
+    // Does in the worlds what the event did; whether the same is in flight then.
+    fn follow(&mut self, event: Event<Any>, reply: &Reply) -> Result<bool, Fault> {
+        if was_starved(reply) {
+            return Err(Fault::NoMemory);
+        }
+        match event {
+            Event::Client(command) => self.obey(command, reply),
+            Event::Deliver(group, node, side) => match reply {
+                Reply::Moved => self.deliver(group, node, side),
+                _ => Ok(true),
+            },
+            Event::Drain(group, _) => match reply {
+                Reply::Drained { done, .. } => self.drain(group, *done),
+                _ => Ok(true),
+            },
+            Event::Pending(_) => Ok(true),
+        }
+    }
+
+    // Begins a recorder where the command has started a term.
+    fn obey(&mut self, command: Command<Any>, reply: &Reply) -> Result<bool, Fault> {
+        match command {
+            Command::Start(group) => match reply {
+                Reply::Term(_) => self.begin(group),
+                _ => Ok(true),
+            },
+            _ => Ok(true),
+        }
+    }
+
+    // One delivery in a group's last term.
+    fn deliver(&mut self, group: GroupName, node: NodeId, side: Side) -> Result<bool, Fault> {
+        let Some(recorder) = running(&mut self.terms, group) else {
+            return Ok(false);
+        };
+        recorder.deliver_to(self.alloc, node, side)?;
+        self.agrees(group)
+    }
+
+    // So many deliveries in a group's last term.
+    fn drain(&mut self, group: GroupName, count: u32) -> Result<bool, Fault> {
+        let Some(recorder) = running(&mut self.terms, group) else {
+            return Ok(false);
+        };
+        recorder.drain(self.alloc, count)?;
+        self.agrees(group)
+    }
+
+    // A recorder for the term that has just been started.
+    fn begin(&mut self, group: GroupName) -> Result<bool, Fault> {
+        let Ok(charter) = self.mux.book().running(group) else {
+            return Ok(false);
+        };
+        let recorder = Recorder::begin(self.alloc, charter.clone()?)?;
+        self.terms.push(recorder)?;
+        self.agrees(group)
+    }
+
+    // Whether as much is in flight in the group's world here as in the mux.
+    fn agrees(&mut self, group: GroupName) -> Result<bool, Fault> {
+        let Some(recorder) = running(&mut self.terms, group) else {
+            return Ok(false);
+        };
+        Ok(self.mux.pending(group) == Ok(recorder.pending()))
+    }
+
+    // The tales of all terms.
+    fn tales(self) -> Result<Vec<Tale>, Fault> {
+        let Stage {
+            alloc,
+            mux: _,
+            terms,
+        } = self;
+        if terms.is_empty() {
+            return Err(Fault::NoTerm);
+        }
+        let mut tales = Vec::new(alloc);
+        for recorder in terms {
+            tales.push(recorder.tale(alloc)?)?;
+        }
+        Ok(tales)
+    }
+}
+
+// The recorder of a group's last term.
+fn running(terms: &mut [Recorder], group: GroupName) -> Option<&mut Recorder> {
+    terms
+        .iter_mut()
+        .rev()
+        .find(|recorder| recorder.group() == group)
+}
+
+// Whether memory was refused to the mux.
+fn was_starved(reply: &Reply) -> bool {
+    match reply {
+        Reply::Refused(refusal) => *refusal == Refusal::NoMemory,
+        Reply::Drained { starved, .. } => *starved,
+        _ => false,
+    }
+}
+
+// Refuses a reply that is another than the wanted one.
+fn compare(alloc: Global, place: u64, reply: &Reply, wanted: &str) -> Result<(), Fault> {
+    let mut bytes = Vec::new(alloc);
+    if print_reply(reply, &mut bytes).is_err() {
+        return Err(Fault::NoMemory);
+    }
+    let text = str::from_utf8(&bytes).unwrap_or("").trim_end();
+    if text != wanted {
+        return Err(Fault::Otherwise(place, String::from_str(alloc, text)?));
+    }
+    Ok(())
+}
+
+#[cfg(test)]
+mod tests;

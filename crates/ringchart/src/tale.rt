@@ -1,0 +1,117 @@
+//! What happened in one term, as a picture shows it.
+use crate::label;
+use ring_any::Any;
+use ring_id::{GroupName, NodeId};
+use std::alloc::{AllocError, Global};
+use std::str;
+
+/// What kind of packet an arrow is.
+#[derive(Clone, Copy, Debug, PartialEq, Eq)]
+pub enum Kind {
+    /// A message of the algorithm.
+    Message,
+    /// The announcement of the leader.
+    Announcement,
+}
+
+/// A packet between two columns. Columns are the positions of the ring from 0 on, and behind the
+/// last stands the first member again, so that each packet goes to the next column.
+#[derive(Debug, Drop)]
+pub struct Arrow {
+    pub from: usize,
+    pub to: usize,
+    pub label: String,
+    pub kind: Kind,
+    /// The delivery by which it was sent; 0 at the start.
+    pub sent: u64,
+}
+
+/// A delivery: the arrow that it ended, and what its receiver then knew for the first time.
+#[derive(Debug, Drop)]
+pub struct Step {
+    pub arrow: Arrow,
+    pub position: usize,
+    pub learned: Option<NodeId>,
+}
+
+/// All that happened in a term.
+#[derive(Debug, Drop)]
+pub struct Tale {
+    pub group: GroupName,
+    pub term: u16,
+    pub algorithm: Any,
+    pub ring: Vec<NodeId>,
+    /// The deliveries, in order.
+    pub steps: Vec<Step>,
+    /// What was in flight at the end.
+    pub flying: Vec<Arrow>,
+}
+
+impl Tale {
+    /// The member whose line is this column; the first one again behind the last.
+    pub fn member(&self, column: usize) -> Option<NodeId> {
+        let position = if column == self.ring.len() { 0 } else { column };
+        self.ring.get(position).copied()
+    }
+
+    /// The leader, if a member knew it.
+    pub fn leader(&self) -> Option<NodeId> {
+        self.steps.iter().find_map(|step| step.learned)
+    }
+
+    /// How many members knew the leader.
+    pub fn informed(&self) -> usize {
+        self.steps
+            .iter()
+            .filter(|step| step.learned.is_some())
+            .count()
+    }
+
+    /// The name of the group.
+    pub fn group_text(&self) -> &str {
+        str::from_utf8(self.group.bytes()).unwrap_or("")
+    }
+
+    /// The line above a picture.
+    pub fn title(&self, alloc: Global) -> Result<String, AllocError> {
+        let name = label::of_algorithm(self.algorithm);
+        let mut title = format!(in alloc; "{name}, ring")?;
+        for member in &self.ring {
+            write!(title, " {}", member.get())?;
+        }
+        write!(title, ", term {} of group {}", self.term, self.group_text())?;
+        Ok(title)
+    }
+
+    /// The line below it: what came of the term.
+    pub fn outcome(&self, alloc: Global) -> Result<String, AllocError> {
+        let size = self.ring.len();
+        let mut outcome = match self.leader() {
+            Some(leader) => format!(in alloc;
+                "leader {}, known to {} of {size}",
+                leader.get(),
+                self.informed()
+            )?,
+            None => String::from_str(alloc, "undecided")?,
+        };
+        write!(outcome, " after {} deliveries", self.steps.len())?;
+        match self.flying.len() {
+            0 => outcome.push_str("; nothing in flight")?,
+            flying => write!(outcome, "; {flying} in flight at the end")?,
+        }
+        Ok(outcome)
+    }
+
+    /// How many characters the longest label has, or the longest number of a member.
+    pub fn widest(&self) -> usize {
+        let names = self.ring.iter().map(|member| digits(member.get())).max();
+        let steps = self.steps.iter().map(|step| step.arrow.label.len()).max();
+        let flying = self.flying.iter().map(|arrow| arrow.label.len()).max();
+        names.max(steps).max(flying).unwrap_or(0)
+    }
+}
+
+// How many digits a number has.
+fn digits(number: u32) -> usize {
+    number.checked_ilog10().map_or(1, |log| log as usize + 1)
+}

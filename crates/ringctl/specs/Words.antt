@@ -1,0 +1,18 @@
+-- The lines that the program sends.
+use Rattle.std.specs.Prelude.{◌≡◌, ℕ, List, string_bytes}
+use Rattle.ring_any.specs.declared.any.Any.{Any}
+use Rattle.ring_mux.specs.declared.event.Command.{Command}
+use Rattle.ring_mux.specs.declared.event.Event.TheVariants.{Client}
+use Rattle.ring_grammar.specs.Spelling.{Spells}
+use Rattle.ringctl.specs.declared.words.Order.{Order}
+use Rattle.ringctl.specs.declared.words.Order.TheVariants.{Session, Ask, Watch}
+
+-- The bytes of a line spell no command of a client.
+abbrev pub SpellsNoCommand : List ℕ → Type 0
+SpellsNoCommand line = (command : Command Any) → Spells line (Client command) → ⊥
+
+-- The order to send this line, which spells a command of a client.
+abbrev pub IsAsk : List ℕ → Order → Type 0
+IsAsk line Session = ⊥
+IsAsk line (Ask text) = (string_bytes text ≡ line) × ((command : Command Any) × Spells line (Client command))
+IsAsk line (Watch _ _) = ⊥

@@ -1,0 +1,89 @@
+//! A connection to a service.
+use crate::fault::Fault;
+use crate::reply::{Reply, read_reply};
+use std::alloc::Global;
+use std::io::{self, BufRead, BufReader, Read, Write};
+use std::net::{Net, TcpStream, ToSocketAddrs};
+use std::time::Duration;
+
+// For how many seconds the service may leave a connection, a line or a reply waiting.
+const PATIENCE: u64 = 10;
+
+// How many bytes a reply has at most; the longest that there is has 22000.
+const LONGEST: u64 = 65536;
+
+/// A client that asks one line after another.
+#[derive(Drop)]
+pub struct Client<S: Drop> {
+    reader: BufReader<S>,
+    request: String,
+    reply: String,
+}
+
+impl Client<TcpStream> {
+    /// A client of the service at `HOST:PORT`. Each address of the host is tried.
+    pub fn reach<R>(rt: &R, address: &str) -> Result<Client<TcpStream>, Fault>
+    where
+        R: AllocGlobal + Net<Stream = TcpStream>,
+    {
+        let Ok(addresses) = address.to_socket_addrs(rt) else {
+            return Err(Fault::NoService);
+        };
+        let patience = Duration::from_secs(PATIENCE);
+        for address in addresses {
+            let Ok(stream) = TcpStream::connect_timeout(rt, &address, patience) else {
+                continue;
+            };
+            let _ = stream.set_nodelay(true);
+            let _ = stream.set_read_timeout(Some(patience));
+            let _ = stream.set_write_timeout(Some(patience));
+            return Client::over(rt.alloc(), stream);
+        }
+        Err(Fault::NoService)
+    }
+}
+
+impl<S: Read + Write + Drop> Client<S> {
+    /// A client over this stream.
+    pub fn over(alloc: Global, stream: S) -> Result<Client<S>, Fault> {
+        let Ok(reader) = BufReader::new(alloc, stream) else {
+            return Err(Fault::NoMemory);
+        };
+        Ok(Client {
+            reader,
+            request: String::new(alloc),
+            reply: String::new(alloc),
+        })
+    }
+
+    /// Sends a line, given without its LF, and answers the reply to it.
+    pub fn ask(&mut self, line: &str) -> Result<Reply<'_>, Fault> {
+        self.send(line)?;
+        self.reply.clear();
+        let Ok(_) = read_bounded(&mut self.reader, &mut self.reply) else {
+            return Err(Fault::NoService);
+        };
+        let reply = self.reply.as_str().strip_suffix('\n').and_then(read_reply);
+        reply.ok_or(Fault::NoService)
+    }
+
+    // Sends a line by one write.
+    fn send(&mut self, line: &str) -> Result<(), Fault> {
+        self.request.clear();
+        self.request.push_str(line)?;
+        self.request.push('\n')?;
+        let stream = self.reader.get_mut();
+        match stream.write_all(self.request.as_bytes()) {
+            Ok(()) => Ok(()),
+            Err(_) => Err(Fault::NoService),
+        }
+    }
+}
+
+// Reads a line with its LF, or as much of it as a reply may have.
+fn read_bounded<R: BufRead>(reader: &mut R, line: &mut String) -> io::Result<usize> {
+    reader.take(LONGEST).read_line(line)
+}
+
+#[cfg(test)]
+mod tests;

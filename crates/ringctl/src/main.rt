@@ -1,0 +1,85 @@
+//! The program `ringctl`: asks a running `ringd`.
+//!
+//! `ringctl COMMAND WORDS..` sends one line and prints its reply. `ringctl` alone asks each line of
+//! standard input, with a prompt at a terminal. `ringctl watch G` prints a line each time that a
+//! term of the group starts or its leader becomes known.
+//!
+//! It ends with status 0 where all was done; with 1 where the command was refused, with the word of
+//! the refusal on standard error, and where its own input, output or memory fails; with 2 and clap's
+//! text on standard error where the words are none that it takes, a request for help among them; and
+//! with 3 where no service answers.
+#![tactic(auto)]
+
+ghost use Rattle.std.specs.Prelude.{◌≡◌, MatchResult};
+ghost use Rattle.std.specs.Process.{exit_status};
+ghost use Rattle.ringctl.specs.Faults.{status_of};
+
+mod client;
+mod fault;
+mod reply;
+mod session;
+mod told;
+mod watch;
+mod words;
+
+use client::Client;
+use fault::Fault;
+use std::io::{ErrorKind, IsTerminal};
+use std::net::{Net, TcpStream};
+use std::process::ExitCode;
+use std::rt::Env;
+use std::time::Clock;
+use words::{Asked, Order, WordsFault, not_text, read_words};
+
+// The words of the command line, the program's name first.
+fn given_words(rt: &(impl Env + AllocGlobal)) -> Result<Vec<String>, WordsFault> {
+    let alloc = rt.alloc();
+    match std::env::args(rt) {
+        Ok(words) => Ok(words.collect(alloc)?),
+        Err(error) if error.kind() == ErrorKind::OutOfMemory => Err(WordsFault::NoMemory),
+        Err(_) => Err(WordsFault::Usage(not_text(alloc)?)),
+    }
+}
+
+// Does what the words ask for. At a terminal a session has a prompt.
+fn obey<R>(rt: &R, asked: &Asked, at_terminal: bool) -> Result<(), Fault>
+where
+    R: Input + Print + Clock + AllocGlobal + Net<Stream = TcpStream>,
+{
+    let mut client = Client::reach(rt, asked.address.as_str())?;
+    match &asked.order {
+        Order::Session => session::hold(rt, &mut client, at_terminal),
+        Order::Ask(line) => session::ask_once(rt, &mut client, line.as_str()),
+        Order::Watch { group, seconds } => watch::watch(rt, &mut client, group.as_str(), *seconds),
+    }
+}
+
+// Ends with status 0, or says the fault and ends with its status.
+fn ended(rt: &impl Eprint, done: Result<(), Fault>) -> ExitCode
+    ensures { MatchResult done (λ _. exit_status result ≡ 0) (λ fault. exit_status result ≡ status_of fault) }
+{
+    match done {
+        Ok(()) => ExitCode::SUCCESS,
+        Err(fault) => {
+            let _ = eprintln!(rt; "{fault}");
+            ExitCode::from(fault.status())
+        }
+    }
+}
+
+// Says why the command line was refused, and ends with status 2.
+fn refused(rt: &impl Eprint, error: &clap::Error) -> ExitCode
+    ensures { exit_status result ≡ 2 }
+{
+    let _ = eprint!(rt; "{error}");
+    ExitCode::from(2)
+}
+
+fn main(rt: HostRuntime) -> ExitCode {
+    let asked = given_words(&rt).and_then(|words| read_words(rt.alloc(), words.as_slice()));
+    match asked {
+        Ok(asked) => ended(&rt, obey(&rt, &asked, rt.stdin().is_terminal())),
+        Err(WordsFault::NoMemory) => ended(&rt, Err(Fault::NoMemory)),
+        Err(WordsFault::Usage(error)) => refused(&rt, &error),
+    }
+}

@@ -1,0 +1,76 @@
+//! Lines that are asked, and their replies printed.
+use crate::client::Client;
+use crate::fault::Fault;
+use crate::reply::Reply;
+use std::io::{BufRead, BufReader, Read, Write};
+
+// What stands before each line at a terminal.
+const PROMPT: &str = "ring> ";
+
+/// Asks one line. Its reply goes to standard output, and the word of a refusal into the fault.
+pub fn ask_once<R, S>(rt: &R, client: &mut Client<S>, line: &str) -> Result<(), Fault>
+where
+    R: Print + AllocGlobal,
+    S: Read + Write + Drop,
+{
+    match client.ask(line)? {
+        Reply::Done(reply) => say(rt, reply),
+        Reply::Refused(word) => Err(Fault::Refused(String::from_str(rt.alloc(), word)?)),
+    }
+}
+
+/// Asks each line of standard input, to its end, and prints each reply, refusals among them. Empty
+/// lines are passed over.
+pub fn hold<R, S>(rt: &R, client: &mut Client<S>, at_terminal: bool) -> Result<(), Fault>
+where
+    R: Input + Print + AllocGlobal,
+    S: Read + Write + Drop,
+{
+    let Ok(input) = BufReader::new(rt.alloc(), rt.reader()) else {
+        return Err(Fault::NoMemory);
+    };
+    prompt(rt, at_terminal)?;
+    for line in input.lines(rt.alloc()) {
+        let Ok(line) = line else {
+            return Err(Fault::Read);
+        };
+        if !line.is_empty() {
+            answer(rt, client, line.as_str())?;
+        }
+        prompt(rt, at_terminal)?;
+    }
+    if at_terminal { say(rt, "") } else { Ok(()) }
+}
+
+// Asks a line and prints its reply, also where it is refused.
+fn answer<R, S>(rt: &R, client: &mut Client<S>, line: &str) -> Result<(), Fault>
+where
+    R: Print,
+    S: Read + Write + Drop,
+{
+    match client.ask(line)? {
+        Reply::Done(reply) => say(rt, reply),
+        Reply::Refused(word) => match println!(rt; "no {word}") {
+            Ok(()) => Ok(()),
+            Err(_) => Err(Fault::Write),
+        },
+    }
+}
+
+fn prompt(rt: &impl Print, at_terminal: bool) -> Result<(), Fault> {
+    if !at_terminal {
+        return Ok(());
+    }
+    match print!(rt; "{PROMPT}") {
+        Ok(()) => Ok(()),
+        Err(_) => Err(Fault::Write),
+    }
+}
+
+/// Prints a line.
+pub fn say(rt: &impl Print, line: &str) -> Result<(), Fault> {
+    match println!(rt; "{line}") {
+        Ok(()) => Ok(()),
+        Err(_) => Err(Fault::Write),
+    }
+}

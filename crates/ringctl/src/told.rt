@@ -1,0 +1,72 @@
+//! What a watch has told of a group's terms, and what is new in a reply.
+ghost use Rattle.std.specs.Prelude.{◌≡◌, ◌<◌, ◌↔◌, IsTrue, max};
+
+/// A term in a reply to `terms`: its number, and its leader if it is known.
+#[derive(Clone, Copy, Debug, PartialEq, Eq)]
+pub struct Term {
+    pub number: u16,
+    pub leader: Option<u32>,
+}
+
+/// The term that `T:N` or `T:-` is.
+pub fn read_term(text: &str) -> Option<Term> {
+    let (number, leader) = text.split_once(':')?;
+    let number = number.parse().ok()?;
+    if leader == "-" {
+        return Some(Term {
+            number,
+            leader: None,
+        });
+    }
+    Some(Term {
+        number,
+        leader: Some(leader.parse().ok()?),
+    })
+}
+
+/// What is new in a term.
+#[derive(Clone, Copy, Debug, PartialEq, Eq)]
+pub struct News {
+    /// It has started.
+    pub started: bool,
+    /// Its leader has become known.
+    pub leader: Option<u32>,
+}
+
+/// The last term that was told, and whether its leader was.
+#[derive(Clone, Copy, Debug)]
+pub struct Told {
+    term: u16,
+    is_decided: bool,
+}
+
+impl Told {
+    /// Nothing was told yet.
+    pub fn nothing() -> Told {
+        Told {
+            term: 0,
+            is_decided: false,
+        }
+    }
+
+    /// What is new in this term, which counts as told from now on. An earlier one has nothing new.
+    pub fn take(&mut self, term: Term) -> News
+        ensures started { IsTrue result.started ↔ self.old.term < term.number }
+        ensures last { self.new.term ≡ max self.old.term term.number }
+    {
+        let started = self.term < term.number;
+        if started {
+            self.term = term.number;
+            self.is_decided = false;
+        }
+        let is_news = self.term == term.number && !self.is_decided;
+        let leader = if is_news { term.leader } else { None };
+        if leader.is_some() {
+            self.is_decided = true;
+        }
+        News { started, leader }
+    }
+}
+
+#[cfg(test)]
+mod tests;
