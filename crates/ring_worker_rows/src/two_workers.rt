@@ -158,7 +158,7 @@ fn settles<R: Threads + Wait + Clock + Copy + Send + Sync + 'static>(
 
 #[test]
 fn two_workers_settle_a_ring(rt: HostRuntime) -> Result<(), Fail> {
-    for _ in 0..20 {
+    for _ in 0..100 {
         assert!(rt; settles(rt, rt.alloc(), 64)?);
     }
     Ok(())
@@ -166,7 +166,7 @@ fn two_workers_settle_a_ring(rt: HostRuntime) -> Result<(), Fail> {
 
 #[test]
 fn two_workers_with_inboxes_of_one_settle_a_ring(rt: HostRuntime) -> Result<(), Fail> {
-    for _ in 0..20 {
+    for _ in 0..100 {
         assert!(rt; settles(rt, rt.alloc(), 1)?);
     }
     Ok(())
