@@ -5,3 +5,4 @@ pub mod Outcomes
 pub mod Replying
 pub mod Showing
 pub mod Speaking
+pub mod Placing

@@ -5,3 +5,4 @@ pub mod Locks
 pub mod Sessions
 pub mod Tables
 pub mod Twice
+pub mod Places

@@ -15,6 +15,7 @@ mod entry;
 mod front;
 mod locked;
 mod mesh;
+mod placed;
 mod posts;
 mod service;
 mod session;
