@@ -2,7 +2,7 @@ use Rattle.std.proofs.Common.{◌≡◌, ◌+◌, ◌∙◌, ℕ, All, ap, sym, 
 use Rattle.std.proofs.lemmas.List.Elements.{All-drop, All-take}
 use Rattle.std.proofs.lemmas.List.FromFn.{length-map-range_with_len}
 use Rattle.ring_turn.proofs.Returning.{all_are_of_lock}
-use Rattle.ringd.proofs.Sharing.{shared_sync}
+use Rattle.ringd.proofs.Sharing.{table_sync}
 use Rattle.ringd.proofs.sessions.open.Goals as goal
 
 -- there are as many seats as were asked for
@@ -13,7 +13,7 @@ split_off-requires g c =
 
 -- the table may be shared among threads
 pub new-requires-4-sync-A : goal.new-requires-4-sync-A
-new-requires-4-sync-A g c κs within = shared_sync
+new-requires-4-sync-A g c κs within = record { shared = table_sync.shared }
 
 -- the first seats are the workers', and all are of the lock
 pub new-requires-4-clause-seats : goal.new-requires-4-clause-seats
