@@ -6,7 +6,7 @@ ghost use Rattle.ringd.specs.Listening.{BothAt, FirstAt, IsOfConnections, closed
 use crate::config::Config;
 use crate::fault::ProgramFault;
 use crate::sessions;
-use crate::sessions::{Front, Guest, Seat, guests};
+use crate::sessions::{Front, Seat, Serving, guests};
 use ring_lines::{Outlet, put};
 use std::alloc::{AllocError, Global};
 use std::net::{OpenListener, TcpStream};
@@ -94,10 +94,11 @@ where
 }
 
 // Accepts a connection for each guest, and waits for their sessions.
-fn accept_all<R, L>(rt: &R, listener: L, guests: Vec<Guest<'_>>) -> Result<(), ProgramFault>
+fn accept_all<R, L, G>(rt: &R, listener: L, guests: Vec<G>) -> Result<(), ProgramFault>
 where
     R: Threads + Wait + Sync,
     L: OpenListener<Stream = TcpStream> + Drop,
+    G: Serving + Send,
     ensures { IfErr result IsOfConnections }
 {
     thread::scope(

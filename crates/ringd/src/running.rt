@@ -1,5 +1,5 @@
 //! Serves clients until the process is ended, so many at a time.
-ghost use Rattle.std.specs.Prelude.{◌≡◌, ◌≢◌, All, IfErr, MatchOption, MatchResult, false, true};
+ghost use Rattle.std.specs.Prelude.{◌≡◌, All, IfErr, MatchOption, MatchResult, false, true};
 ghost use Rattle.ring_lines.specs.Ends.{Wrote};
 ghost use Rattle.ringd.specs.Running.{FirstOrNone, next_number};
 ghost use Rattle.ringd.specs.Listening.{listening_line};
@@ -8,7 +8,7 @@ use crate::config::Config;
 use crate::fault::ProgramFault;
 use crate::listening::{say_listening, tell};
 use crate::sessions;
-use crate::sessions::{Front, Guest, Seat, guests};
+use crate::sessions::{Front, Seat, Serving, guests};
 use ring_lines::Outlet;
 use std::net::{OpenListener, TcpStream};
 use std::sync::{Mutex, Wait};
@@ -109,16 +109,17 @@ where
 }
 
 // Starts a thread for each guest, and opens the door once they are there.
-fn attend_all<'a, R, L>(
+fn attend_all<R, L, G>(
     rt: &R,
     door: &Mutex<Door<L>>,
-    spare: &Mutex<Vec<Guest<'a>>>,
-    guests: Vec<Guest<'a>>,
+    spare: &Mutex<Vec<G>>,
+    guests: Vec<G>,
     idle: u32,
 ) -> Result<(), ProgramFault>
 where
     R: Threads + Wait + Eprint + Clock + Sync,
     L: OpenListener<Stream = TcpStream> + Send + Drop,
+    G: Serving + Send,
     ensures { IfErr result (λ fault. fault ≡ ProgramFault.Thread) }
 {
     thread::scope(
@@ -140,16 +141,11 @@ where
 }
 
 // Serves one client after another by this guest's seat, as long as the door lets them in.
-fn attend<'a, R, L>(
-    rt: &R,
-    door: &Mutex<Door<L>>,
-    spare: &Mutex<Vec<Guest<'a>>>,
-    guest: Guest<'a>,
-    idle: u32,
-)
+fn attend<R, L, G>(rt: &R, door: &Mutex<Door<L>>, spare: &Mutex<Vec<G>>, guest: G, idle: u32)
 where
     R: Wait + Eprint + Clock,
     L: OpenListener<Stream = TcpStream> + Drop,
+    G: Serving,
 {
     let mut guest = guest;
     for _ in rt.forever() {
@@ -163,9 +159,7 @@ where
 }
 
 // The guest itself, or a spare one where its seat is spent and there is one.
-fn with_turns<'a, R: Wait>(rt: &R, guest: Guest<'a>, spare: &Mutex<Vec<Guest<'a>>>) -> Guest<'a>
-    ensures { guest.entry.seat.left ≢ 0 → result.seat ≡ guest.entry.seat }
-{
+fn with_turns<R: Wait, G: Serving>(rt: &R, guest: G, spare: &Mutex<Vec<G>>) -> G {
     if !guest.is_spent() {
         return guest;
     }

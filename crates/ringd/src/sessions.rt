@@ -1,5 +1,5 @@
 //! The service that the program runs, and its sessions over sockets.
-ghost use Rattle.std.specs.Prelude.{◌≡◌, ◌<◌, ◌≤◌, ◌*◌, ◌+◌, ◌^◌, All, IfErr, IfOk, IsTrue, ◌↔◌, vec_len};
+ghost use Rattle.std.specs.Prelude.{◌≡◌, ◌<◌, ◌≤◌, ◌*◌, ◌+◌, ◌^◌, All, IfErr, IfOk, vec_len};
 ghost use Rattle.ringd.specs.Faults.{IsOfStart};
 ghost use Rattle.ringd.specs.declared.fault.ProgramFault.TheVariants.{NoMemory};
 
@@ -94,23 +94,30 @@ pub fn guests(
     Ok(guests)
 }
 
-impl Guest<'_> {
-    /// Whether its seat has no turn left.
-    pub fn is_spent(&self) -> bool
-        ensures { IsTrue result ↔ (self.now.seat.left ≡ 0) }
-    {
-        self.seat.is_spent()
-    }
+/// What serves one client after another.
+pub trait Serving: Drop {
+    /// Whether it has no turn left for its clients.
+    fn is_spent(&self) -> bool;
 
     /// One session over a socket: each line of the client is answered by one line.
     ///
     /// It ends when the client has sent all, when reading or writing fails, and when memory is refused
     /// before its first line. Every reply goes out at once.
-    pub fn serve<R: Wait>(&mut self, rt: &R, session: u32, stream: &TcpStream) {
+    fn serve<R: Wait>(&mut self, rt: &R, session: u32, stream: &TcpStream);
+}
+
+impl Serving for Guest<'_> {
+    fn is_spent(&self) -> bool {
+        self.seat.is_spent()
+    }
+
+    fn serve<R: Wait>(&mut self, rt: &R, session: u32, stream: &TcpStream) {
         let _ = stream.set_nodelay(true);
-        let mut reader = FromRead(stream);
-        let mut writer = ToWrite(stream);
-        let _ = self.front.serve(rt, &mut self.seat, session, &mut reader, &mut writer, READS);
+        let (mut reader, mut writer) = (FromRead(stream), ToWrite(stream));
+        let seat = &mut self.seat;
+        let _ = self
+            .front
+            .serve(rt, seat, session, &mut reader, &mut writer, READS);
     }
 }
 
