@@ -111,7 +111,7 @@ where
                 let Ok((stream, _)) = listener.accept() else {
                     return Err(ProgramFault::Accept);
                 };
-                let Ok(_) = scope.spawn(move || guest.serve(rt, session, &stream)) else {
+                let Ok(_) = scope.spawn(move || guest.serve(rt, session, &stream, false)) else {
                     return Err(ProgramFault::Thread);
                 };
             }

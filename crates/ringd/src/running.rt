@@ -26,6 +26,8 @@ pub struct Limits {
     pub sessions: u32,
     /// After how many seconds in which nothing comes or goes a session ends; never at 0.
     pub idle: u32,
+    /// Whether each reply is told with its place.
+    pub places: bool,
 }
 
 // Where clients come in, one after another.
@@ -74,7 +76,7 @@ where
         listener,
         listening.as_str(),
         seats,
-        limits.idle,
+        limits,
         out,
     );
     sessions::close(rt, service);
@@ -88,7 +90,7 @@ fn begin<R, L, O>(
     listener: L,
     listening: &str,
     seats: Vec<Seat>,
-    idle: u32,
+    limits: Limits,
     out: &mut O,
 ) -> Result<(), ProgramFault>
 where
@@ -105,7 +107,7 @@ where
     tell(out, listening)?;
     let door = Mutex::new(Door::new(listener));
     let spare = Mutex::new(spare);
-    attend_all(rt, &door, &spare, guests, idle)
+    attend_all(rt, &door, &spare, guests, limits)
 }
 
 // Starts a thread for each guest, and opens the door once they are there.
@@ -114,7 +116,7 @@ fn attend_all<R, L, G>(
     door: &Mutex<Door<L>>,
     spare: &Mutex<Vec<G>>,
     guests: Vec<G>,
-    idle: u32,
+    limits: Limits,
 ) -> Result<(), ProgramFault>
 where
     R: Threads + Wait + Eprint + Clock + Sync,
@@ -130,7 +132,7 @@ where
         {
             let mut held = door.lock(rt);
             for guest in guests {
-                let Ok(_) = scope.spawn(move || attend(rt, door, spare, guest, idle)) else {
+                let Ok(_) = scope.spawn(move || attend(rt, door, spare, guest, limits)) else {
                     return Err(ProgramFault::Thread);
                 };
             }
@@ -141,7 +143,7 @@ where
 }
 
 // Serves one client after another by this guest's seat, as long as the door lets them in.
-fn attend<R, L, G>(rt: &R, door: &Mutex<Door<L>>, spare: &Mutex<Vec<G>>, guest: G, idle: u32)
+fn attend<R, L, G>(rt: &R, door: &Mutex<Door<L>>, spare: &Mutex<Vec<G>>, guest: G, limits: Limits)
 where
     R: Wait + Eprint + Clock,
     L: OpenListener<Stream = TcpStream> + Drop,
@@ -153,8 +155,8 @@ where
             return;
         };
         guest = with_turns(rt, guest, spare);
-        sessions::limit_silence(&stream, idle);
-        guest.serve(rt, session, &stream);
+        sessions::limit_silence(&stream, limits.idle);
+        guest.serve(rt, session, &stream, limits.places);
     }
 }
 

@@ -99,11 +99,12 @@ pub trait Serving: Drop {
     /// Whether it has no turn left for its clients.
     fn is_spent(&self) -> bool;
 
-    /// One session over a socket: each line of the client is answered by one line.
+    /// One session over a socket: each line of the client is answered by one line, told with its place where
+    /// places are asked for.
     ///
     /// It ends when the client has sent all, when reading or writing fails, and when memory is refused
     /// before its first line. Every reply goes out at once.
-    fn serve<R: Wait>(&mut self, rt: &R, session: u32, stream: &TcpStream);
+    fn serve<R: Wait>(&mut self, rt: &R, session: u32, stream: &TcpStream, places: bool);
 }
 
 impl Serving for Guest<'_> {
@@ -111,13 +112,15 @@ impl Serving for Guest<'_> {
         self.seat.is_spent()
     }
 
-    fn serve<R: Wait>(&mut self, rt: &R, session: u32, stream: &TcpStream) {
+    fn serve<R: Wait>(&mut self, rt: &R, session: u32, stream: &TcpStream, places: bool) {
         let _ = stream.set_nodelay(true);
         let (mut reader, mut writer) = (FromRead(stream), ToWrite(stream));
-        let seat = &mut self.seat;
-        let _ = self
-            .front
-            .serve(rt, seat, session, &mut reader, &mut writer, READS);
+        let (front, seat) = (self.front, &mut self.seat);
+        let _ = if places {
+            front.serve_placed(rt, seat, session, &mut reader, &mut writer, READS)
+        } else {
+            front.serve(rt, seat, session, &mut reader, &mut writer, READS)
+        };
     }
 }
 
