@@ -1,7 +1,4 @@
 -- The program's table may be shared among threads, as it is lent to them.
-use mir.Syntax.{Ty}
-use denote.Exit.{Kept}
-use denote.Param.{arg}
 use denote.Param.Send.{IsSync}
 use Rattle.std.below.core.specs.contracts.clone.Clone+copy.TheImpl as copy
 use Rattle.ring_any.specs.contracts.any.Any as any
@@ -16,7 +13,3 @@ use Rattle.ring_turn.proofs.Crossing.{lock_sync}
 
 pub table_sync : IsSync (lock.the_row any.the_row message.the_row state.the_row election.ghosts (copy.ghosts any.the_row) (record {}) same.ghosts (copy.ghosts message.the_row) (record {}) same_message.ghosts)
 table_sync = lock_sync any.the_row message.the_row state.the_row election.ghosts (copy.ghosts any.the_row) (record {}) same.ghosts (copy.ghosts message.the_row) (record {}) same_message.ghosts any_crosses.the_send any_crosses.the_sync
-
--- and wherever it stands as an argument
-pub table_sync_at : (layout : Ty) (kept : Kept) → IsSync (arg layout kept (lock.the_row any.the_row message.the_row state.the_row election.ghosts (copy.ghosts any.the_row) (record {}) same.ghosts (copy.ghosts message.the_row) (record {}) same_message.ghosts))
-table_sync_at layout kept = record { shared = table_sync.shared }

@@ -8,7 +8,7 @@ use crate::config::Config;
 use crate::fault::ProgramFault;
 use crate::listening::{say_listening, tell};
 use crate::sessions;
-use crate::sessions::{Front, Seat, Serving, guests};
+use crate::sessions::{Front, Guest, Seat, Serving, guests};
 use ring_lines::Outlet;
 use std::net::{OpenListener, TcpStream};
 use std::sync::{Mutex, Wait};
@@ -107,7 +107,23 @@ where
     tell(out, listening)?;
     let door = Mutex::new(Door::new(listener));
     let spare = Mutex::new(spare);
-    attend_all(rt, &door, &spare, guests, limits)
+    seat_all(rt, &door, &spare, guests, limits)
+}
+
+// Has guests of the table serve.
+fn seat_all<'a, R, L>(
+    rt: &R,
+    door: &Mutex<Door<L>>,
+    spare: &Mutex<Vec<Guest<'a>>>,
+    guests: Vec<Guest<'a>>,
+    limits: Limits,
+) -> Result<(), ProgramFault>
+where
+    R: Threads + Wait + Eprint + Clock + Sync,
+    L: OpenListener<Stream = TcpStream> + Send + Drop,
+    ensures { IfErr result (λ fault. fault ≡ ProgramFault.Thread) }
+{
+    attend_all(rt, door, spare, guests, limits)
 }
 
 // Starts a thread for each guest, and opens the door once they are there.
