@@ -7,3 +7,4 @@ pub mod Outcomes
 pub mod Replying
 pub mod Showing
 pub mod Speaking
+pub mod Placing

@@ -6,3 +6,4 @@ pub mod Locks
 pub mod Sessions
 pub mod Tables
 pub mod Twice
+pub mod Places

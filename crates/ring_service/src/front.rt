@@ -2,9 +2,11 @@ ghost use Rattle.std.specs.Prelude.{◌≡◌};
 ghost use Rattle.ring_any.specs.Any.{any_greatest, any_two_way};
 ghost use Rattle.ring_mux.specs.declared.event.Command.TheVariants as command;
 ghost use Rattle.ring_service.specs.Accesses.{Answers};
+ghost use Rattle.ring_service.specs.Places.{ServesPlaced};
 ghost use Rattle.ring_service.specs.Sessions.{Serves};
 
 use crate::access::{Access, Answer};
+use crate::placed::PlacedSession;
 use crate::posts::Posts;
 use crate::session::Session;
 use ring_any::Any;
@@ -88,6 +90,31 @@ impl<A: Access<Any> + Drop> Front<A> {
             front: self,
             rt,
             number: session,
+        };
+        answer_lines(self.alloc, &session, seat, reader, writer, reads)
+    }
+
+    /// The same session, where each reply is told with its place: before the reply stands the place of its
+    /// call and a space, or `-` and a space where the seat gained no entry by the line.
+    pub fn serve_placed<R: Wait, I: Intake, O: Outlet>(
+        &self,
+        rt: &R,
+        seat: &mut A::Seat,
+        session: u32,
+        reader: &mut I,
+        writer: &mut O,
+        reads: u32,
+    ) -> Result<u64, LineFault>
+        requires { A.has_seat self.now seat.old }
+        ensures seat { A.has_seat self.now seat.new }
+        ensures served { ServesPlaced I.read_gives O.write_gives A.mine session seat.old reader.old writer.old reads result seat.new reader.new writer.new }
+    {
+        let session = PlacedSession {
+            session: Session {
+                front: self,
+                rt,
+                number: session,
+            },
         };
         answer_lines(self.alloc, &session, seat, reader, writer, reads)
     }

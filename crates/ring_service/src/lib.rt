@@ -17,6 +17,7 @@ mod front;
 mod history;
 mod locked;
 mod mesh;
+mod placed;
 mod posts;
 mod service;
 mod session;

@@ -8,3 +8,4 @@ mod Telling
 mod Numbers
 mod Adding
 mod Wholes
+mod Sharing

@@ -5,15 +5,17 @@ use Rattle.std.specs.Prelude.{⊤, IfSome, find, slice_get}
 use Rattle.std.specs.Option.{option_map_or}
 use Rattle.std.specs.Str.{bytes_eq}
 use Rattle.clap.specs.Facts.{explicit_source}
-use Rattle.clap.specs.Faults.{check_fault, defaults_fault, level_fault, repeat_fault, set_fault, settle_fault, values_fault, walk_fault}
+use Rattle.clap.specs.Faults.{check_fault, defaults_fault, level_fault, repeat_fault, set_fault, settle_fault, use_fault, values_fault, walk_fault}
 use Rattle.clap.specs.Kinds.{Kinds, or_else, range_kinds, value_kinds, values_kinds}
 use Rattle.clap.specs.Simple.{Shape}
 use Rattle.clap.specs.Takes.{is_given, value_passes}
-use Rattle.clap.specs.Walk.{Held, Row, Rule, Text, default_rows, finished, has_row, more_values, nothing_held, reading_by, rows_after, settled, used_as, values_or_missing, walk, walk_from, with_default, without}
-use Rattle.clap.specs.declared.builder.action.ArgAction.TheVariants.{Set}
+use Rattle.clap.specs.Walk.{Held, Row, Rule, Text, action_of, default_rows, finished, has_row, more_values, nothing_held, reading_by, rows_after, settled, used, used_as, values_or_missing, walk, walk_from, with_default, with_values, without}
+use Rattle.clap.specs.declared.builder.action.ArgAction.{ArgAction}
+use Rattle.clap.specs.declared.builder.action.ArgAction.TheVariants.{Set, SetTrue}
 use Rattle.clap.specs.declared.builder.value_parser.Reading.{Reading}
 use Rattle.clap.specs.declared.error.kind.ErrorKind.{ErrorKind}
-use Rattle.clap.specs.declared.parser.matches.ValueSource.TheVariants.{CommandLine}
+use Rattle.clap.specs.declared.parser.matches.ValueSource.{ValueSource}
+use Rattle.clap.specs.declared.parser.matches.ValueSource.TheVariants.{CommandLine, DefaultValue}
 use Rattle.clap.specs.Facts.{parser_of_value}
 use Rattle.ringd.proofs.Levels.{Each, EachKeeps, each_at_row, settled_keeps, walk_keeps}
 use Rattle.ringd.proofs.Subcommands.{first_has_none, second_has_none}
@@ -39,8 +41,8 @@ begins_still [] more text first = absurd (cc)
 begins_still (v ∷ values) more text first = first
 
 -- a row that gets more values stays well read
-more_keeps : (wanted : Rule) (more : List Text) (row : Row) → IsRead wanted row → Each (IsRead wanted) (more_values CommandLine more row)
-more_keeps wanted more row good = (
+more_keep : (wanted : Rule) (source : ValueSource) (more : List Text) (row : Row) → IsRead wanted row → Each (IsRead wanted) (more_values source more row)
+more_keep wanted source more row good = (
   (λ same. record {
     text = (good same).text;
     first = begins_still row.values more (good same).text (good same).first;
@@ -61,7 +63,7 @@ set_keeps again wanted a made missing (v ∷ vs) rows all none =
     let none_of_use = second_has_none (range_kinds 1 1 (length (v ∷ vs))) of_use none in
     let none_of_values = second_has_none (repeat_fault again a.id rows) (values_fault a (v ∷ vs)) none_of_use in
     each_at_row (IsRead wanted) a.id (more_values CommandLine (v ∷ vs)) (fresh a (v ∷ vs) ∷ []) (without a.id rows)
-    (λ row good. more_keeps wanted (v ∷ vs) row good) (made v vs none_of_values, tt)
+    (λ row good. more_keep wanted CommandLine (v ∷ vs) row good) (made v vs none_of_values, tt)
     (each_at_row (IsRead wanted) a.id (λ _. []) [] rows (λ row good. tt) tt all)
 
 -- a value without a mistake passes
@@ -82,34 +84,63 @@ own_use a v vs none same = record {
 pub other_use : (wanted a : Rule) → bytes_eq a.id wanted.id ≡ false → (v : Text) (vs : List Text) → values_fault a (v ∷ vs) ≡ [] → IsRead wanted (fresh a (v ∷ vs))
 other_use wanted a other v vs none same = absurd (true≢false (sym same ∙ other))
 
--- no argument of the list has a value of its own
-abbrev pub HaveNoDefaults : List Rule → Type 0
-HaveNoDefaults [] = ⊤
-HaveNoDefaults (a ∷ rest) = (a.defaults ≡ []) × HaveNoDefaults rest
+-- values for an argument of another name keep the rows of this one well read
+values_keep : (wanted : Rule) (id : Text) (how : Reading) (source : ValueSource) (values : List Text) (rows : List Row) → bytes_eq id wanted.id ≡ false → Each (IsRead wanted) rows → Each (IsRead wanted) (with_values id how source values rows)
+values_keep wanted id how source values rows other all =
+    each_at_row (IsRead wanted) id (more_values source values) (record { id = id; values = values; count = None; source = Some source; reading = how } ∷ []) rows
+    (λ row good. more_keep wanted source values row good) ((λ same. absurd (true≢false (sym same ∙ other))), tt) all
 
--- such arguments add no rows
-no_default : (rows : List Row) (a : Rule) → a.defaults ≡ [] → with_default rows a ≡ rows
-no_default rows a none = go (has_row a.id rows)
+-- a use of a flag keeps the rows of another argument well read
+pub flag_keeps : (again : Bool) (wanted a : Rule) → bytes_eq a.id wanted.id ≡ false → action_of a ≡ SetTrue → (values : List Text) (rows : List Row) → Each (IsRead wanted) rows → use_fault again a values rows ≡ []
+    → Each (IsRead wanted) (used a values rows)
+flag_keeps again wanted a other acts values rows all none =
+    subst (λ (action : ArgAction). Each (IsRead wanted) (used_as action a.id (reading_by a) (values_or_missing a values) rows)) (sym acts)
+    (values_keep wanted a.id (reading_by a) CommandLine (values_or_missing a values) (without a.id rows) other
+    (each_at_row (IsRead wanted) a.id (λ _. []) [] rows (λ row good. tt) tt all))
+
+-- the default values of an argument keep what holds of each row
+abbrev pub KeepsDefault : (Row → Type 0) → Rule → Type 0
+KeepsDefault good a = (rows : List Row) → Each good rows → Each good (with_default rows a)
+
+abbrev pub KeepDefaults : (Row → Type 0) → List Rule → Type 0
+KeepDefaults good [] = ⊤
+KeepDefaults good (a ∷ rest) = KeepsDefault good a × KeepDefaults good rest
+
+-- an argument that has none adds no rows
+pub no_default : (good : Row → Type 0) (a : Rule) → a.defaults ≡ [] → KeepsDefault good a
+no_default good a none rows all = go (has_row a.id rows)
   where
-    go : (b : Bool) → cond b rows (default_rows a.id (reading_by a) a.defaults rows) ≡ rows
-    go true = refl
-    go false = subst (λ (values : List Text). default_rows a.id (reading_by a) values rows ≡ rows) (sym none) refl
+    go : (b : Bool) → Each good (cond b rows (default_rows a.id (reading_by a) a.defaults rows))
+    go true = all
+    go false = subst (λ (values : List Text). Each good (default_rows a.id (reading_by a) values rows)) (sym none) all
 
-no_defaults : (rules : List Rule) (rows : List Row) → HaveNoDefaults rules → fold with_default rows rules ≡ rows
-no_defaults [] rows none = refl
-no_defaults (a ∷ rest) rows none = ap (λ (l : List Row). fold with_default l rest) (no_default rows a none.0) ∙ no_defaults rest rows none.1
+-- those of an argument of another name keep the rows of this one well read
+pub other_default : (wanted a : Rule) → bytes_eq a.id wanted.id ≡ false → KeepsDefault (IsRead wanted) a
+other_default wanted a other rows all = go (has_row a.id rows)
+  where
+    of_values : (values : List Text) → Each (IsRead wanted) (default_rows a.id (reading_by a) values rows)
+    of_values [] = all
+    of_values (v ∷ vs) = values_keep wanted a.id (reading_by a) DefaultValue (v ∷ vs) rows other all
+
+    go : (b : Bool) → Each (IsRead wanted) (cond b rows (default_rows a.id (reading_by a) a.defaults rows))
+    go true = all
+    go false = of_values a.defaults
+
+defaults_keep : (good : Row → Type 0) (rules : List Rule) (rows : List Row) → KeepDefaults good rules → Each good rows → Each good (fold with_default rows rules)
+defaults_keep good [] rows keep all = all
+defaults_keep good (a ∷ rest) rows keep all = defaults_keep good rest (with_default rows a) keep.1 (keep.0 rows all)
 
 -- the rows of a level whose words have no mistake are well read
-pub level_reads : (s : Shape) (good : Row → Type 0) → EachKeeps s good s.rules → HaveNoDefaults s.rules → (words : List Text) → level_fault s [] nothing_held words false [] ≡ []
+pub level_reads : (s : Shape) (good : Row → Type 0) → EachKeeps s good s.rules → KeepDefaults good s.rules → (words : List Text) → level_fault s [] nothing_held words false [] ≡ []
     → Each good (rows_after s.rules [] words)
-level_reads s good keeps none words fine =
+level_reads s good keeps defaults words fine =
     let end : Held = (walk s.rules [] nothing_held words).held in
     let of_walk : Kinds = walk_fault s [] (walk_from nothing_held) words in
     let of_end : Kinds = settle_fault s.rules s.args_override_self end in
     let of_rest : Kinds = or_else (defaults_fault (settled s.rules end).rows s.rules) (check_fault s (finished s.rules end) false) in
     let walked_well = walk_keeps s good keeps [] (walk_from nothing_held) words tt (first_has_none of_walk (or_else of_end of_rest) fine) in
     let settled_well = settled_keeps s good keeps end walked_well (first_has_none of_end of_rest (second_has_none of_walk (or_else of_end of_rest) fine)) in
-    subst (Each good) (sym (no_defaults s.rules (settled s.rules end).rows none)) settled_well
+    defaults_keep good s.rules (settled s.rules end).rows defaults settled_well
 
 -- and the last checks of such a level have none
 pub level_checks : (s : Shape) (words : List Text) → level_fault s [] nothing_held words false [] ≡ [] → check_fault s (rows_after s.rules [] words) false ≡ []

@@ -20,7 +20,7 @@ use Rattle.ringd.specs.declared.words.Order.{Order}
 use Rattle.ringd.specs.declared.words.Order.TheVariants.{Replay, Run, Serve}
 use Rattle.ringd.proofs.CommandLine.{IsLevel, names_one, run_below, serve_below}
 use Rattle.ringd.proofs.Levels.{Each, EachKeeps, Keeps}
-use Rattle.ringd.proofs.Rows.{IsRead, level_checks, level_reads, other_use, own_use, row_given, row_reads, set_keeps}
+use Rattle.ringd.proofs.Rows.{IsRead, KeepDefaults, flag_keeps, level_checks, level_reads, no_default, other_default, other_use, own_use, row_given, row_reads, set_keeps}
 use Rattle.ringd.proofs.Subcommands.{second_has_none}
 
 -- the arguments of `serve`, as a parse reads them
@@ -39,6 +39,9 @@ run_sessions = unwrap_or (slice_get run_below.rules 1) config_rule
 
 abbrev run_idle : Rule
 run_idle = unwrap_or (slice_get run_below.rules 2) config_rule
+
+abbrev run_places : Rule
+run_places = unwrap_or (slice_get run_below.rules 3) config_rule
 
 -- the help flag of both
 abbrev help_flag : Rule
@@ -118,8 +121,11 @@ run_keeps_config = (
     (
       set_keeps false run_config run_idle (other_use run_config run_idle refl) refl,
       (
-        help_keeps (IsRead run_config),
-        tt,
+        flag_keeps false run_config run_places refl refl,
+        (
+          help_keeps (IsRead run_config),
+          tt,
+        ),
       ),
     ),
   ),
@@ -133,8 +139,11 @@ run_keeps_sessions = (
     (
       set_keeps false run_sessions run_idle (other_use run_sessions run_idle refl) refl,
       (
-        help_keeps (IsRead run_sessions),
-        tt,
+        flag_keeps false run_sessions run_places refl refl,
+        (
+          help_keeps (IsRead run_sessions),
+          tt,
+        ),
       ),
     ),
   ),
@@ -148,8 +157,30 @@ run_keeps_idle = (
     (
       set_keeps false run_idle run_idle (own_use run_idle) refl,
       (
-        help_keeps (IsRead run_idle),
-        tt,
+        flag_keeps false run_idle run_places refl refl,
+        (
+          help_keeps (IsRead run_idle),
+          tt,
+        ),
+      ),
+    ),
+  ),
+)
+
+-- the default of the flag of `run` keeps the rows of any other argument well read, and no other argument has one
+run_defaults : (wanted : Rule) → bytes_eq run_places.id wanted.id ≡ false → KeepDefaults (IsRead wanted) run_below.rules
+run_defaults wanted other = (
+  no_default (IsRead wanted) run_config refl,
+  (
+    no_default (IsRead wanted) run_sessions refl,
+    (
+      no_default (IsRead wanted) run_idle refl,
+      (
+        other_default wanted run_places other,
+        (
+          no_default (IsRead wanted) help_flag refl,
+          tt,
+        ),
       ),
     ),
   ),
@@ -170,8 +201,8 @@ serve_gives : (rows : List Row) → IsLevel serve_below rows → IsServed rows
 serve_gives rows level =
     let there = rows_after serve_below.rules [] level.given in
     let given = both_given (is_given serve_config.id there) (is_given serve_connections.id there) (level_checks serve_below level.given level.fine) in
-    let config_read = level_reads serve_below (IsRead serve_config) serve_keeps_config (refl, (refl, (refl, tt))) level.given level.fine in
-    let connections_read = level_reads serve_below (IsRead serve_connections) serve_keeps_connections (refl, (refl, (refl, tt))) level.given level.fine in
+    let config_read = level_reads serve_below (IsRead serve_config) serve_keeps_config (no_default (IsRead serve_config) serve_config refl, (no_default (IsRead serve_config) serve_connections refl, (no_default (IsRead serve_config) help_flag refl, tt))) level.given level.fine in
+    let connections_read = level_reads serve_below (IsRead serve_connections) serve_keeps_connections (no_default (IsRead serve_connections) serve_config refl, (no_default (IsRead serve_connections) serve_connections refl, (no_default (IsRead serve_connections) help_flag refl, tt))) level.given level.fine in
     let row = row_given serve_connections there given.1 in
     subst IsServed (sym level.is) (record {
       file = has_file serve_config there refl config_read given.0;
@@ -183,9 +214,9 @@ run_gives : (rows : List Row) → IsLevel run_below rows → IsRun rows
 run_gives rows level =
     let there = rows_after run_below.rules [] level.given in
     let given = one_given (is_given run_config.id there) (level_checks run_below level.given level.fine) in
-    let config_read = level_reads run_below (IsRead run_config) run_keeps_config (refl, (refl, (refl, (refl, tt)))) level.given level.fine in
-    let sessions_read = level_reads run_below (IsRead run_sessions) run_keeps_sessions (refl, (refl, (refl, (refl, tt)))) level.given level.fine in
-    let idle_read = level_reads run_below (IsRead run_idle) run_keeps_idle (refl, (refl, (refl, (refl, tt)))) level.given level.fine in
+    let config_read = level_reads run_below (IsRead run_config) run_keeps_config (run_defaults run_config refl) level.given level.fine in
+    let sessions_read = level_reads run_below (IsRead run_sessions) run_keeps_sessions (run_defaults run_sessions refl) level.given level.fine in
+    let idle_read = level_reads run_below (IsRead run_idle) run_keeps_idle (run_defaults run_idle refl) level.given level.fine in
     subst IsRun (sym level.is) (record {
       file = has_file run_config there refl config_read given;
       sessions = may_have_number run_sessions (codes "sessions") 1 64 there refl refl sessions_read;
@@ -204,10 +235,10 @@ named_runs words rows names = run_gives rows ((names_one words (codes "run") row
 pub serves_as_given : (words : List Text) (rows : List Row) (order : Order) → Names words (codes "serve") rows → IsServeOf rows order → IsGiven words order
 serves_as_given words rows Replay names told = absurd told
 serves_as_given words rows (Serve path connections) names told = (rows, names, told)
-serves_as_given words rows (Run path sessions idle) names told = absurd told
+serves_as_given words rows (Run path sessions idle places) names told = absurd told
 
 -- and so that of `run`
 pub runs_as_given : (words : List Text) (rows : List Row) (order : Order) → Names words (codes "run") rows → IsRunOf rows order → IsGiven words order
 runs_as_given words rows Replay names told = absurd told
 runs_as_given words rows (Serve path connections) names told = absurd told
-runs_as_given words rows (Run path sessions idle) names told = (rows, names, told)
+runs_as_given words rows (Run path sessions idle places) names told = (rows, names, told)

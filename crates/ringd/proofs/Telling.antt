@@ -17,7 +17,7 @@ module _ {V : Type 0} (gives : V → Writing → V → Type 0) (from to : V) (fi
   both_at program.Write told = wrote_front last told
   both_at program.Read told = absurd told
   both_at program.Endless told = absurd told
-  both_at program.NoMemory told = absurd told
+  both_at program.NoMemory told = told
   both_at program.Unreadable told = absurd told
   both_at program.Bad told = absurd told
   both_at program.Listen told = absurd told

@@ -1,8 +1,9 @@
 -- The words that the program takes, and the order that they give.
-use Rattle.std.specs.Prelude.{◌≡◌, ◌≢◌, ◌⊎◌, ◌≤◌, [], ⊤, ℕ, codes, pos, List, MatchOption, Option, None, Some, string_bytes, true, false}
+use Rattle.std.specs.Prelude.{◌≡◌, ◌≢◌, ◌⊎◌, ◌≤◌, [], ⊤, Bool, ℕ, codes, pos, List, MatchOption, Option, None, Some, string_bytes, true, false}
 use Rattle.std.specs.Str.Parse.{digits_value, without_leading_plus}
 use Rattle.clap.specs.Words.{App, IsAmong, IsSignedIn, Row, Rule, Text, fault_of, first_of, kind_of, new_app, new_rule, one_of, subcommand_of, with_rule, with_subcommand, without_minus}
 use Rattle.clap.specs.Simple.{new_shape, on_top}
+use Rattle.clap.specs.declared.builder.action.ArgAction.TheVariants.{SetTrue}
 use Rattle.clap.specs.declared.builder.command.Command.{Command}
 use Rattle.clap.specs.declared.builder.command.Command.TheViews.{out-Command}
 use Rattle.clap.specs.declared.builder.value_parser.ValueParser.TheVariants as parser
@@ -34,13 +35,17 @@ sessions_rule = number_rule (codes "sessions") 1 64
 abbrev pub idle_rule : Rule
 idle_rule = number_rule (codes "idle") 0 86400
 
+-- whether `run` tells places
+abbrev pub places_rule : Rule
+places_rule = record (new_rule (codes "places")) { long = Some (codes "places"); action = Some SetTrue }
+
 -- `serve CONFIG --connections K`
 abbrev pub serve_app : App
 serve_app = with_rule (with_rule (new_app (codes "serve")) config_rule) connections_rule
 
--- `run CONFIG`, with `--sessions N` and `--idle SECONDS` where they are given
+-- `run CONFIG`, with `--sessions N`, `--idle SECONDS` and `--places` where they are given
 abbrev pub run_app : App
-run_app = with_rule (with_rule (with_rule (new_app (codes "run")) config_rule) sessions_rule) idle_rule
+run_app = with_rule (with_rule (with_rule (with_rule (new_app (codes "run")) config_rule) sessions_rule) idle_rule) places_rule
 
 -- the command line: one of the subcommands `replay`, `serve` and `run` must be given
 abbrev pub ringd_app : App
@@ -79,12 +84,17 @@ pub record Serves (rows : List Row) (path : Text) (connections : ℕ) : Type 0 w
 abbrev pub IsGivenOr : ℕ → ℕ → ℕ → Option Text → ℕ → Type 0
 IsGivenOr usual least most given n = MatchOption given (n ≡ usual) (λ text. IsNumberIn least most text n)
 
--- The rows of `run`: its file, its number of sessions, 16 where none is given, and its seconds, 0 where none
--- are given.
-pub record Runs (rows : List Row) (path : Text) (sessions idle : ℕ) : Type 0 where
+-- a flag: false where it has no text, and else what its text says
+abbrev pub IsFlag : Option Text → Bool → Type 0
+IsFlag given flag = (given ≡ None → flag ≡ false) × (given ≡ Some (codes "true") → flag ≡ true) × (given ≡ Some (codes "false") → flag ≡ false)
+
+-- The rows of `run`: its file, its number of sessions, 16 where none is given, its seconds, 0 where none
+-- are given, and whether it tells places.
+pub record Runs (rows : List Row) (path : Text) (sessions idle : ℕ) (places : Bool) : Type 0 where
   pub file : first_of (codes "config") rows ≡ Some path
   pub sessions_given : IsGivenOr 16 1 64 (one_of (codes "sessions") rows) sessions
   pub idle_given : IsGivenOr 0 0 86400 (one_of (codes "idle") rows) idle
+  pub places_given : IsFlag (one_of (codes "places") rows) places
 
 -- the order of `serve` that rows give, and that of `run`
 abbrev pub IsServeOf : List Row → Order → Type 0
@@ -92,14 +102,14 @@ IsServeOf rows (Serve path connections) = Serves rows (string_bytes path) connec
 IsServeOf rows _ = ⊥
 
 abbrev pub IsRunOf : List Row → Order → Type 0
-IsRunOf rows (Run path sessions idle) = Runs rows (string_bytes path) sessions idle
+IsRunOf rows (Run path sessions idle places) = Runs rows (string_bytes path) sessions idle places
 IsRunOf rows _ = ⊥
 
 -- the command line takes the words, and this is the order that they give
 abbrev pub IsGiven : List Text → Order → Type 0
 IsGiven words Replay = (rows : List Row) × Names words (codes "replay") rows
 IsGiven words (Serve path connections) = (rows : List Row) × Names words (codes "serve") rows × Serves rows (string_bytes path) connections
-IsGiven words (Run path sessions idle) = (rows : List Row) × Names words (codes "run") rows × Runs rows (string_bytes path) sessions idle
+IsGiven words (Run path sessions idle places) = (rows : List Row) × Names words (codes "run") rows × Runs rows (string_bytes path) sessions idle places
 
 -- ---- what rows hold before they are read
 

@@ -1,12 +1,12 @@
 //! Accepts clients, as many as were asked for, each with a session in a thread of its own.
-ghost use Rattle.std.specs.Prelude.{◌≡◌, ◌++◌, IfErr, IfOk, MatchResult, string_bytes};
+ghost use Rattle.std.specs.Prelude.{◌≡◌, ◌++◌, All, IfErr, IfOk, MatchResult, string_bytes};
 ghost use Rattle.ring_lines.specs.Ends.{Wrote, WroteFront};
 ghost use Rattle.ringd.specs.Listening.{BothAt, FirstAt, IsOfConnections, closed_line, listening_line};
 
 use crate::config::Config;
 use crate::fault::ProgramFault;
 use crate::sessions;
-use crate::sessions::{Front, Seat};
+use crate::sessions::{Front, Seat, Serving, guests};
 use ring_lines::{Outlet, put};
 use std::alloc::{AllocError, Global};
 use std::net::{OpenListener, TcpStream};
@@ -80,27 +80,25 @@ fn serve_all<R, L, O>(
     out: &mut O,
 ) -> Result<(), ProgramFault>
 where
-    R: Threads + Wait + Sync,
+    R: Threads + Wait + AllocGlobal + Sync,
     L: OpenListener<Stream = TcpStream> + Drop,
     O: Outlet,
+    requires { All (λ seat. seat.lock ≡ front.now.id) seats.items }
     ensures { MatchResult result
         (λ _. Wrote O.write_gives out.old listening.now out.new)
         (λ fault. FirstAt O.write_gives out.old listening.now fault out.new) }
 {
+    let guests = guests(rt.alloc(), front, seats)?;
     tell(out, listening)?;
-    accept_all(rt, front, listener, seats)
+    accept_all(rt, listener, guests)
 }
 
-// Accepts a connection for each seat, and waits for their sessions.
-fn accept_all<R, L>(
-    rt: &R,
-    front: &Front,
-    listener: L,
-    seats: Vec<Seat>,
-) -> Result<(), ProgramFault>
+// Accepts a connection for each guest, and waits for their sessions.
+fn accept_all<R, L, G>(rt: &R, listener: L, guests: Vec<G>) -> Result<(), ProgramFault>
 where
     R: Threads + Wait + Sync,
     L: OpenListener<Stream = TcpStream> + Drop,
+    G: Serving + Send,
     ensures { IfErr result IsOfConnections }
 {
     thread::scope(
@@ -109,13 +107,11 @@ where
         move |scope| -> Result<(), ProgramFault>
             ensures { IfErr result IsOfConnections }
         {
-            for (session, mut seat) in (1..=u32::MAX).zip(seats) {
+            for (session, mut guest) in (1..=u32::MAX).zip(guests) {
                 let Ok((stream, _)) = listener.accept() else {
                     return Err(ProgramFault::Accept);
                 };
-                let Ok(_) = scope.spawn(move || {
-                    sessions::serve_one(rt, front, &mut seat, session, &stream);
-                }) else {
+                let Ok(_) = scope.spawn(move || guest.serve(rt, session, &stream, false)) else {
                     return Err(ProgramFault::Thread);
                 };
             }

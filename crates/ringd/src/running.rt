@@ -1,5 +1,5 @@
 //! Serves clients until the process is ended, so many at a time.
-ghost use Rattle.std.specs.Prelude.{◌≡◌, IfErr, MatchOption, MatchResult, false, true};
+ghost use Rattle.std.specs.Prelude.{◌≡◌, All, IfErr, MatchOption, MatchResult, false, true};
 ghost use Rattle.ring_lines.specs.Ends.{Wrote};
 ghost use Rattle.ringd.specs.Running.{FirstOrNone, next_number};
 ghost use Rattle.ringd.specs.Listening.{listening_line};
@@ -8,13 +8,16 @@ use crate::config::Config;
 use crate::fault::ProgramFault;
 use crate::listening::{say_listening, tell};
 use crate::sessions;
-use crate::sessions::{Front, Seat};
+use crate::sessions::{Front, Guest, Seat, Serving, guests};
 use ring_lines::Outlet;
 use std::net::{OpenListener, TcpStream};
 use std::sync::{Mutex, Wait};
 use std::thread;
 use std::thread::Threads;
 use std::time::{Clock, Duration};
+
+// How many seats there are for each session that may run.
+const SEATS_EACH: u32 = 16;
 
 /// How sessions are held.
 #[derive(Clone, Copy, Debug, PartialEq, Eq)]
@@ -23,6 +26,8 @@ pub struct Limits {
     pub sessions: u32,
     /// After how many seconds in which nothing comes or goes a session ends; never at 0.
     pub idle: u32,
+    /// Whether each reply is told with its place.
+    pub places: bool,
 }
 
 // Where clients come in, one after another.
@@ -40,7 +45,8 @@ struct Door<L> {
 /// Makes the service, says that it listens, and serves clients until the process is ended.
 ///
 /// As many threads as there may be sessions accept one client after another, so a further client waits until
-/// a session has ended. Sessions are numbered from 1 in the order of their accepts, and from 1 again
+/// a session has ended. Each thread has a seat of the table for its sessions. A session that comes when the
+/// seat is spent gets one of those that are kept for that. Sessions are numbered from 1 in the order of their accepts, and from 1 again
 /// after 4294967295. A session's fault ends that session alone. A failed accept, as for want of
 /// descriptors or memory, is told on standard error the first time, and is tried again after 100 ms. So
 /// it returns only where it could not begin: where memory was refused, a write failed or a thread could
@@ -62,14 +68,15 @@ where
 {
     let alloc = rt.alloc();
     let listening = say_listening(alloc, config.port)?;
-    let (service, seats) = sessions::open(rt, config, limits.sessions)?;
+    let seats = limits.sessions.saturating_mul(SEATS_EACH);
+    let (service, seats) = sessions::open(rt, config, seats)?;
     let begun = begin(
         rt,
         sessions::front(&service),
         listener,
         listening.as_str(),
         seats,
-        limits.idle,
+        limits,
         out,
     );
     sessions::close(rt, service);
@@ -83,33 +90,54 @@ fn begin<R, L, O>(
     listener: L,
     listening: &str,
     seats: Vec<Seat>,
-    idle: u32,
+    limits: Limits,
     out: &mut O,
 ) -> Result<(), ProgramFault>
 where
-    R: Threads + Wait + Eprint + Clock + Sync,
+    R: Threads + Wait + AllocGlobal + Eprint + Clock + Sync,
     L: OpenListener<Stream = TcpStream> + Send + Drop,
     O: Outlet,
+    requires { All (λ seat. seat.lock ≡ front.now.id) seats.items }
     ensures { MatchResult result
         (λ _. Wrote O.write_gives out.old listening.now out.new)
         (λ fault. FirstOrNone O.write_gives out.old listening.now fault out.new) }
 {
+    let mut guests = guests(rt.alloc(), front, seats)?;
+    let spare = guests.split_off(guests.len() / SEATS_EACH as usize)?;
     tell(out, listening)?;
     let door = Mutex::new(Door::new(listener));
-    attend_all(rt, front, &door, seats, idle)
+    let spare = Mutex::new(spare);
+    seat_all(rt, &door, &spare, guests, limits)
 }
 
-// Starts a thread for each seat, and opens the door once they are there.
-fn attend_all<R, L>(
+// Has guests of the table serve.
+fn seat_all<'a, R, L>(
     rt: &R,
-    front: &Front,
     door: &Mutex<Door<L>>,
-    seats: Vec<Seat>,
-    idle: u32,
+    spare: &Mutex<Vec<Guest<'a>>>,
+    guests: Vec<Guest<'a>>,
+    limits: Limits,
 ) -> Result<(), ProgramFault>
 where
     R: Threads + Wait + Eprint + Clock + Sync,
     L: OpenListener<Stream = TcpStream> + Send + Drop,
+    ensures { IfErr result (λ fault. fault ≡ ProgramFault.Thread) }
+{
+    attend_all(rt, door, spare, guests, limits)
+}
+
+// Starts a thread for each guest, and opens the door once they are there.
+fn attend_all<R, L, G>(
+    rt: &R,
+    door: &Mutex<Door<L>>,
+    spare: &Mutex<Vec<G>>,
+    guests: Vec<G>,
+    limits: Limits,
+) -> Result<(), ProgramFault>
+where
+    R: Threads + Wait + Eprint + Clock + Sync,
+    L: OpenListener<Stream = TcpStream> + Send + Drop,
+    G: Serving + Send,
     ensures { IfErr result (λ fault. fault ≡ ProgramFault.Thread) }
 {
     thread::scope(
@@ -119,8 +147,8 @@ where
             ensures { IfErr result (λ fault. fault ≡ ProgramFault.Thread) }
         {
             let mut held = door.lock(rt);
-            for seat in seats {
-                let Ok(_) = scope.spawn(move || attend(rt, front, door, seat, idle)) else {
+            for guest in guests {
+                let Ok(_) = scope.spawn(move || attend(rt, door, spare, guest, limits)) else {
                     return Err(ProgramFault::Thread);
                 };
             }
@@ -130,19 +158,32 @@ where
     )
 }
 
-// Serves one client after another by this seat, as long as the door lets them in.
-fn attend<R, L>(rt: &R, front: &Front, door: &Mutex<Door<L>>, seat: Seat, idle: u32)
+// Serves one client after another by this guest's seat, as long as the door lets them in.
+fn attend<R, L, G>(rt: &R, door: &Mutex<Door<L>>, spare: &Mutex<Vec<G>>, guest: G, limits: Limits)
 where
     R: Wait + Eprint + Clock,
     L: OpenListener<Stream = TcpStream> + Drop,
+    G: Serving,
 {
-    let mut seat = seat;
+    let mut guest = guest;
     for _ in rt.forever() {
         let Some((session, stream)) = door.lock(rt).admit(rt) else {
             return;
         };
-        sessions::limit_silence(&stream, idle);
-        sessions::serve_one(rt, front, &mut seat, session, &stream);
+        guest = with_turns(rt, guest, spare);
+        sessions::limit_silence(&stream, limits.idle);
+        guest.serve(rt, session, &stream, limits.places);
+    }
+}
+
+// The guest itself, or a spare one where its seat is spent and there is one.
+fn with_turns<R: Wait, G: Serving>(rt: &R, guest: G, spare: &Mutex<Vec<G>>) -> G {
+    if !guest.is_spent() {
+        return guest;
+    }
+    match spare.lock(rt).pop() {
+        Some(fresh) => fresh,
+        None => guest,
     }
 }
 

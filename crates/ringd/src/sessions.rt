@@ -1,12 +1,14 @@
 //! The service that the program runs, and its sessions over sockets.
-ghost use Rattle.std.specs.Prelude.{◌≡◌, ◌≤◌, IfErr, IfOk, vec_len};
+ghost use Rattle.std.specs.Prelude.{◌≡◌, ◌<◌, ◌≤◌, ◌*◌, ◌+◌, ◌^◌, All, IfErr, IfOk, vec_len};
 ghost use Rattle.ringd.specs.Faults.{IsOfStart};
+ghost use Rattle.ringd.specs.declared.fault.ProgramFault.TheVariants.{NoMemory};
 
 use crate::config::Config;
 use crate::fault::ProgramFault;
 use ring_any::Any;
 use ring_lines::{FromRead, ToWrite};
-use ring_service::{LockedSeat, LockedTable, Table};
+use ring_service::Table;
+use ring_turn::TurnLock;
 use std::alloc::Global;
 use std::net::TcpStream;
 use std::sync::{Arc, Wait};
@@ -16,11 +18,14 @@ use std::time::{Clock, Duration};
 // How many read calls a session makes at most.
 const READS: u32 = u32::MAX;
 
+// How many turns each seat has.
+const TURNS: u64 = 1 << 30;
+
 /// How the program's sessions and workers share its table.
-pub type Access = LockedTable<Any>;
+pub type Access = TurnLock<Any>;
 
 /// The seat by which a session, or a worker, reaches the table.
-pub type Seat = LockedSeat<Any>;
+pub type Seat = ring_turn::Seat<Any>;
 
 /// What sessions share.
 pub type Front = ring_service::Front<Access>;
@@ -28,21 +33,29 @@ pub type Front = ring_service::Front<Access>;
 /// The service over the program's table.
 pub type Service = ring_service::Service<Access>;
 
-/// The service that a configuration describes, without groups, and a seat for each of so many sessions.
+/// A seat of the table, for one session after another.
+#[derive(Drop)]
+pub struct Guest<'a> {
+    front: &'a Front,
+    seat: Seat,
+    ghost of_front: { seat.lock ≡ front.now.id },
+}
+
+/// The service that a configuration describes, without groups, and so many seats for sessions.
 pub fn open<R>(rt: &R, config: &Config, sessions: u32) -> Result<(Service, Vec<Seat>), ProgramFault>
 where
     R: Threads + Wait + Clock + AllocGlobal + Copy + Send + Drop + 'static,
     ensures seats { IfOk result (λ opened. vec_len opened.1 ≡ sessions) }
+    ensures theirs { IfOk result (λ opened. All (λ seat. seat.lock ≡ opened.0.id) opened.1.items) }
     ensures fault { IfErr result IsOfStart }
 {
     let alloc = rt.alloc();
-    let sessions = sessions as usize;
-    let table = Table::new(alloc);
-    let Ok((table, mut seats)) = LockedTable::new(alloc, table, config.workers + sessions) else {
+    let all = config.workers + sessions as usize;
+    let Ok((lock, mut seats)) = TurnLock::new(alloc, Table::new(alloc), all, TURNS) else {
         return Err(ProgramFault::NoMemory);
     };
     let guests = seats.split_off(config.workers)?;
-    let Ok(access) = Arc::new(alloc, table) else {
+    let Ok(access) = Arc::new(alloc, lock) else {
         return Err(ProgramFault::NoMemory);
     };
     let service = Service::new(rt, alloc, access, seats, config.workers, config.inbox)?;
@@ -50,7 +63,9 @@ where
 }
 
 /// What the sessions of a service share. Takes no memory.
-pub fn front(service: &Service) -> &Front {
+pub fn front(service: &Service) -> &Front
+    ensures { result.now ≡ service.now }
+{
     service.front()
 }
 
@@ -59,21 +74,54 @@ pub fn close<R: Threads + Wait>(rt: &R, service: Service) {
     let _closing = service.close(rt);
 }
 
-/// One session over a socket, by its seat: each line of the client is answered by one line.
-///
-/// It ends when the client has sent all, when reading or writing fails, and when memory is refused
-/// before its first line. Every reply goes out at once.
-pub fn serve_one<R: Wait>(
-    rt: &R,
+/// A guest for each seat, from the last one down to the first. Refused for want of memory alone.
+pub fn guests(
+    alloc: Global,
     front: &Front,
-    seat: &mut Seat,
-    session: u32,
-    stream: &TcpStream,
-) {
-    let _ = stream.set_nodelay(true);
-    let mut reader = FromRead(stream);
-    let mut writer = ToWrite(stream);
-    let _ = front.serve(rt, seat, session, &mut reader, &mut writer, READS);
+    seats: Vec<Seat>,
+) -> Result<Vec<Guest<'_>>, ProgramFault>
+    requires { All (λ seat. seat.lock ≡ front.now.id) seats.items }
+    ensures guests { IfOk result (λ guests. vec_len guests ≡ vec_len seats) }
+    ensures fault { IfErr result (λ fault. fault ≡ NoMemory) }
+{
+    let mut rest = seats;
+    let Ok(mut guests) = Vec::with_capacity(alloc, rest.len()) else {
+        return Err(ProgramFault::NoMemory);
+    };
+    while let Some(seat) = rest.pop() {
+        guests.push_reserved(Guest { front, seat });
+    }
+    Ok(guests)
+}
+
+/// What serves one client after another.
+pub trait Serving: Drop {
+    /// Whether it has no turn left for its clients.
+    fn is_spent(&self) -> bool;
+
+    /// One session over a socket: each line of the client is answered by one line, told with its place where
+    /// places are asked for.
+    ///
+    /// It ends when the client has sent all, when reading or writing fails, and when memory is refused
+    /// before its first line. Every reply goes out at once.
+    fn serve<R: Wait>(&mut self, rt: &R, session: u32, stream: &TcpStream, places: bool);
+}
+
+impl Serving for Guest<'_> {
+    fn is_spent(&self) -> bool {
+        self.seat.is_spent()
+    }
+
+    fn serve<R: Wait>(&mut self, rt: &R, session: u32, stream: &TcpStream, places: bool) {
+        let _ = stream.set_nodelay(true);
+        let (mut reader, mut writer) = (FromRead(stream), ToWrite(stream));
+        let (front, seat) = (self.front, &mut self.seat);
+        let _ = if places {
+            front.serve_placed(rt, seat, session, &mut reader, &mut writer, READS)
+        } else {
+            front.serve(rt, seat, session, &mut reader, &mut writer, READS)
+        };
+    }
 }
 
 /// Has a session end where its client sends nothing, or takes no reply, for so many seconds; never at 0.

@@ -2,10 +2,10 @@
 ghost use Rattle.std.specs.Prelude.{◌≡◌, ◌∷◌, [], ℕ, List, IfErr, IfOk, IsOkUnless, codes, false, map, string_bytes, true};
 ghost use Rattle.clap.specs.Words.{app_of, found_of, kind_of, rows_of, rule_of, takes, Text};
 ghost use Rattle.clap.specs.declared.error.kind.ErrorKind.TheVariants.{ValueValidation};
-ghost use Rattle.ringd.specs.Words.{HasCause, IsFaultOf, IsGiven, IsLocal, IsRun, IsRunOf, IsServeOf, IsServed, config_rule, connections_rule, idle_rule, ringd_app, run_app, serve_app, sessions_rule};
+ghost use Rattle.ringd.specs.Words.{HasCause, IsFaultOf, IsGiven, IsLocal, IsRun, IsRunOf, IsServeOf, IsServed, config_rule, connections_rule, idle_rule, places_rule, ringd_app, run_app, serve_app, sessions_rule};
 
 use clap::error::ErrorKind;
-use clap::{Arg, ArgMatches, Command};
+use clap::{Arg, ArgAction, ArgMatches, Command};
 use std::alloc::{AllocError, Global};
 use thiserror::Error;
 
@@ -27,6 +27,7 @@ pub enum Order {
         path: String,
         sessions: u32,
         idle: u32,
+        places: bool,
     },
 }
 
@@ -100,7 +101,8 @@ fn run_command<'a>(alloc: Global) -> Result<Command<'a>, AllocError>
         )
         .arg(config_arg(alloc))?
         .arg(sessions_arg(alloc))?
-        .arg(idle_arg(alloc))
+        .arg(idle_arg(alloc))?
+        .arg(places_arg(alloc))
 }
 
 // The file of the configuration.
@@ -150,6 +152,19 @@ fn idle_arg<'a>(alloc: Global) -> Arg<'a>
         .value_parser(clap::value_parser!(u32).range(0..=86400))
         .help(
             "Ends a session whose client sends nothing, or takes no reply, for so long, 1 to 86400; never at 0, or where it isn't given",
+        )
+}
+
+// Whether `run` tells the place of each reply.
+fn places_arg<'a>(alloc: Global) -> Arg<'a>
+    ensures rule { rule_of result ≡ places_rule }
+    ensures own { result.global ≡ false }
+{
+    Arg::new(alloc, "places")
+        .long("places")
+        .action(ArgAction::SetTrue)
+        .help(
+            "Tells before each reply its place in the history of all commands, or - where it has none",
         )
 }
 
@@ -212,10 +227,12 @@ fn run_order(alloc: Global, given: &ArgMatches<'_>) -> Result<Order, AllocError>
     };
     let sessions = given.get_one::<u32>("sessions").unwrap_or(SESSIONS);
     let idle = given.get_one::<u32>("idle").unwrap_or(0);
+    let places = given.get_flag("places");
     Ok(Order::Run {
         path: String::from_str(alloc, path)?,
         sessions,
         idle,
+        places,
     })
 }
 

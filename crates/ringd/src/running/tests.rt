@@ -28,6 +28,7 @@ fn a_run_says_that_it_listens(rt: HostRuntime) -> Result<(), Fail> {
     let nobody = Limits {
         sessions: 0,
         idle: 0,
+        places: false,
     };
     for (fault_at, told, wanted) in [
         (0, b"listening 127.0.0.1:80\n".as_slice(), Ok(())),

@@ -65,16 +65,16 @@ fn serve_names_a_file_and_a_number(rt: HostRuntime) {
 
 #[test]
 fn run_has_its_usual_numbers(rt: HostRuntime) {
-    for (line, at_a_time, seconds) in [
-        ("ringd run x", 16, 0),
-        ("ringd run --sessions 64 x", 64, 0),
-        ("ringd run x --idle=30 --sessions 1", 1, 30),
-        ("ringd run x --idle 86400", 16, 86400),
+    for (line, at_a_time, seconds, tells) in [
+        ("ringd run x", 16, 0, false),
+        ("ringd run --sessions 64 x", 64, 0, false),
+        ("ringd run x --idle=30 --places --sessions 1", 1, 30, true),
+        ("ringd run x --idle 86400", 16, 86400, false),
     ] {
         let order = read_again(rt.alloc(), line);
         assert!(rt;
-            matches!(&order, Ok(Order::Run { path, sessions, idle })
-            if path.as_str() == "x" && *sessions == at_a_time && *idle == seconds),
+            matches!(&order, Ok(Order::Run { path, sessions, idle, places })
+            if path.as_str() == "x" && *sessions == at_a_time && *idle == seconds && *places == tells),
             "{line}"
         );
     }
@@ -102,6 +102,8 @@ fn numbers_out_of_range_and_missing_words_are_refused(rt: HostRuntime) -> Result
         "ringd run x --idle 86401",
         "ringd run x --idle 1.5",
         "ringd run x --connections 2",
+        "ringd run x --places --places",
+        "ringd run x --places=true",
         "ringd serve --help",
     ] {
         let text = refusal(rt.alloc(), line)?.ok_or("taken")?;

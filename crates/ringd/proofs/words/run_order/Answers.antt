@@ -2,8 +2,8 @@ use Rattle.std.proofs.Common.{◌≡◌, ◌∙◌, ap, arith, subst, sym}
 use Rattle.std.specs.Prelude.{Some, codes, string_bytes}
 use Rattle.std.specs.Str.Parse.{ExplainsUnsignedError, HasUnsignedDigitsIfOk, ParsesUnsigned}
 use Rattle.clap.specs.Words.{found_of, one_of, rows_of}
-use Rattle.clap.proofs.WalkLemmas.{first_value-rows}
-use Rattle.ringd.specs.Words.{IsGivenOr}
+use Rattle.clap.proofs.WalkLemmas.{first_value-rows, one_text-rows}
+use Rattle.ringd.specs.Words.{IsFlag, IsGivenOr}
 use Rattle.ringd.proofs.Numbers.{number_or, text_given, text_read}
 use Rattle.ringd.proofs.words.run_order.Goals as goal
 
@@ -25,4 +25,5 @@ returns c =
       file = c.requires.file.file ∙ ap (λ text. Some text) (sym path);
       sessions_given = subst (λ n. IsGivenOr 16 1 64 (one_of (codes "sessions") (rows_of found)) n) (sym c.unwrap_or-sessions.ensures) sessions;
       idle_given = subst (λ n. IsGivenOr 0 0 86400 (one_of (codes "idle") (rows_of found)) n) (sym c.unwrap_or-idle.ensures) idle;
+      places_given = subst (λ given. IsFlag given c.get_flag-places.result) (one_text-rows found (codes "places")) (c.get_flag-places.ensures.none, c.get_flag-places.ensures.value, c.get_flag-places.ensures.other);
     }

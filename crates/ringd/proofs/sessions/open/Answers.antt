@@ -1,0 +1,38 @@
+use Rattle.std.proofs.Common.{◌≡◌, ◌+◌, ◌∙◌, ℕ, All, ap, sym, subst, length, arith}
+use Rattle.std.proofs.lemmas.List.Elements.{All-drop, All-take}
+use Rattle.std.proofs.lemmas.List.FromFn.{length-map-range_with_len}
+use Rattle.ring_turn.proofs.Returning.{all_are_of_lock}
+use Rattle.ringd.proofs.Sharing.{table_sync}
+use Rattle.ringd.proofs.sessions.open.Goals as goal
+
+-- there are as many seats as were asked for
+pub split_off-requires : goal.split_off-requires
+split_off-requires g c =
+    let counted : length c.in-Ok.seats.items ≡ c.args.config.now.workers + c.args.sessions = ap length c.in-Ok.ensures.seats ∙ length-map-range_with_len _ 0 _ in
+    let same = c.in-Ok.seats.ok.0 in omega (arith, counted, same)
+
+-- the table may be shared among threads
+pub new-requires-4-sync-A : goal.new-requires-4-sync-A
+new-requires-4-sync-A g c κs within = record { shared = table_sync.shared }
+
+-- the first seats are the workers', and all are of the lock
+pub new-requires-4-clause-seats : goal.new-requires-4-clause-seats
+new-requires-4-clause-seats g c κs within =
+    let all = all_are_of_lock _ _ _ _ _ c.in-Ok.ensures.seats in
+    let first = subst (All (λ seat. seat.lock ≡ c.in-Ok.lock.id)) (sym c.in_ok-guests.ensures.items) (All-take (λ seat. seat.lock ≡ c.in-Ok.lock.id) c.args.config.now.workers c.in-Ok.seats.items all) in (
+      sym c.split_off.new.self.ok.0 ∙ c.in_ok-guests.ensures.len,
+      subst (λ lock. All (λ seat. seat.lock ≡ lock.id) c.split_off.new.self.items) (sym c.in-Ok-new.ensures.ok) first,
+    )
+
+-- the others are the sessions'
+pub returns-clause-seats : goal.returns-clause-seats
+returns-clause-seats g c =
+    let counted : length c.in-Ok.seats.items ≡ c.args.config.now.workers + c.args.sessions = ap length c.in-Ok.ensures.seats ∙ length-map-range_with_len _ 0 _ in
+    let same = c.in-Ok.seats.ok.0 in
+    let tail = c.in_ok-guests.ensures.tail_len in omega (arith, counted, same, tail)
+
+pub returns-clause-theirs : goal.returns-clause-theirs
+returns-clause-theirs g c =
+    let all = all_are_of_lock _ _ _ _ _ c.in-Ok.ensures.seats in
+    let others = subst (All (λ seat. seat.lock ≡ c.in-Ok.lock.id)) (sym c.in_ok-guests.ensures.tail) (All-drop (λ seat. seat.lock ≡ c.in-Ok.lock.id) c.args.config.now.workers c.in-Ok.seats.items all) in
+    subst (λ lock. All (λ seat. seat.lock ≡ lock.id) c.in_ok-guests.guests.items) (sym (c.in_ok-service.ensures ∙ c.in-Ok-new.ensures.ok)) others
