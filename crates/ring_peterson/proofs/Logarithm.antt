@@ -24,9 +24,10 @@ exponent_below e f less =
     ]
 
 pub logarithm_is_greatest : LogarithmIsGreatest
-logarithm_is_greatest n some =
-    (log2_up_to-within n n some,
-    λ e within.
+logarithm_is_greatest n some = (
+  log2_up_to-within n n some,
+  λ e within.
       let above = floor_log2-above n in
       let below : e < suc (floor_log2 n) = exponent_below e (suc (floor_log2 n)) (omega arith) in
-      omega arith)
+      omega arith,
+)

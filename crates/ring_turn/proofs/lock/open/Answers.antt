@@ -5,5 +5,5 @@ use Rattle.ring_turn.proofs.lock.open.Goals as goal
 
 pub new-requires : goal.new-requires
 new-requires g c =
-    begins_with _ _ _ c.args.table _ _ c.requires.few (ap (λ history. length history) c.history.ensures.value)
+    begins_with _ _ _ c.args.table _ _ c.requires.few (c.len-entries.ensures ∙ ap (λ history. length history) c.history.ensures.value)
     (c.push_reserved.ensures.items ∙ ap (λ desks. desks ++ Some c.args.table ∷ []) c.in-Ok.ensures.items) (ap (λ table. table.history) c.of.ensures)
