@@ -20,11 +20,13 @@ fn filing(member: u32) -> Result<Entry<u8>, Fail> {
 // So many filings, by the members 1, 2 and so on.
 fn filings(alloc: Global, count: u32) -> Result<History<u8>, Fail> {
     let mut history = History::new(alloc);
-    for member in 1..count + 1 {
+    for earlier in 0..count {
         if history.entries.reserve() == Err(NoMemory) {
             history.entries.reserve().map_err(|_| "no memory")?;
         }
-        history.entries.push_reserved(filing(member)?);
+        history
+            .entries
+            .push_reserved(filing(earlier.saturating_add(1))?);
     }
     Ok(history)
 }
@@ -44,9 +46,9 @@ fn a_history_shows_its_entries_in_order(rt: HostRuntime) -> Result<(), Fail> {
     assert!(rt; !history.is_empty());
     assert_eq!(rt; history.get(4096).map(member_in), Some(4097));
     assert_eq!(rt; history.last().map(member_in), Some(5000));
-    let mut member = 0;
+    let mut member = 0u32;
     for entry in &history {
-        member += 1;
+        member = member.saturating_add(1);
         assert_eq!(rt; member_in(entry), member);
     }
     assert_eq!(rt; member, 5000);

@@ -143,10 +143,13 @@ fn table_of(closing: Closing<LockedTable<Any>>) -> Option<Table<Any>> {
 
 // How many calls stand in a history.
 fn calls(table: &Table<Any>) -> usize {
-    let history = table.history().iter();
-    history
-        .filter(|entry| matches!(entry, Entry::Call { .. }))
-        .count()
+    let mut calls = 0usize;
+    for entry in table.history() {
+        if matches!(entry, Entry::Call { .. }) {
+            calls = calls.saturating_add(1);
+        }
+    }
+    calls
 }
 
 const FIRST: &[u8] = b"create a chang\njoin a 5\nstart a\nmembers a\ndrain a 1\n";
@@ -333,17 +336,17 @@ fn terms_are<R: Wait>(
 
 // How many reports that were known already stand in a history.
 fn known(table: &Table<Any>) -> usize {
-    let history = table.history().iter();
-    let is_known = |entry: &&Entry<Any>| {
-        matches!(
-            entry,
-            Entry::Filing {
-                noting: Noting::Known,
-                ..
-            }
-        )
-    };
-    history.filter(is_known).count()
+    let mut known = 0usize;
+    for entry in table.history() {
+        if let Entry::Filing {
+            noting: Noting::Known,
+            ..
+        } = entry
+        {
+            known = known.saturating_add(1);
+        }
+    }
+    known
 }
 
 // Whether the reports of four settled nodes are all filed anew, and known already.
