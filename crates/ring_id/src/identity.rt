@@ -1,19 +1,17 @@
 ghost use Rattle.std.specs.Prelude.{◌≡◌, ℕ, ◌<◌, ◌≤◌, ◌↔◌, IsTrue, IsSome, IfSome};
-ghost use Rattle.ring_id.specs.Identity.{number_of};
+ghost use Rattle.ring_id.specs.Identity.{number_of, rank_of, weight_of};
 
 use std::marker::Model;
 
-/// The identity of a node: a number from 1 to 4294967295.
+/// The number of a node, from 1 to 4294967295: what a node is called by, and looked up.
 ///
-/// Contracts see an identity as its rank, by which identities are compared; two identities are
-/// equal exactly where their ranks are. Comparison of identities is all that the ring algorithms
-/// ever do with them (Lynch, Distributed Algorithms, 3.1).
+/// Contracts see it as that natural number.
 #[derive(Clone, Copy, Debug, PartialEq, Eq, PartialOrd, Ord, Hash)]
-pub struct NodeId {
+pub struct NodeNo {
     number: u32,
 }
 
-impl Model for NodeId {
+impl Model for NodeNo {
     ghost use Rattle.std.specs.Prelude.{ℕ, ◌<◌};
 
     ghost Value = { ℕ };
@@ -25,24 +23,98 @@ impl Model for NodeId {
     ghost inverse = { λ n. record { number = n } };
 }
 
-impl NodeId {
-    /// The identity with this number; none for 0.
-    pub fn new(number: u32) -> Option<NodeId>
+impl NodeNo {
+    /// The node number that is this one; none for 0.
+    pub fn new(number: u32) -> Option<NodeNo>
         ensures there { IsSome result ↔ (0 < number) }
-        ensures value { IfSome result (λ id. id ≡ number) }
+        ensures value { IfSome result (λ node. node ≡ number) }
     {
         if number == 0 {
             return None;
         }
-        Some(NodeId { number })
+        Some(NodeNo { number })
     }
 
-    /// The number of this identity, which is never 0.
+    /// This number, which is never 0.
+    pub fn get(self) -> u32
+        ensures value { result ≡ self }
+        ensures positive { 0 < result }
+    {
+        self.number
+    }
+}
+
+/// The identity of a node: its number, from 1 to 4294967295, and a weight of 0 to 65535.
+///
+/// Identities are compared by their weights and, where these are equal, by their numbers; two are
+/// equal exactly where both are. Contracts see an identity as its rank, the weight times 2^32 plus
+/// the number, which has the same order. Comparison of identities is all that the ring algorithms
+/// ever do with them (Lynch, Distributed Algorithms, 3.1).
+#[derive(Clone, Copy, Debug, PartialEq, Eq, PartialOrd, Ord, Hash)]
+pub struct NodeId {
+    // the derived order looks at the weight first
+    weight: u16,
+    number: NodeNo,
+}
+
+impl Model for NodeId {
+    ghost use Rattle.std.specs.Prelude.{ℕ, ◌<◌, ◌≡◌, refl};
+    ghost use Rattle.ring_id.specs.Identity.{number_of, rank_of, weight_of};
+    ghost use Rattle.ring_id.specs.Ranks.{number_of-rank, weight_of-rank};
+
+    ghost Value = { ℕ };
+
+    ghost view = { λ a. rank_of a.weight a.number };
+
+    ghost invariant = { λ a. (0 < a.number) × (a.number < 4294967296) };
+
+    ghost inverse = { λ rank. record { weight = weight_of rank; number = number_of rank } };
+
+    ghost inverse_ok = { λ a h. Prim.rw (weight_of-rank a.weight a.number h.1, number_of-rank a.weight a.number h.1) refl };
+}
+
+impl NodeId {
+    /// The identity with this number and weight 0; none for the number 0.
+    pub fn new(number: u32) -> Option<NodeId>
+        ensures there { IsSome result ↔ (0 < number) }
+        ensures value { IfSome result (λ id. id ≡ number) }
+    {
+        NodeId::weighted(number, 0)
+    }
+
+    /// The identity with this number and this weight; none for the number 0.
+    pub fn weighted(number: u32, weight: u16) -> Option<NodeId>
+        ensures there { IsSome result ↔ (0 < number) }
+        ensures value { IfSome result (λ id. id ≡ rank_of weight number) }
+        ensures number { IfSome result (λ id. number_of id ≡ number) }
+        ensures weight { IfSome result (λ id. weight_of id ≡ weight) }
+    {
+        let number = NodeNo::new(number)?;
+        Some(NodeId { weight, number })
+    }
+
+    /// The number of this identity, by which it is looked up. With the weight it says the whole
+    /// identity: its rank is made of the two.
+    pub fn number(self) -> NodeNo
+        ensures value { result ≡ number_of self }
+        ensures whole { self ≡ rank_of (weight_of self) result }
+    {
+        self.number
+    }
+
+    /// The weight of this identity, 0 where it was given none.
+    pub fn weight(self) -> u16
+        ensures value { result ≡ weight_of self }
+    {
+        self.weight
+    }
+
+    /// The plain number of this identity, which is never 0.
     pub fn get(self) -> u32
         ensures value { result ≡ number_of self }
         ensures positive { 0 < result }
     {
-        self.number
+        self.number.get()
     }
 }
 
@@ -51,4 +123,31 @@ pub fn same_ids(a: &[NodeId], b: &[NodeId]) -> bool
     ensures { IsTrue result ↔ (a.now ≡ b.now) }
 {
     a == b
+}
+
+#[cfg(test)]
+mod tests {
+    use super::*;
+    use std::test::Fail;
+
+    #[test]
+    fn identities_are_in_the_order_of_weights_and_then_of_numbers(
+        rt: HostRuntime,
+    ) -> Result<(), Fail> {
+        let light = NodeId::new(4294967295).ok_or("no identity is 0")?;
+        let heavy = NodeId::weighted(1, 9).ok_or("no identity is 0")?;
+        let next = NodeId::weighted(2, 9).ok_or("no identity is 0")?;
+        assert!(rt; light < heavy);
+        assert!(rt; heavy < next);
+        assert!(rt; heavy != NodeId::new(1).ok_or("no identity is 0")?);
+        assert_eq!(rt; NodeId::weighted(0, 9), None);
+        assert_eq!(rt; heavy.weight(), 9);
+        assert_eq!(rt; Some(heavy.number()), NodeNo::new(1));
+        assert_eq!(rt; heavy.number().get(), heavy.get());
+        assert_eq!(rt; light.weight(), 0);
+        assert_eq!(rt; NodeNo::new(0), None);
+        assert!(rt; same_ids(&[light, heavy], &[light, heavy]));
+        assert!(rt; !same_ids(&[light], &[heavy]));
+        Ok(())
+    }
 }

@@ -9,8 +9,12 @@ use Rattle.ring_id.specs.Identity.{number_of}
 use Rattle.ring_id.specs.Refusals.{first_of}
 
 -- whether the member has this number
+abbrev pub is_numbered : ℕ → ℕ → Bool
+is_numbered number member = number_of member == number
+
+-- whether the member has this identity's number, whatever their weights
 abbrev pub has_number : ℕ → ℕ → Bool
-has_number node member = number_of member == number_of node
+has_number node member = is_numbered (number_of node) member
 
 -- whether some number stands twice
 abbrev pub has_repeat : List ℕ → Bool
@@ -19,7 +23,7 @@ has_repeat (member ∷ others) = list_any (has_number member) others || has_repe
 
 -- the first position whose member has this number
 abbrev pub position_of : ℕ → List ℕ → Option ℕ
-position_of node ring = position (has_number node) ring
+position_of number ring = position (is_numbered number) ring
 
 -- 1 to 256 identities with different numbers
 pub record IsRing (ring : List ℕ) : Type 0 where

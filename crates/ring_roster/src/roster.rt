@@ -3,11 +3,12 @@ ghost use Rattle.std.specs.List.{list_any};
 ghost use Rattle.ring_id.specs.Refusals.{IsRefusal};
 ghost use Rattle.ring_roster.specs.Ring.{IsRing, has_number, has_repeat, neighbour, position_of, ring_refusal};
 
-use ring_id::{NoMemory, NodeId, Refusal, Side, same_ids};
+use ring_id::{NoMemory, NodeId, NodeNo, Refusal, Side, same_ids};
 use std::alloc::Global;
 use std::marker::Model;
 
-/// The ring of a term: a list of 1 to 256 identities with different numbers, in joining order.
+/// The ring of a term: a list of 1 to 256 identities with different numbers, in joining order. Two
+/// of one number are refused, whatever their weights.
 ///
 /// Contracts see a roster as the list of its identities (Lynch, Distributed Algorithms, 3.1).
 /// None of the calls but `from_members` and `of_ring` takes memory.
@@ -82,13 +83,13 @@ impl Roster {
         self.members.get(position).copied()
     }
 
-    /// The position of the member with this identity's number; none where there is no such member.
-    pub fn position(&self, node: NodeId) -> Option<usize>
+    /// The position of the member with this number; none where there is no such member.
+    pub fn position(&self, node: NodeNo) -> Option<usize>
         ensures { result ≡ position_of node self.now }
     {
         self.members
             .iter()
-            .position(|member| member.get() == node.get())
+            .position(|member| member.number() == node)
     }
 
     /// The position next to this one at that side. In a ring of one it is the node itself; in a
@@ -133,7 +134,9 @@ fn repeats(members: &[NodeId]) -> bool
 fn is_among(node: NodeId, members: &[NodeId]) -> bool
     ensures { result ≡ list_any (has_number node) members.now }
 {
-    members.iter().any(|member| member.get() == node.get())
+    members
+        .iter()
+        .any(|member| member.number() == node.number())
 }
 
 #[cfg(test)]
@@ -196,14 +199,29 @@ mod tests {
     }
 
     #[test]
+    fn members_differ_in_their_numbers_whatever_they_weigh(rt: HostRuntime) -> Result<(), Fail> {
+        let alloc = rt.alloc();
+        let three = NodeId::new(3).ok_or("no identity is 0")?;
+        let heavy_one = NodeId::weighted(1, 9).ok_or("no identity is 0")?;
+        let heavy_three = NodeId::weighted(3, 9).ok_or("no identity is 0")?;
+        let ring = Roster::from_members(alloc, &[three, heavy_one])?;
+        assert_eq!(rt; ring.position(heavy_one.number()), Some(1));
+        assert_eq!(rt; ring.at(1), Some(heavy_one));
+        let twice = Roster::from_members(alloc, &[three, heavy_one, heavy_three]);
+        assert_eq!(rt; twice.err(), Some(Refusal::Member));
+        assert!(rt; !ring.same(&ring_of(alloc, &[3, 1])?));
+        Ok(())
+    }
+
+    #[test]
     fn shows_its_members_and_neighbours(rt: HostRuntime) -> Result<(), Fail> {
         let alloc = rt.alloc();
         let ring = ring_of(alloc, &[3, 1, 2])?;
         assert!(rt; ring.len() == 3);
         assert_eq!(rt; ring.at(2), NodeId::new(2));
         assert_eq!(rt; ring.at(3), None);
-        let one = NodeId::new(1).ok_or("no identity is 0")?;
-        let four = NodeId::new(4).ok_or("no identity is 0")?;
+        let one = NodeNo::new(1).ok_or("no number is 0")?;
+        let four = NodeNo::new(4).ok_or("no number is 0")?;
         assert_eq!(rt; ring.position(one), Some(1));
         assert_eq!(rt; ring.position(four), None);
         assert_eq!(rt; ring.neighbour(2, Side::Right), 0);
