@@ -1,4 +1,4 @@
-use ring_id::{GroupName, NodeId, Side};
+use ring_id::{GroupName, NodeId, NodeNo, Side};
 
 /// What a client asks for.
 #[derive(Clone, Copy, Debug)]
@@ -7,12 +7,12 @@ pub enum Command<E> {
     Create(GroupName, E),
     /// A new member of a group, the last in joining order.
     Join(GroupName, NodeId),
-    /// A member leaves a group.
-    Leave(GroupName, NodeId),
+    /// The member with this number leaves a group.
+    Leave(GroupName, NodeNo),
     /// A new term of a group.
     Start(GroupName),
-    /// What a member of the last term's ring knows of its leader.
-    Who(GroupName, NodeId),
+    /// What the member of the last term's ring with this number knows of its leader.
+    Who(GroupName, NodeNo),
     /// The members of a group.
     Members(GroupName),
     /// The terms of a group, with their leaders.
@@ -26,8 +26,8 @@ pub enum Command<E> {
 pub enum Event<E> {
     /// A command of a client.
     Client(Command<E>),
-    /// One delivery, at this member of a group's running term, from this side.
-    Deliver(GroupName, NodeId, Side),
+    /// One delivery, at the member of a group's running term with this number, from this side.
+    Deliver(GroupName, NodeNo, Side),
     /// How many packets are in flight in a group's running term.
     Pending(GroupName),
     /// At most so many deliveries in a group's running term, each at the first ready link.

@@ -13,7 +13,7 @@ use crate::deliveries::{carry, carry_many};
 use crate::event::{Command, Event};
 use crate::reply::Reply;
 use ring_election::RingElection;
-use ring_id::{GroupName, NoMemory, NodeId, Refusal, Side};
+use ring_id::{GroupName, NoMemory, NodeNo, Refusal, Side};
 use ring_terms::{Book, Standing};
 use ring_world::World;
 use std::alloc::Global;
@@ -194,7 +194,7 @@ impl<E: RingElection> Mux<E> {
     }
 
     /// One delivery at a member of a group's running term, from a side.
-    fn deliver(&mut self, group: GroupName, node: NodeId, side: Side) -> Reply
+    fn deliver(&mut self, group: GroupName, node: NodeNo, side: Side) -> Reply
         ensures object { Step E.is_two_way E.is_greatest self.old.object (Event.Deliver group node side) result self.new.object }
         ensures worlds { StepOfWorlds E.table E.is_two_way E.is_greatest self.old (Event.Deliver group node side) result self.new }
     {
@@ -232,7 +232,7 @@ impl<E: RingElection> Mux<E> {
     }
 
     /// Where a member of a group's running term stands on its ring, with the group's place.
-    fn seat(&self, group: GroupName, node: NodeId) -> Result<(usize, usize), Refusal>
+    fn seat(&self, group: GroupName, node: NodeNo) -> Result<(usize, usize), Refusal>
         ensures { Shows (in_group group (who_refusal node) self.now.object) false result (λ seat. IsAt group seat.0 (names self.now.object) × OfGroup group (OfLast (λ term. position_of node term.ring ≡ Some seat.1)) self.now.object) }
     {
         let charter = self.book.running(group)?;

@@ -5,7 +5,7 @@ use Rattle.std.specs.List.{list_any}
 use Rattle.ring_id.specs.declared.refusal.Refusal.{Refusal}
 use Rattle.ring_id.specs.declared.refusal.Refusal.TheVariants as refused
 use Rattle.ring_id.specs.Refusals.{first_of, unless_some, IsRefusal}
-use Rattle.ring_roster.specs.Ring.{has_number, position_of}
+use Rattle.ring_roster.specs.Ring.{has_number, is_numbered, position_of}
 use Rattle.ring_node.specs.declared.charter.Charter.{Charter}
 use Rattle.ring_terms.specs.Object.{GroupView, Object, TermView, find, last_term, new_group, new_term}
 use Rattle.ring_terms.specs.Charters.{next_charter}
@@ -31,15 +31,15 @@ create_refusal name object =
     first_of (is_some (find name object)) refused.Exists
     (first_of (nat_le 256 (length object)) refused.GroupLimit None)
 
--- join: its number is a member's; 256 members stand
+-- join: its number is a member's, whatever that one weighs; 256 members stand
 abbrev pub join_refusal : {E : Type 0} → ℕ → GroupView E → Option Refusal
 join_refusal node group =
     first_of (list_any (has_number node) group.members) refused.Member
     (first_of (nat_le 256 (length group.members)) refused.RingFull None)
 
--- leave: its number is no member's
+-- leave: the number is no member's
 abbrev pub leave_refusal : {E : Type 0} → ℕ → GroupView E → Option Refusal
-leave_refusal node group = first_of (not (list_any (has_number node) group.members)) refused.NotMember None
+leave_refusal node group = first_of (not (list_any (is_numbered node) group.members)) refused.NotMember None
 
 -- start: no members; 1000 terms were started
 abbrev pub start_refusal : {E : Type 0} → GroupView E → Option Refusal
@@ -47,11 +47,11 @@ start_refusal group =
     first_of (length group.members == 0) refused.Empty
     (first_of (nat_le 1000 (length group.terms)) refused.TermLimit None)
 
--- its number is not in the ring of this term
+-- the number is not in the ring of this term
 abbrev pub member_refusal : ℕ → TermView → Option Refusal
 member_refusal node term = unless_some (position_of node term.ring) refused.NotInTerm (λ _. None)
 
--- who: no term was started; its number is not in the ring of the last one
+-- who: no term was started; the number is not in the ring of the last one
 abbrev pub who_refusal : {E : Type 0} → ℕ → GroupView E → Option Refusal
 who_refusal node group = unless_some (last_term group) refused.NoTerm (member_refusal node)
 
@@ -73,7 +73,7 @@ Joins node old new = new ≡ record old { members = old.members ++ node ∷ [] }
 
 -- leave takes the member with this number out, and keeps the order of the rest
 abbrev pub Leaves : {E : Type 0} → ℕ → GroupView E → GroupView E → Type 0
-Leaves node old new = new ≡ record old { members = filter (λ member. not (has_number node member)) old.members }
+Leaves node old new = new ≡ record old { members = filter (λ member. not (is_numbered node member)) old.members }
 
 -- start adds a term with the next number, whose ring is the member list, with no leader and nobody
 -- informed

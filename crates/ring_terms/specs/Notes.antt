@@ -1,5 +1,6 @@
 -- What a filed report does to the object.
 use Rattle.std.specs.Prelude.{◌≡◌, ℕ, Bool, List, Some}
+use Rattle.ring_id.specs.Identity.{number_of}
 use Rattle.ring_node.specs.Reports.{Told}
 use Rattle.ring_terms.specs.declared.standing.Noting.{Noting}
 use Rattle.ring_terms.specs.declared.standing.Noting.TheVariants.{Noted, Known, Stale}
@@ -13,9 +14,9 @@ use Rattle.ring_terms.specs.Standings.{IsInformed}
 -- member was informed of it already. Stale: it is another charter.
 abbrev pub NotesOf : {E : Type 0} → (E → Bool) → List ℕ → Told E → Object E → Noting → Object E → Type 0
 NotesOf greatest name report old Noted new =
-    (running_in name old ≡ Some report.charter) × InGroup name (Informs (greatest report.charter.algorithm) report.member report.leader) old new
+    (running_in name old ≡ Some report.charter) × InGroup name (Informs (greatest report.charter.algorithm) (number_of report.member) report.leader) old new
 NotesOf greatest name report old Known new =
-    (running_in name old ≡ Some report.charter) × (new ≡ old) × OfGroup name (IsInformed report.member report.leader) old
+    (running_in name old ≡ Some report.charter) × (new ≡ old) × OfGroup name (IsInformed (number_of report.member) report.leader) old
 NotesOf greatest name report old Stale new = (running_in name old ≡ Some report.charter → ⊥) × (new ≡ old)
 
 -- what filing a report does to the object, where the group is the one that its charter names

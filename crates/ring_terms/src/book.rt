@@ -11,7 +11,7 @@ use crate::lists::{GroupList, MemberList, TermList};
 use crate::standing::{Noting, Standing};
 use indexmap::IndexMap;
 use ring_election::RingElection;
-use ring_id::{GroupName, NodeId, Refusal};
+use ring_id::{GroupName, NodeId, NodeNo, Refusal};
 use ring_node::{Charter, Report};
 use std::alloc::Global;
 use std::marker::Model;
@@ -81,7 +81,7 @@ impl<E: RingElection> Book<E> {
     }
 
     /// Adds a member last. Refused, the first that holds: `NoGroup`, `Member` where a member has this
-    /// identity's number, `RingFull` where 256 members stand, `NoMemory`.
+    /// identity's number, whatever the two weigh, `RingFull` where 256 members stand, `NoMemory`.
     pub fn join(&mut self, group: GroupName, node: NodeId) -> Result<(), Refusal>
         ensures { Answers (in_group group (join_refusal node) self.old) true self.old result self.new
             (λ _. InGroup group (Joins node) self.old self.new) }
@@ -92,9 +92,9 @@ impl<E: RingElection> Book<E> {
         found.join(node)
     }
 
-    /// Takes the member with this identity's number out, and keeps the order of the rest. Takes no
-    /// memory. Refused, the first that holds: `NoGroup`, `NotMember` where no member has it.
-    pub fn leave(&mut self, group: GroupName, node: NodeId) -> Result<(), Refusal>
+    /// Takes the member with this number out, and keeps the order of the rest. Takes no memory.
+    /// Refused, the first that holds: `NoGroup`, `NotMember` where no member has it.
+    pub fn leave(&mut self, group: GroupName, node: NodeNo) -> Result<(), Refusal>
         ensures { Answers (in_group group (leave_refusal node) self.old) false self.old result self.new
             (λ _. InGroup group (Leaves node) self.old self.new) }
     {
@@ -130,8 +130,8 @@ impl<E: RingElection> Book<E> {
 
     /// What the last term says to a member: its leader where that member is informed, else undecided.
     /// Takes no memory. Refused, the first that holds: `NoGroup`, `NoTerm`, `NotInTerm` where no
-    /// member of the term's ring has this identity's number.
-    pub fn who(&self, group: GroupName, node: NodeId) -> Result<Standing, Refusal>
+    /// member of the term's ring has this number.
+    pub fn who(&self, group: GroupName, node: NodeNo) -> Result<Standing, Refusal>
         ensures { Shows (in_group group (who_refusal node) self.now) false result
             (λ s. OfGroup group (Tells node s) self.now) }
     {

@@ -1,6 +1,6 @@
 ghost use Rattle.std.specs.Prelude.{◌≡◌, ◌+◌, ◌<◌, ◌≤◌, Some, filter, length, map, not, true, false};
 ghost use Rattle.std.specs.List.{list_any};
-ghost use Rattle.ring_roster.specs.Ring.{has_number};
+ghost use Rattle.ring_roster.specs.Ring.{is_numbered};
 ghost use Rattle.ring_terms.specs.Object.{new_group, leaders};
 ghost use Rattle.ring_terms.specs.Charters.{next_charter, running_charter};
 ghost use Rattle.ring_terms.specs.Commands.{join_refusal, leave_refusal, never_refused, running_refusal, start_refusal, who_refusal, Answers, Joins, Leaves, Shows, StartsWith};
@@ -10,7 +10,7 @@ use crate::lists::{MemberList, TermList};
 use crate::standing::{Noting, Standing};
 use crate::term::Term;
 use ring_election::RingElection;
-use ring_id::{GroupName, NodeId, Refusal, TermNo};
+use ring_id::{GroupName, NodeId, NodeNo, Refusal, TermNo};
 use ring_node::{Charter, Report};
 use ring_roster::Roster;
 use std::alloc::Global;
@@ -49,7 +49,7 @@ impl<E: RingElection> Group<E> {
             (λ _. Joins node (group_view self.old) (group_view self.new)) }
         ensures kept { IsGroupOf E.winner self.old.name self.new }
     {
-        if self.has_member(node) {
+        if self.has_member(node.number()) {
             return Err(Refusal::Member);
         }
         if self.members.len() >= Roster::MOST {
@@ -61,15 +61,15 @@ impl<E: RingElection> Group<E> {
         Ok(())
     }
 
-    /// Whether a member has this identity's number.
-    fn has_member(&self, node: NodeId) -> bool
-        ensures { result ≡ list_any (has_number node) self.now.members.items }
+    /// Whether a member has this number.
+    fn has_member(&self, node: NodeNo) -> bool
+        ensures { result ≡ list_any (is_numbered node) self.now.members.items }
     {
-        self.members.iter().any(|member| member.get() == node.get())
+        self.members.iter().any(|member| member.number() == node)
     }
 
-    /// Takes out the member with this identity's number, and keeps the order of the rest.
-    pub(crate) fn leave(&mut self, node: NodeId) -> Result<(), Refusal>
+    /// Takes out the member with this number, and keeps the order of the rest.
+    pub(crate) fn leave(&mut self, node: NodeNo) -> Result<(), Refusal>
         requires { IsGroupOf E.winner self.old.name self.old }
         ensures answer { Answers (leave_refusal node (group_view self.old)) false
             (group_view self.old) result (group_view self.new)
@@ -148,8 +148,8 @@ impl<E: RingElection> Group<E> {
         Ok(charter)
     }
 
-    /// What the last term says to the member with this identity's number.
-    pub(crate) fn who(&self, node: NodeId) -> Result<Standing, Refusal>
+    /// What the last term says to the member with this number.
+    pub(crate) fn who(&self, node: NodeNo) -> Result<Standing, Refusal>
         requires { IsGroupOf E.winner self.now.name self.now }
         ensures { Shows (who_refusal node (group_view self.now)) false result
             (λ s. Tells node s (group_view self.now)) }
@@ -186,9 +186,9 @@ impl<E: RingElection> Group<E> {
     }
 }
 
-/// Takes out the member with this identity's number.
-fn take_out(members: &mut Vec<NodeId>, node: NodeId)
-    ensures { members.new.items ≡ filter (λ member. not (has_number node member)) members.old.items }
+/// Takes out the member with this number.
+fn take_out(members: &mut Vec<NodeId>, node: NodeNo)
+    ensures { members.new.items ≡ filter (λ member. not (is_numbered node member)) members.old.items }
 {
-    members.retain(|member| member.get() != node.get());
+    members.retain(|member| member.number() != node);
 }

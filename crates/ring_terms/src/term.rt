@@ -5,7 +5,7 @@ ghost use Rattle.ring_terms.specs.Standings.{TellsIn};
 
 use crate::standing::{Noting, Standing};
 use ring_election::RingElection;
-use ring_id::{NoMemory, NodeId, Refusal};
+use ring_id::{NoMemory, NodeId, NodeNo, Refusal};
 use ring_node::{Charter, Report};
 use std::alloc::Global;
 use std::sync::Arc;
@@ -51,8 +51,8 @@ impl<E: RingElection> Term<E> {
         self.leader
     }
 
-    /// What this term says to the member with this identity's number.
-    pub(crate) fn who(&self, node: NodeId) -> Result<Standing, Refusal>
+    /// What this term says to the member with this number.
+    pub(crate) fn who(&self, node: NodeNo) -> Result<Standing, Refusal>
         requires { IsSound E.winner self.now }
         ensures { Shows (member_refusal node (term_view self.now)) false result
             (λ s. TellsIn node self.now.charter.value.term s (term_view self.now)) }
@@ -76,7 +76,7 @@ impl<E: RingElection> Term<E> {
         if !self.charter.same(report.charter()) {
             return Noting::Stale;
         }
-        let Some(position) = self.charter.roster().position(report.member()) else {
+        let Some(position) = self.charter.roster().position(report.member().number()) else {
             return Noting::Stale;
         };
         if self.informed[position] {
