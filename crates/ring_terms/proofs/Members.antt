@@ -1,11 +1,12 @@
 -- Members with different numbers, after one joined and after one left; and where a member stands.
-use Rattle.std.proofs.Common.{◌≡◌, ◌≤◌, ◌==◌, ℕ, suc, Bool, true, false, cond, ◌||◌, true≢false, List, [], ◌∷◌, ◌++◌, length, filter, get_or, None, Some, refl, arith}
+use Rattle.std.proofs.Common.{◌≡◌, ◌≤◌, ◌==◌, ℕ, zero, suc, Bool, true, false, cond, ◌||◌, true≢false, List, [], ◌∷◌, ◌++◌, length, filter, get_or, None, Some, refl, sym, ap, ◌∙◌, arith}
 use Rattle.std.specs.Prelude.{slice_get}
 use Rattle.std.specs.List.{list_any, position_or_len}
 use Rattle.std.proofs.lemmas.Option.{get_or_from_slice_get, slice_get_within}
 use Rattle.std.proofs.lemmas.List.Sums.{fails_before_first}
 use Rattle.std.proofs.lemmas.Bool.Decides.{nat_tests}
-use Rattle.ring_roster.specs.Ring.{has_number, has_repeat, position_of}
+use Rattle.ring_id.specs.Identity.{number_of}
+use Rattle.ring_roster.specs.Ring.{has_number, has_repeat, is_numbered, position_of}
 
 -- neither part holds of what does not hold
 or_false : (a b : Bool) → (a || b) ≡ false → (a ≡ false) × (b ≡ false)
@@ -13,7 +14,7 @@ or_false false b h = (refl, h)
 or_false true b h = absurd (true≢false h)
 
 -- a number that nobody has is not had by a member of either end
-pub list_any-push : (node member : ℕ) (others : List ℕ) → list_any (has_number node) others ≡ false → node == member ≡ false → list_any (has_number node) (others ++ member ∷ []) ≡ false
+pub list_any-push : (node member : ℕ) (others : List ℕ) → list_any (has_number node) others ≡ false → has_number node member ≡ false → list_any (has_number node) (others ++ member ∷ []) ≡ false
 list_any-push node member [] h e = grind (arith, nat_tests)
 list_any-push node member (x ∷ xs) h e = let rest = list_any-push node member xs in grind (arith, nat_tests, rest)
 
@@ -48,11 +49,34 @@ length-filter-le stays (x ∷ xs) =
     let rest = length-filter-le stays xs in
     elim (stays x) as (λ b. length (cond b (x ∷ filter stays xs) (filter stays xs)) ≤ suc (length xs)) [ true ↦ omega arith | false ↦ omega arith ]
 
+-- the number of what stands in a list is found there
+numbered_found : (members : List ℕ) (k member number : ℕ) → slice_get members k ≡ Some member → number_of member ≡ number → list_any (is_numbered number) members ≡ true
+numbered_found [] k member number here same = cc
+numbered_found (x ∷ xs) zero member number here same =
+    let is : x ≡ member = cc in
+    let found : is_numbered number x ≡ true = grind (arith, nat_tests) in
+    rw found refl
+numbered_found (x ∷ xs) (suc k) member number here same = rw (numbered_found xs k member number here same) (elim (is_numbered number x) as (λ b. (b || true) ≡ true) [ true ↦ refl | false ↦ refl ])
+
+-- where members differ in their numbers, two places with one number are the same
+pub same_numbered : (members : List ℕ) (i j m n : ℕ) → has_repeat members ≡ false → slice_get members i ≡ Some m → slice_get members j ≡ Some n → number_of m ≡ number_of n → i ≡ j
+same_numbered [] i j m n differ here there same = cc
+same_numbered (x ∷ xs) zero zero m n differ here there same = refl
+same_numbered (x ∷ xs) zero (suc j) m n differ here there same =
+    let is : m ≡ x = cc in
+    let none = (or_false (list_any (has_number x) xs) (has_repeat xs) differ).0 in
+    absurd (true≢false (sym (numbered_found xs j n (number_of x) there (sym same ∙ ap number_of is)) ∙ none))
+same_numbered (x ∷ xs) (suc i) zero m n differ here there same =
+    let is : n ≡ x = cc in
+    let none = (or_false (list_any (has_number x) xs) (has_repeat xs) differ).0 in
+    absurd (true≢false (sym (numbered_found xs i m (number_of x) here (same ∙ ap number_of is)) ∙ none))
+same_numbered (x ∷ xs) (suc i) (suc j) m n differ here there same = ap suc (same_numbered xs i j m n (or_false (list_any (has_number x) xs) (has_repeat xs) differ).1 here there same)
+
 -- a member has a position
-pub position_of-member : (node : ℕ) (ring : List ℕ) (i : ℕ) → slice_get ring i ≡ Some node → position_of node ring ≡ None → ⊥
+pub position_of-member : (node : ℕ) (ring : List ℕ) (i : ℕ) → slice_get ring i ≡ Some node → position_of (number_of node) ring ≡ None → ⊥
 position_of-member node ring i there none =
     let within = slice_get_within ring i node there in
     let here : get_or ring i node ≡ node = get_or_from_slice_get ring i node node there in
-    let past : length ring ≤ position_or_len (has_number node) ring = grind (arith, nat_tests) in
-    let fails : has_number node (get_or ring i node) ≡ false = fails_before_first (has_number node) ring i node (omega arith) in
+    let past : length ring ≤ position_or_len (is_numbered (number_of node)) ring = grind (arith, nat_tests) in
+    let fails : is_numbered (number_of node) (get_or ring i node) ≡ false = fails_before_first (is_numbered (number_of node)) ring i node (omega arith) in
     grind (arith, nat_tests)

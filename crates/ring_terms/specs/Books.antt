@@ -2,6 +2,7 @@
 use Rattle.std.specs.Prelude.{◌≡◌, ◌+◌, ◌≤◌, ℕ, Bool, false, List, length, map, Some, slice_get}
 use Rattle.std.specs.Map.{lookup}
 use Rattle.std.specs.Str.{bytes_eq}
+use Rattle.ring_id.specs.Identity.{number_of}
 use Rattle.ring_roster.specs.Ring.{has_repeat}
 use Rattle.ring_node.specs.Reports.{Told}
 use Rattle.ring_terms.specs.declared.term.Term.{Term}
@@ -35,17 +36,17 @@ abbrev pub NotesTerm : {E : Type 0} → (E → Bool) → Told E → Term E → N
 NotesTerm greatest report old Noted new =
     (old.charter.value ≡ report.charter)
     × (new.charter ≡ old.charter)
-    × InformsIn (greatest report.charter.algorithm) report.member report.leader (term_view old) (term_view new)
+    × InformsIn (greatest report.charter.algorithm) (number_of report.member) report.leader (term_view old) (term_view new)
 NotesTerm greatest report old Known new =
-    (old.charter.value ≡ report.charter) × (new ≡ old) × IsInformedIn report.member report.leader (term_view old)
+    (old.charter.value ≡ report.charter) × (new ≡ old) × IsInformedIn (number_of report.member) report.leader (term_view old)
 NotesTerm greatest report old Stale new = (old.charter.value ≡ report.charter → ⊥) × (new ≡ old)
 
 -- what filing a report does to a group of this name
 abbrev pub NotesGroup : {E : Type 0} → (E → Bool) → List ℕ → Told E → GroupView E → Noting → GroupView E → Type 0
 NotesGroup greatest name report old Noted new =
-    (running_charter name old ≡ Some report.charter) × Informs (greatest report.charter.algorithm) report.member report.leader old new
+    (running_charter name old ≡ Some report.charter) × Informs (greatest report.charter.algorithm) (number_of report.member) report.leader old new
 NotesGroup greatest name report old Known new =
-    (running_charter name old ≡ Some report.charter) × (new ≡ old) × IsInformed report.member report.leader old
+    (running_charter name old ≡ Some report.charter) × (new ≡ old) × IsInformed (number_of report.member) report.leader old
 NotesGroup greatest name report old Stale new = (running_charter name old ≡ Some report.charter → ⊥) × (new ≡ old)
 
 -- a term of this group: its charter has the group's name and algorithm and this number

@@ -10,7 +10,7 @@ returns-clause-kept g c =
     record {
       named = refl;
       few = rw c.in-Ok.ensures.items (omega (arith, length_push members.items c.args.node, members.ok.0));
-      distinct = rw c.in-Ok.ensures.items (has_repeat-push members.items c.args.node c.requires.distinct (sym c.has_member.ensures ∙ c.if-has_member.false));
+      distinct = rw c.in-Ok.ensures.items (has_repeat-push members.items c.args.node c.requires.distinct (rw c.number.ensures.value at (sym c.has_member.ensures ∙ c.if-has_member.false)));
       short = c.requires.short;
       each = c.requires.each;
     }
