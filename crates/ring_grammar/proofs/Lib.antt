@@ -1,4 +1,5 @@
 mod Cutting
+mod Identities
 mod Numbers
 mod OneEvent
 mod OneReply

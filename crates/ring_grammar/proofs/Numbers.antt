@@ -4,8 +4,8 @@ use Rattle.std.specs.Str.{bytes_eq}
 use Rattle.std.proofs.lemmas.Slice.Eq.{bytes_eq-Decides}
 use Rattle.std.specs.Str.Parse.{ParsesUnsigned}
 use Rattle.std.proofs.lemmas.Fmt.{decimal_injective, parse-decimal}
+use Rattle.ring_grammar.specs.Identities.{IsNumber}
 use Rattle.ring_grammar.specs.Reading.{IsShortNumber, Reads}
-use Rattle.ring_grammar.specs.Spelling.{IsNode, node_word}
 
 -- a text that is printed of a number parses to it
 pub printed_parses : {E : Type 0} (text digits : List ℕ) (read : Result ℕ E) (n : ℕ) → digits ≡ text → ParsesUnsigned 32 10 digits read → IsShortNumber n → text ≡ decimal n → read ≡ Ok n
@@ -23,10 +23,10 @@ compared_as_different a b different same = let equal = (bytes_eq-Decides a b).1 
 pub printed_of_one : (text : List ℕ) (m n : ℕ) → IsShortNumber m → IsShortNumber n → text ≡ decimal m → text ≡ decimal n → m ≡ n
 printed_of_one text m n a b p q = decimal_injective m n (omega arith) (omega arith) (sym p ∙ q)
 
--- the identity of a number that was read
-pub reads_node : (word : List ℕ) (n : ℕ) (node : Option ℕ) → Reads decimal IsShortNumber word (Some n) → IsSome node ↔ (0 < n) → IfSome node (λ id. id ≡ n) → Reads node_word IsNode word node
-reads_node word n None read there value = λ a legal printed.
+-- the number of a node is a number that was read and isn't 0
+pub reads_number : (word : List ℕ) (n : ℕ) (node : Option ℕ) → Reads decimal IsShortNumber word (Some n) → IsSome node ↔ (0 < n) → IfSome node (λ id. id ≡ n) → Reads decimal IsNumber word node
+reads_number word n None read there value = λ a legal printed.
     let same : n ≡ a = printed_of_one word n a read.0 legal.1 read.1 printed in
     let some = there.1 (omega arith) in
     cc
-reads_node word n (Some id) read there value = let positive = there.0 refl in rw value ((positive, read.0), read.1)
+reads_number word n (Some id) read there value = let positive = there.0 refl in rw value ((positive, read.0), read.1)

@@ -1,18 +1,22 @@
 -- Each event has one spelling, and no line spells two events.
-use Rattle.std.proofs.Common.{◌≡◌, ◌≤◌, ◌+◌, ◌*◌, ℕ, Bool, true, false, List, [], ◌∷◌, ◌++◌, length, length-append, sym, ◌∙◌, ap, arith, refl, codes, decimal}
+use Rattle.std.proofs.Common.{◌≡◌, ◌<◌, ◌≤◌, ◌+◌, ◌*◌, ◌^◌, ℕ, zero, suc, Bool, true, false, List, [], ◌∷◌, ◌++◌, length, length-append, sym, ◌∙◌, ap, arith, refl, codes, decimal}
 use Rattle.std.specs.Prelude.{◌==◌, ◌||◌, fold}
+use Rattle.std.proofs.Math.Dec.{eqb-suc-zero}
 use Rattle.std.proofs.lemmas.Fmt.{decimal_injective, length-decimal-le}
 use Rattle.ring_any.specs.Any.{word_of}
 use Rattle.ring_any.specs.declared.any.Any.{Any}
 use Rattle.ring_any.specs.declared.any.Any.TheVariants.{LeLann, Chang, Hirschberg, Peterson}
+use Rattle.ring_id.specs.Identity.{number_of, weight_of}
 use Rattle.ring_id.specs.declared.side.Side.{Side}
 use Rattle.ring_id.specs.declared.side.Side.TheVariants.{Left, Right}
 use Rattle.ring_mux.specs.declared.event.Command.{Command}
 use Rattle.ring_mux.specs.declared.event.Command.TheVariants.{Create, Join, Leave, Start, Who, Members, Terms, Groups}
 use Rattle.ring_mux.specs.declared.event.Event.{Event}
 use Rattle.ring_mux.specs.declared.event.Event.TheVariants.{Client, Deliver, Pending, Drain}
-use Rattle.ring_grammar.specs.Spelling.{IsCommand, IsEvent, IsNode, Spells, command_words, event_words, line_of, node_word, side_word}
+use Rattle.ring_grammar.specs.Identities.{IsNode, IsNumber, node_word, weight_text}
+use Rattle.ring_grammar.specs.Spelling.{IsCommand, IsEvent, Spells, command_words, event_words, line_of, side_word}
 use Rattle.ring_grammar.specs.OneSpelling.{HaveOneSpelling}
+use Rattle.ring_grammar.proofs.Identities.{same_node}
 use Rattle.ring_grammar.proofs.Words.{words_in-spelled}
 
 -- a word as one number, by which words that are written out are told apart
@@ -38,17 +42,17 @@ same_side Left Left same = refl
 same_side Right Right same = refl
 same_side _ _ same = absurd (omega (arith, ap number_of_word same))
 
--- no two identities have one word
-pub same_node : (a b : ℕ) → IsNode a → IsNode b → node_word a ≡ node_word b → a ≡ b
-same_node a b p q same = decimal_injective a b (omega arith) (omega arith) same
+-- no two numbers of nodes have one word
+same_number : (a b : ℕ) → IsNumber a → IsNumber b → decimal a ≡ decimal b → a ≡ b
+same_number a b p q same = decimal_injective a b (omega (arith, p.1)) (omega (arith, q.1)) same
 
 -- no two commands have the same words
 same_command : (a b : Command Any) → IsCommand a → IsCommand b → command_words a ≡ command_words b → a ≡ b
 same_command (Create g k) (Create h l) p q same = let kind = same_kind k l cc in cc
 same_command (Join g m) (Join h n) p q same = let node = same_node m n p.1 q.1 cc in cc
-same_command (Leave g m) (Leave h n) p q same = let node = same_node m n p.1 q.1 cc in cc
+same_command (Leave g m) (Leave h n) p q same = let number = same_number m n p.1 q.1 cc in cc
 same_command (Start g) (Start h) p q same = cc
-same_command (Who g m) (Who h n) p q same = let node = same_node m n p.1 q.1 cc in cc
+same_command (Who g m) (Who h n) p q same = let number = same_number m n p.1 q.1 cc in cc
 same_command (Members g) (Members h) p q same = cc
 same_command (Terms g) (Terms h) p q same = cc
 same_command Groups Groups p q same = refl
@@ -84,7 +88,7 @@ same_event (Client a) (Drain h n) p q same = absurd (apart a (event_words (Drain
 same_event (Deliver g m s) (Client b) p q same = absurd (apart b (event_words (Deliver g m s)) refl (sym same))
 same_event (Pending g) (Client b) p q same = absurd (apart b (event_words (Pending g)) refl (sym same))
 same_event (Drain g m) (Client b) p q same = absurd (apart b (event_words (Drain g m)) refl (sym same))
-same_event (Deliver g m s) (Deliver h n t) p q same = let node = same_node m n p.1 q.1 cc in let side = same_side s t cc in cc
+same_event (Deliver g m s) (Deliver h n t) p q same = let number = same_number m n p.1 q.1 cc in let side = same_side s t cc in cc
 same_event (Pending g) (Pending h) p q same = cc
 same_event (Drain g m) (Drain h n) p q same = let count = decimal_injective m n (omega arith) (omega arith) cc in cc
 same_event _ _ p q same = absurd (omega (arith, ap number_of_first same))
@@ -93,7 +97,7 @@ same_event _ _ p q same = absurd (omega (arith, ap number_of_first same))
 pub one_event : (line : List ℕ) (a b : Event Any) → Spells line a → Spells line b → a ≡ b
 one_event line a b p q = same_event a b p.legal q.legal (sym (words_in-spelled line a p) ∙ words_in-spelled line b q)
 
--- the words of a kind, a side and an identity are short
+-- the words of a kind, a side, a number, a weight and an identity are short
 short-kind : (kind : Any) → length (word_of kind) ≤ 10
 short-kind LeLann = omega arith
 short-kind Chang = omega arith
@@ -104,23 +108,32 @@ short-side : (side : Side) → length (side_word side) ≤ 5
 short-side Left = omega arith
 short-side Right = omega arith
 
-short-node : (node : ℕ) → IsNode node → length (node_word node) ≤ 10
-short-node node legal = length-decimal-le 10 node (omega arith) (omega arith) (omega arith)
+short-number : (number : ℕ) → number < 2 ^ 32 → length (decimal number) ≤ 10
+short-number number short = length-decimal-le 10 number (omega arith) (omega arith) (omega arith)
+
+short-weight : (weight : ℕ) → weight < 2 ^ 16 → length (weight_text weight) ≤ 6
+short-weight zero light = omega arith
+short-weight (suc weight) light =
+    rw (eqb-suc-zero weight) (omega (arith, length-decimal-le 5 (suc weight) (omega arith) (omega arith) (omega arith)))
+
+short-node : (node : ℕ) → IsNode node → length (node_word node) ≤ 16
+short-node node legal =
+    omega (arith, length-append (decimal (number_of node)) (weight_text (weight_of node)), short-number (number_of node) legal.0.1, short-weight (weight_of node) legal.1)
 
 -- the line of an event is short
 short-event : (event : Event Any) → IsEvent event → length (line_of (event_words event)) ≤ 128
 short-event (Client (Create g k)) p = omega (arith, length-append g (32 ∷ word_of k), p.short, short-kind k)
 short-event (Client (Join g n)) p = omega (arith, length-append g (32 ∷ node_word n), p.0.short, short-node n p.1)
-short-event (Client (Leave g n)) p = omega (arith, length-append g (32 ∷ node_word n), p.0.short, short-node n p.1)
+short-event (Client (Leave g n)) p = omega (arith, length-append g (32 ∷ decimal n), p.0.short, short-number n p.1.1)
 short-event (Client (Start g)) p = omega (arith, p.short)
-short-event (Client (Who g n)) p = omega (arith, length-append g (32 ∷ node_word n), p.0.short, short-node n p.1)
+short-event (Client (Who g n)) p = omega (arith, length-append g (32 ∷ decimal n), p.0.short, short-number n p.1.1)
 short-event (Client (Members g)) p = omega (arith, p.short)
 short-event (Client (Terms g)) p = omega (arith, p.short)
 short-event (Client Groups) p = omega arith
 short-event (Deliver g n s) p =
-    omega (arith, length-append g (32 ∷ (node_word n ++ 32 ∷ side_word s)), length-append (node_word n) (32 ∷ side_word s), p.0.short, short-node n p.1, short-side s)
+    omega (arith, length-append g (32 ∷ (decimal n ++ 32 ∷ side_word s)), length-append (decimal n) (32 ∷ side_word s), p.0.short, short-number n p.1.1, short-side s)
 short-event (Pending g) p = omega (arith, p.short)
-short-event (Drain g k) p = omega (arith, length-append g (32 ∷ decimal k), p.0.short, length-decimal-le 10 k (omega arith) (omega arith) (omega arith))
+short-event (Drain g k) p = omega (arith, length-append g (32 ∷ decimal k), p.0.short, short-number k (omega arith))
 
 -- each event has one spelling, and no line spells two
 pub events_have_one_spelling : HaveOneSpelling IsEvent Spells

@@ -1,6 +1,7 @@
 -- Each reply has one spelling, and no bytes spell two replies.
 use Rattle.std.proofs.Common.{◌≡◌, ◌<◌, ◌^◌, ◌+◌, ℕ, Bool, true, false, List, [], ◌∷◌, ◌++◌, length, get_or, map, Option, None, Some, IfSome, All, sym, ◌∙◌, ap, arith, refl, codes, decimal}
 use Rattle.std.specs.Str.Parse.{digits_value}
+use Rattle.std.proofs.Math.ListN.{get_or-append}
 use Rattle.std.proofs.lemmas.Bool.{and_from}
 use Rattle.std.proofs.lemmas.Fmt.{decimal_is_IsNumeral_wide}
 use Rattle.std.proofs.lemmas.Str.Parse.{digit_at}
@@ -8,6 +9,7 @@ use Rattle.std.proofs.lemmas.List.{append_cancel_left, append_cancel_right}
 use Rattle.std.proofs.lemmas.List.Elements.{All-head, All-tail}
 use Rattle.std.proofs.lemmas.List.Folds.{list_all-append}
 use Rattle.ring_id.specs.GroupName.{IsName}
+use Rattle.ring_id.specs.Identity.{number_of, weight_of}
 use Rattle.ring_id.specs.Refusals.{word_in_table}
 use Rattle.ring_id.specs.declared.refusal.Refusal.{Refusal}
 use Rattle.ring_id.specs.declared.refusal.Refusal.TheVariants.{BadLine, NoGroup, Exists, GroupLimit, Member, NotMember, RingFull, Empty, TermLimit, NoTerm, NotInTerm, OneWay, NoMemory, SeatSpent}
@@ -15,8 +17,10 @@ use Rattle.ring_mux.specs.declared.reply.Reply.{Reply}
 use Rattle.ring_mux.specs.declared.reply.Reply.TheVariants.{Done, Term, Leader, Undecided, Members, Terms, Groups, Moved, Idle, Pending, Drained, Refused}
 use Rattle.ring_grammar.specs.OneSpelling.{HaveOneSpelling, RepliesAreLines}
 use Rattle.ring_grammar.specs.Reading.{words_in}
-use Rattle.ring_grammar.specs.Spelling.{IsNode, IsReply, SpellsReply, leader_word, line_of, node_word, reply_line, reply_words, starved_words, term_word, term_words}
-use Rattle.ring_grammar.proofs.OneEvent.{number_of_first, number_of_word, same_node}
+use Rattle.ring_grammar.specs.Identities.{IsNode, node_word, weight_text}
+use Rattle.ring_grammar.specs.Spelling.{IsReply, SpellsReply, leader_word, line_of, reply_line, reply_words, starved_words, term_word, term_words}
+use Rattle.ring_grammar.proofs.Identities.{same_node}
+use Rattle.ring_grammar.proofs.OneEvent.{number_of_first, number_of_word}
 use Rattle.ring_grammar.proofs.Plain.{all_plain, is_plain, no_lf-line_of, plain-decimal, plain-name}
 use Rattle.ring_grammar.proofs.Words.{plain-node, words_in-line_of_some}
 
@@ -52,18 +56,18 @@ same_nodes (x ∷ a) (y ∷ b) p q same =
     let rest = same_nodes a b (All-tail IsNode x a p) (All-tail IsNode y b q) cc in
     cc
 
--- a number is no hyphen
-no_hyphen : (n : ℕ) → n < 10 ^ 64 → codes "-" ≡ decimal n → ⊥
-no_hyphen n short same =
+-- a word that begins with a number is no hyphen
+no_hyphen : (n : ℕ) (rest : List ℕ) → n < 10 ^ 64 → codes "-" ≡ decimal n ++ rest → ⊥
+no_hyphen n rest short same =
     let numeral = (decimal_is_IsNumeral_wide n short).0 in
     let digit = digit_at (decimal n) 0 numeral.1 numeral.0 in
-    absurd (omega (arith, digit.0, ap (λ (word : List ℕ). get_or word 0 0) same))
+    absurd (omega (arith, digit.0, get_or-append (decimal n) rest 0 0 numeral.0, ap (λ (word : List ℕ). get_or word 0 0) same))
 
 -- no two leaders have one word, and none has that of no leader
 same_leader : (a b : Option ℕ) → IfSome a IsNode → IfSome b IsNode → leader_word a ≡ leader_word b → a ≡ b
 same_leader None None p q same = refl
-same_leader None (Some b) p q same = absurd (no_hyphen b (omega (arith, q.1)) same)
-same_leader (Some a) None p q same = absurd (no_hyphen a (omega (arith, p.1)) (sym same))
+same_leader None (Some b) p q same = absurd (no_hyphen (number_of b) (weight_text (weight_of b)) (omega (arith, q.0.1)) same)
+same_leader (Some a) None p q same = absurd (no_hyphen (number_of a) (weight_text (weight_of a)) (omega (arith, p.0.1)) (sym same))
 same_leader (Some a) (Some b) p q same = ap (λ (n : ℕ). Some n) (same_node a b p q same)
 
 -- no two lists of terms have the same words

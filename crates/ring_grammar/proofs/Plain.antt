@@ -10,7 +10,7 @@ use Rattle.std.proofs.lemmas.List.Splits.{slice_split_at, slice_split_none}
 use Rattle.std.proofs.lemmas.List.Sums.{AllPass-from_list_all, list_all-from_AllPass}
 use Rattle.std.proofs.lemmas.Str.Parse.{digit_at}
 use Rattle.ring_id.specs.GroupName.{IsName, is_name_byte}
-use Rattle.ring_grammar.specs.Reading.{is_space, words_in}
+use Rattle.ring_grammar.specs.Reading.{words_in}
 use Rattle.ring_grammar.specs.Spelling.{line_of}
 
 -- whether a byte is no space and no LF
@@ -31,23 +31,23 @@ false_from_not true h = cc
 false_from_not false h = refl
 
 -- such a byte is no space
-no_space : (b : ℕ) → is_inner b ≡ true → is_space b ≡ false
-no_space b inner = false_from_not (is_space b) (and_parts (not (b == 32)) (not (b == 10)) inner).0
+no_space : (b : ℕ) → is_inner b ≡ true → (b == 32) ≡ false
+no_space b inner = false_from_not (b == 32) (and_parts (not (b == 32)) (not (b == 10)) inner).0
 
 -- and no LF
 no_lf : (b : ℕ) → is_inner b ≡ true → (b == 10) ≡ false
 no_lf b inner = false_from_not (b == 10) (and_parts (not (b == 32)) (not (b == 10)) inner).1
 
 -- no byte of a plain word is a space
-no_space_in : (word : List ℕ) → is_plain word ≡ true → All (λ b. is_space b ≡ false) word
-no_space_in word plain = All-weaker (λ b. is_inner b ≡ true) (λ b. is_space b ≡ false) no_space word (AllPass-from_list_all is_inner word plain)
+no_space_in : (word : List ℕ) → is_plain word ≡ true → All (λ b. (b == 32) ≡ false) word
+no_space_in word plain = All-weaker (λ b. is_inner b ≡ true) (λ b. (b == 32) ≡ false) no_space word (AllPass-from_list_all is_inner word plain)
 
 -- words with no space are the words of the line that they are joined to
 pub words_in-line_of : (word : List ℕ) (words : List (List ℕ)) → all_plain (word ∷ words) ≡ true → words_in (line_of (word ∷ words)) ≡ word ∷ words
-words_in-line_of word [] plain = slice_split_none is_space word (no_space_in word (and_parts (is_plain word) true plain).0)
+words_in-line_of word [] plain = slice_split_none (λ b. b == 32) word (no_space_in word (and_parts (is_plain word) true plain).0)
 words_in-line_of word (next ∷ words) plain =
     let parts = and_parts (is_plain word) (all_plain (next ∷ words)) plain in
-    slice_split_at is_space word 32 (line_of (next ∷ words)) (no_space_in word parts.0) refl
+    slice_split_at (λ b. b == 32) word 32 (line_of (next ∷ words)) (no_space_in word parts.0) refl
     ∙ ap (λ (l : List (List ℕ)). word ∷ l) (words_in-line_of next words parts.1)
 
 -- a byte other than these

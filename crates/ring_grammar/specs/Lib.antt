@@ -1,4 +1,5 @@
 pub mod Appending
+pub mod Identities
 pub mod OneSpelling
 pub mod Reading
 pub mod Sinks

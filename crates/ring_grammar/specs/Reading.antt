@@ -1,5 +1,5 @@
 -- How lines are read: cut into words, then each word by itself.
-use Rattle.std.specs.Prelude.{◌≡◌, ◌<◌, ◌==◌, ◌^◌, ℕ, Bool, List, Option, None, Some}
+use Rattle.std.specs.Prelude.{◌≡◌, ◌<◌, ◌==◌, ◌^◌, ℕ, List, Option, None, Some}
 use Rattle.std.specs.List.{slice_split}
 use Rattle.ring_mux.specs.declared.event.Command.{Command}
 use Rattle.ring_mux.specs.declared.event.Event.{Event}
@@ -10,13 +10,13 @@ abbrev pub Reads : {A B : Type 0} → (A → B) → (A → Type 0) → B → Opt
 Reads spell IsLegal text (Some a) = IsLegal a × (text ≡ spell a)
 Reads {A} spell IsLegal text None = (a : A) → IsLegal a → text ≡ spell a → ⊥
 
--- whether this byte is a space
-abbrev pub is_space : ℕ → Bool
-is_space b = b == 32
+-- the parts of a text between the bytes that are this one
+abbrev pub parts_at : ℕ → List ℕ → List (List ℕ)
+parts_at byte text = slice_split (λ b. b == byte) text
 
 -- the words of a line: the parts between spaces
 abbrev pub words_in : List ℕ → List (List ℕ)
-words_in line = slice_split is_space line
+words_in line = parts_at 32 line
 
 -- numbers of 32 bits
 abbrev pub IsShortNumber : ℕ → Type 0

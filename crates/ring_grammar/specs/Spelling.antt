@@ -3,7 +3,6 @@
 use Rattle.std.specs.Prelude.{◌≡◌, ◌<◌, ◌≤◌, ◌+◌, ◌^◌, ℕ, Bool, true, false, List, [], ◌∷◌, ◌++◌, length, map, Option, None, Some, All, IfSome, codes, decimal}
 use Rattle.std.specs.List.{join_with_byte}
 use Rattle.ring_id.specs.GroupName.{IsName}
-use Rattle.ring_id.specs.Identity.{number_of}
 use Rattle.ring_id.specs.Refusals.{word_in_table}
 use Rattle.ring_id.specs.Term.{IsTerm}
 use Rattle.ring_id.specs.declared.side.Side.{Side}
@@ -17,27 +16,24 @@ use Rattle.ring_mux.specs.declared.event.Event.TheVariants.{Client, Deliver, Pen
 use Rattle.ring_mux.specs.declared.reply.Reply.{Reply}
 use Rattle.ring_mux.specs.declared.reply.Reply.TheVariants.{Done, Term, Leader, Undecided, Moved, Idle, Drained, Refused}
 use Rattle.ring_mux.specs.declared.reply.Reply.TheVariants as reply
+use Rattle.ring_grammar.specs.Identities.{IsNode, IsNumber, node_word}
 
 -- words joined by one space
 abbrev pub line_of : List (List ℕ) → List ℕ
 line_of words = join_with_byte 32 words
-
--- an identity, given its rank, is spelled by its number
-abbrev pub node_word : ℕ → List ℕ
-node_word rank = decimal (number_of rank)
 
 -- a side is spelled by its name
 abbrev pub side_word : Side → List ℕ
 side_word Left = codes "left"
 side_word Right = codes "right"
 
--- the words of a client command
+-- the words of a client command: a member is made by its identity, and named by its number
 abbrev pub command_words : Command Any → List (List ℕ)
 command_words (Create group kind) = codes "create" ∷ group ∷ word_of kind ∷ []
 command_words (Join group node) = codes "join" ∷ group ∷ node_word node ∷ []
-command_words (Leave group node) = codes "leave" ∷ group ∷ node_word node ∷ []
+command_words (Leave group number) = codes "leave" ∷ group ∷ decimal number ∷ []
 command_words (Start group) = codes "start" ∷ group ∷ []
-command_words (Who group node) = codes "who" ∷ group ∷ node_word node ∷ []
+command_words (Who group number) = codes "who" ∷ group ∷ decimal number ∷ []
 command_words (Members group) = codes "members" ∷ group ∷ []
 command_words (Terms group) = codes "terms" ∷ group ∷ []
 command_words Groups = codes "groups" ∷ []
@@ -45,21 +41,17 @@ command_words Groups = codes "groups" ∷ []
 -- the words of an event: a client command, or a line of a schedule
 abbrev pub event_words : Event Any → List (List ℕ)
 event_words (Client command) = command_words command
-event_words (Deliver group node side) = codes "deliver" ∷ group ∷ node_word node ∷ side_word side ∷ []
+event_words (Deliver group number side) = codes "deliver" ∷ group ∷ decimal number ∷ side_word side ∷ []
 event_words (Pending group) = codes "pending" ∷ group ∷ []
 event_words (Drain group count) = codes "drain" ∷ group ∷ decimal count ∷ []
-
--- an identity of the grammar: its number is from 1 to 4294967295
-abbrev pub IsNode : ℕ → Type 0
-IsNode rank = (0 < number_of rank) × (number_of rank < 2 ^ 32)
 
 -- the commands of the grammar
 abbrev pub IsCommand : Command Any → Type 0
 IsCommand (Create group kind) = IsName group
 IsCommand (Join group node) = IsName group × IsNode node
-IsCommand (Leave group node) = IsName group × IsNode node
+IsCommand (Leave group number) = IsName group × IsNumber number
 IsCommand (Start group) = IsName group
-IsCommand (Who group node) = IsName group × IsNode node
+IsCommand (Who group number) = IsName group × IsNumber number
 IsCommand (Members group) = IsName group
 IsCommand (Terms group) = IsName group
 IsCommand Groups = Unit {0}
@@ -67,7 +59,7 @@ IsCommand Groups = Unit {0}
 -- the events of the grammar: a drain makes at most 1000000000 deliveries
 abbrev pub IsEvent : Event Any → Type 0
 IsEvent (Client command) = IsCommand command
-IsEvent (Deliver group node side) = IsName group × IsNode node
+IsEvent (Deliver group number side) = IsName group × IsNumber number
 IsEvent (Pending group) = IsName group
 IsEvent (Drain group count) = IsName group × (count ≤ 1000000000)
 
@@ -77,7 +69,7 @@ pub record Spells (line : List ℕ) (event : Event Any) : Type 0 where
   pub legal : IsEvent event
   pub same : line ≡ line_of (event_words event)
 
--- a leader that was named is spelled by its number, and no leader by a hyphen
+-- a leader that was named is spelled as an identity, and no leader by a hyphen
 abbrev pub leader_word : Option ℕ → List ℕ
 leader_word None = codes "-"
 leader_word (Some leader) = node_word leader

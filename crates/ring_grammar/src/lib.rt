@@ -5,6 +5,7 @@
 #![tactic(auto)]
 
 mod parse;
+mod parts;
 mod print;
 mod sink;
 mod spelling;

@@ -1,12 +1,13 @@
-ghost use Rattle.std.specs.Prelude.{◌≡◌, ◌∷◌, [], position, IfSome, IfNone};
+ghost use Rattle.std.specs.Prelude.{◌≡◌, ◌∷◌, [], IfSome, IfNone};
 ghost use Rattle.ring_any.specs.declared.any.Any.{Any};
 ghost use Rattle.ring_mux.specs.declared.event.Event.{Event};
 ghost use Rattle.ring_mux.specs.declared.event.Command.{Command};
 ghost use Rattle.ring_mux.specs.declared.event.Event.TheVariants.{Client};
-ghost use Rattle.ring_grammar.specs.Reading.{Reads, client_part, is_space, words_in};
+ghost use Rattle.ring_grammar.specs.Reading.{Reads, client_part, words_in};
 ghost use Rattle.ring_grammar.specs.Spelling.{IsEvent, Spells, event_words};
 
-use crate::values::{count, kind, name, node, side};
+use crate::parts::cut;
+use crate::values::{count, kind, name, node, node_number, side};
 use ring_any::Any;
 use ring_mux::{Command, Event};
 
@@ -16,7 +17,8 @@ const LONGEST: usize = 128;
 /// The event that a line spells, given without its LF; none exactly where it spells none.
 ///
 /// Words are separated by one space, numbers have no leading zero and no sign, and a line of more
-/// than 128 bytes spells no event. Takes no memory.
+/// than 128 bytes spells no event. A weight, behind a slash, stands in `join` alone, and a weight of
+/// 0 isn't written. Takes no memory.
 pub fn parse_event(line: &[u8]) -> Option<Event<Any>>
     ensures some { IfSome result (Spells line.now) }
     ensures none { IfNone result ((event : Event Any) → ¬ (Spells line.now event)) }
@@ -50,36 +52,19 @@ fn client_command(event: Event<Any>) -> Option<Command<Any>>
 fn event(line: &[u8]) -> Option<Event<Any>>
     ensures { Reads event_words IsEvent (words_in line.now) result }
 {
-    let Some((word, rest)) = cut(line) else {
+    let Some((word, rest)) = cut(line, b' ') else {
         return event_of_one(line);
     };
-    let Some((group, rest)) = cut(rest) else {
+    let Some((group, rest)) = cut(rest, b' ') else {
         return event_of_two(word, rest);
     };
-    let Some((argument, rest)) = cut(rest) else {
+    let Some((argument, rest)) = cut(rest, b' ') else {
         return event_of_three(word, group, rest);
     };
-    match cut(rest) {
+    match cut(rest, b' ') {
         None => event_of_four(word, group, argument, rest),
         Some(_) => None,
     }
-}
-
-// The first word, and what follows the space behind it; none where the text is one word.
-fn cut(text: &[u8]) -> Option<(&[u8], &[u8])>
-    ensures some { IfSome result (λ cut. words_in text.now ≡ cut.0.now ∷ words_in cut.1.now) }
-    ensures none { IfNone result (words_in text.now ≡ text.now ∷ []) }
-{
-    match first_space(text) {
-        Some(at) => Some((&text[..at], &text[at + 1..])),
-        None => None,
-    }
-}
-
-fn first_space(text: &[u8]) -> Option<usize>
-    ensures { result ≡ position is_space text.now }
-{
-    text.iter().position(|b| *b == b' ')
 }
 
 fn event_of_one(word: &[u8]) -> Option<Event<Any>>
@@ -118,9 +103,9 @@ fn event_of_three(word: &[u8], group: &[u8], argument: &[u8]) -> Option<Event<An
     } else if word == b"join".as_slice() {
         Some(Event::Client(Command::Join(group, node(argument)?)))
     } else if word == b"leave".as_slice() {
-        Some(Event::Client(Command::Leave(group, node(argument)?)))
+        Some(Event::Client(Command::Leave(group, node_number(argument)?)))
     } else if word == b"who".as_slice() {
-        Some(Event::Client(Command::Who(group, node(argument)?)))
+        Some(Event::Client(Command::Who(group, node_number(argument)?)))
     } else if word == b"drain".as_slice() {
         Some(Event::Drain(group, count(argument)?))
     } else {
@@ -132,7 +117,7 @@ fn event_of_four(word: &[u8], group: &[u8], argument: &[u8], end: &[u8]) -> Opti
     ensures { Reads event_words IsEvent (word.now ∷ group.now ∷ argument.now ∷ end.now ∷ []) result }
 {
     if word == b"deliver".as_slice() {
-        Some(Event::Deliver(name(group)?, node(argument)?, side(end)?))
+        Some(Event::Deliver(name(group)?, node_number(argument)?, side(end)?))
     } else {
         None
     }

@@ -1,6 +1,7 @@
 ghost use Rattle.std.specs.Prelude.{◌++◌, ◌∷◌, decimal, All, IfSome, OnErr, OnOk};
 ghost use Rattle.ring_id.specs.GroupName.{IsName};
-ghost use Rattle.ring_grammar.specs.Spelling.{IsNode, IsReply, line_of, node_word, reply_line, reply_words, term_word};
+ghost use Rattle.ring_grammar.specs.Identities.{IsNode, node_word, weight_text};
+ghost use Rattle.ring_grammar.specs.Spelling.{IsReply, line_of, reply_line, reply_words, term_word};
 ghost use Rattle.ring_mux.specs.declared.reply.Reply.TheVariants as reply;
 
 use crate::sink::{Sink, SinkFailed};
@@ -29,13 +30,7 @@ fn put_words<W: Sink>(reply: &Reply, out: &mut W) -> Result<(), SinkFailed>
     match reply {
         Reply::Done => out.put(b"ok"),
         Reply::Term(term) => put_number(b"term ", u128::from(term.get()), out),
-        Reply::Leader(term, leader) => put_numbers(
-            b"leader ",
-            u128::from(term.get()),
-            b" ",
-            u128::from(leader.get()),
-            out,
-        ),
+        Reply::Leader(term, leader) => put_leader(u128::from(term.get()), *leader, out),
         Reply::Undecided(term) => put_number(b"undecided ", u128::from(term.get()), out),
         Reply::Members(members) => put_members(members.as_slice(), out),
         Reply::Terms(leaders) => put_terms(leaders.as_slice(), out),
@@ -75,7 +70,28 @@ fn put_node<W: Sink>(text: &[u8], node: NodeId, out: &mut W) -> Result<(), SinkF
     ensures err { OnErr result (W.takes_front out.old (text.now ++ node_word node) out.new) }
     ensures legal { IsNode node }
 {
-    put_number(text, u128::from(node.get()), out)
+    put_number(text, u128::from(node.get()), out)?;
+    put_weight(node.weight(), out)
+}
+
+// A slash and a weight, and nothing for the weight 0.
+fn put_weight<W: Sink>(weight: u16, out: &mut W) -> Result<(), SinkFailed>
+    ensures ok { OnOk result (W.takes out.old (weight_text weight) out.new) }
+    ensures err { OnErr result (W.takes_front out.old (weight_text weight) out.new) }
+{
+    if weight == 0 {
+        return Ok(());
+    }
+    put_number(b"/", u128::from(weight), out)
+}
+
+fn put_leader<W: Sink>(term: u128, leader: NodeId, out: &mut W) -> Result<(), SinkFailed>
+    ensures ok { OnOk result (W.takes out.old (line_of (reply_words (reply.Leader term leader))) out.new) }
+    ensures err { OnErr result (W.takes_front out.old (line_of (reply_words (reply.Leader term leader))) out.new) }
+    ensures legal { IsNode leader }
+{
+    put_number(b"leader ", term, out)?;
+    put_node(b" ", leader, out)
 }
 
 // A text and a number, twice.

@@ -2,11 +2,13 @@ ghost use Rattle.std.specs.Prelude.{◌≡◌, ◌≤◌, decimal};
 ghost use Rattle.ring_id.specs.GroupName.{IsName};
 ghost use Rattle.ring_any.specs.Any.{word_of};
 ghost use Rattle.ring_grammar.specs.Reading.{IsShortNumber, Reads};
-ghost use Rattle.ring_grammar.specs.Spelling.{IsNode, node_word, side_word};
+ghost use Rattle.ring_grammar.specs.Identities.{IsNode, IsNumber, IsWeight, node_word};
+ghost use Rattle.ring_grammar.specs.Spelling.{side_word};
 
+use crate::parts::cut;
 use itoa::Buffer;
 use ring_any::Any;
-use ring_id::{GroupName, NodeId, Side};
+use ring_id::{GroupName, NodeId, NodeNo, Side};
 use std::str;
 
 /// The greatest number of deliveries that a line can ask for.
@@ -28,11 +30,34 @@ fn number(text: &[u8]) -> Option<u32>
     Some(number)
 }
 
-/// The identity that this word spells.
+/// The number of a node that this word spells.
+pub(crate) fn node_number(word: &[u8]) -> Option<NodeNo>
+    ensures { Reads decimal IsNumber word.now result }
+{
+    NodeNo::new(number(word)?)
+}
+
+/// The identity that this word spells: a number, and behind a slash a weight that isn't 0.
 pub(crate) fn node(word: &[u8]) -> Option<NodeId>
     ensures { Reads node_word IsNode word.now result }
 {
-    NodeId::new(number(word)?)
+    match cut(word, b'/') {
+        Some((front, rest)) => NodeId::weighted(number(front)?, weight(rest)?),
+        None => NodeId::new(number(word)?),
+    }
+}
+
+// The weight that this text spells: so it isn't 0.
+fn weight(text: &[u8]) -> Option<u16>
+    ensures { Reads decimal IsWeight text.now result }
+{
+    let Ok(weight) = u16::try_from(number(text)?) else {
+        return None;
+    };
+    if weight == 0 {
+        return None;
+    }
+    Some(weight)
 }
 
 /// The number of deliveries that this word spells.

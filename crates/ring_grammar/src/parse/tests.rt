@@ -1,6 +1,6 @@
 use super::{parse_command, parse_event};
 use ring_any::Any;
-use ring_id::{GroupName, Side};
+use ring_id::{GroupName, NodeId, Side};
 use ring_mux::{Command, Event};
 use std::alloc::{AllocError, Global};
 use std::str;
@@ -20,7 +20,10 @@ fn shown_command(alloc: Global, command: &Command<Any>) -> Result<String, AllocE
         Command::Create(group, kind) => {
             format!(in alloc; "create {} {}", name(group), text(kind.word()))
         }
-        Command::Join(group, node) => format!(in alloc; "join {} {}", name(group), node.get()),
+        Command::Join(group, node) => match node.weight() {
+            0 => format!(in alloc; "join {} {}", name(group), node.get()),
+            weight => format!(in alloc; "join {} {}/{weight}", name(group), node.get()),
+        },
         Command::Leave(group, node) => format!(in alloc; "leave {} {}", name(group), node.get()),
         Command::Start(group) => format!(in alloc; "start {}", name(group)),
         Command::Who(group, node) => format!(in alloc; "who {} {}", name(group), node.get()),
@@ -59,6 +62,9 @@ fn client_commands(rt: HostRuntime) -> Result<(), Fail> {
         b"create 9 hirschberg".as_slice(),
         b"create - peterson".as_slice(),
         b"join a 1".as_slice(),
+        b"join a 1/9".as_slice(),
+        b"join a 5/65535".as_slice(),
+        b"join abcdefghijklmn-0 4294967295/10000".as_slice(),
         b"leave a 4294967295".as_slice(),
         b"start a".as_slice(),
         b"who a 10".as_slice(),
@@ -68,6 +74,21 @@ fn client_commands(rt: HostRuntime) -> Result<(), Fail> {
     ] {
         assert_eq!(rt; respelled(rt.alloc(), line)?.as_bytes(), line);
         assert!(rt; parse_command(line).is_some());
+    }
+    Ok(())
+}
+
+#[test]
+fn a_weight_is_read_with_its_number(rt: HostRuntime) -> Result<(), Fail> {
+    for (line, number, weight) in [
+        (b"join a 1/9".as_slice(), 1, 9),
+        (b"join a 9/1".as_slice(), 9, 1),
+        (b"join a 9".as_slice(), 9, 0),
+        (b"join a 4294967295/65535".as_slice(), 4294967295, 65535),
+    ] {
+        let wanted = NodeId::weighted(number, weight).ok_or("no identity")?;
+        let command = parse_command(line);
+        assert!(rt; matches!(command, Some(Command::Join(_, node)) if node == wanted));
     }
     Ok(())
 }
@@ -104,6 +125,29 @@ fn lines_that_spell_nothing(rt: HostRuntime) {
         b"join  a 7".as_slice(),
         b"join a 7\r".as_slice(),
         b"join a 7 8".as_slice(),
+        b"join a 5/0".as_slice(),
+        b"join a 5/".as_slice(),
+        b"join a 5/07".as_slice(),
+        b"join a 5/+7".as_slice(),
+        b"join a 5/65536".as_slice(),
+        b"join a 5/4294967296".as_slice(),
+        b"join a 5/7/8".as_slice(),
+        b"join a 5/7/".as_slice(),
+        b"join a 5//7".as_slice(),
+        b"join a /7".as_slice(),
+        b"join a /".as_slice(),
+        b"join a 0/7".as_slice(),
+        b"join a 05/7".as_slice(),
+        b"join a 4294967296/7".as_slice(),
+        b"join a 5 /7".as_slice(),
+        b"join a 5/ 7".as_slice(),
+        b"join a/9 5".as_slice(),
+        b"leave a 5/7".as_slice(),
+        b"leave a 0".as_slice(),
+        b"who a 1/9".as_slice(),
+        b"who a 4294967296".as_slice(),
+        b"deliver a 5/7 left".as_slice(),
+        b"drain a 5/7".as_slice(),
         b"join\ta 7".as_slice(),
         b"JOIN a 7".as_slice(),
         b"join A 7".as_slice(),

@@ -32,8 +32,8 @@ impl Sink for Pieces {
     }
 }
 
-fn node(number: u32) -> Result<NodeId, Fail> {
-    Ok(NodeId::new(number).ok_or("no identity")?)
+fn node(number: u32, weight: u16) -> Result<NodeId, Fail> {
+    Ok(NodeId::weighted(number, weight).ok_or("no identity")?)
 }
 
 fn term(number: u16) -> Result<TermNo, Fail> {
@@ -60,13 +60,17 @@ fn drained(done: u32, left: u128, starved: bool) -> Reply {
 
 #[test]
 fn replies_of_one_form(rt: HostRuntime) -> Result<(), Fail> {
-    let (term, node) = (term(20)?, node(4294967295)?);
+    let (term, heavy, node) = (term(20)?, node(1, 65535)?, node(4294967295, 0)?);
     for (reply, text) in [
         (Reply::Done, b"ok\n".as_slice()),
         (Reply::Term(term), b"term 20\n".as_slice()),
         (
             Reply::Leader(term, node),
             b"leader 20 4294967295\n".as_slice(),
+        ),
+        (
+            Reply::Leader(term, heavy),
+            b"leader 20 1/65535\n".as_slice(),
         ),
         (Reply::Undecided(term), b"undecided 20\n".as_slice()),
         (Reply::Moved, b"moved\n".as_slice()),
@@ -118,8 +122,9 @@ fn book(alloc: Global) -> Result<Book<Any>, Refusal> {
     let mut book = Book::new(alloc);
     let full = GroupName::from_bytes(b"a")?;
     book.create(alloc, full, Any::Chang)?;
-    for number in [3, 4294967295, 1] {
-        book.join(full, NodeId::new(number).ok_or(Refusal::BadLine)?)?;
+    for (number, weight) in [(3, 0), (4294967295, 10000), (1, 9)] {
+        let node = NodeId::weighted(number, weight).ok_or(Refusal::BadLine)?;
+        book.join(full, node)?;
     }
     book.start(alloc, full)?;
     book.start(alloc, full)?;
@@ -137,7 +142,7 @@ fn replies_with_lists(rt: HostRuntime) -> Result<(), Fail> {
         .or_else(|_| book.members(alloc, full))?;
     assert_eq!(rt;
         printed(alloc, &Reply::Members(members))?.as_slice(),
-        b"members 3 4294967295 1\n".as_slice()
+        b"members 3 4294967295/10000 1/9\n".as_slice()
     );
     let terms = book
         .terms(alloc, full)

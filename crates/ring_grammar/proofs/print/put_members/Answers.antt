@@ -1,6 +1,6 @@
 use Rattle.std.proofs.Common.{codes, map, arith}
 use Rattle.std.proofs.lemmas.List.{length-map}
-use Rattle.ring_grammar.specs.Spelling.{IsNode, node_word}
+use Rattle.ring_grammar.specs.Identities.{IsNode, node_word}
 use Rattle.ring_grammar.proofs.Putting.{legal_all, legal_more, at_map, on_err_anyway, put_last, put_next, put_none, put_stopped}
 use Rattle.ring_grammar.proofs.print.put_members.Goals as goal
 

@@ -1,5 +1,5 @@
 use Rattle.std.proofs.Common.{◌++◌, codes, map, take}
-use Rattle.ring_grammar.specs.Spelling.{IsNode, node_word}
+use Rattle.ring_grammar.specs.Identities.{IsNode, node_word}
 use Rattle.ring_grammar.proofs.Putting.{PutSoFar, spaced}
 use Rattle.ring_grammar.proofs.print.put_members.Given as goal
 

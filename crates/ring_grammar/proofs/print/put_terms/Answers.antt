@@ -1,6 +1,7 @@
 use Rattle.std.proofs.Common.{◌+◌, codes, arith}
 use Rattle.std.specs.Prelude.{IfSome}
-use Rattle.ring_grammar.specs.Spelling.{IsNode, term_word, term_words}
+use Rattle.ring_grammar.specs.Identities.{IsNode}
+use Rattle.ring_grammar.specs.Spelling.{term_word, term_words}
 use Rattle.ring_grammar.proofs.Putting.{legal_all, legal_more, at_terms, length-term_words, on_err_anyway, put_last, put_next, put_none, put_stopped}
 use Rattle.ring_grammar.proofs.print.put_terms.Goals as goal
 

@@ -1,6 +1,7 @@
 use Rattle.std.proofs.Common.{◌++◌, codes, take}
 use Rattle.std.specs.Prelude.{IfSome}
-use Rattle.ring_grammar.specs.Spelling.{IsNode, term_words}
+use Rattle.ring_grammar.specs.Identities.{IsNode}
+use Rattle.ring_grammar.specs.Spelling.{term_words}
 use Rattle.ring_grammar.proofs.Putting.{PutSoFar, spaced}
 use Rattle.ring_grammar.proofs.print.put_terms.Given as goal
 

@@ -1,0 +1,24 @@
+-- How identities and the numbers of nodes are spelled: a node that joins by its whole identity, one that
+-- is a member already by its number alone.
+use Rattle.std.specs.Prelude.{◌<◌, ◌^◌, ◌==◌, ◌++◌, ℕ, List, [], cond, codes, decimal}
+use Rattle.ring_id.specs.Identity.{number_of, weight_of}
+
+-- a weight is spelled behind a slash, and the weight 0 not at all
+abbrev pub weight_text : ℕ → List ℕ
+weight_text weight = cond (weight == 0) [] (codes "/" ++ decimal weight)
+
+-- an identity, given its rank, is spelled by its number and its weight
+abbrev pub node_word : ℕ → List ℕ
+node_word rank = decimal (number_of rank) ++ weight_text (weight_of rank)
+
+-- a number of the grammar: from 1 to 4294967295
+abbrev pub IsNumber : ℕ → Type 0
+IsNumber number = (0 < number) × (number < 2 ^ 32)
+
+-- a weight of the grammar that is written: from 1 to 65535
+abbrev pub IsWeight : ℕ → Type 0
+IsWeight weight = (0 < weight) × (weight < 2 ^ 16)
+
+-- an identity of the grammar, given its rank: it has such a number, and a weight of at most 65535
+abbrev pub IsNode : ℕ → Type 0
+IsNode rank = IsNumber (number_of rank) × (weight_of rank < 2 ^ 16)
