@@ -11,8 +11,8 @@ use Rattle.std.proofs.Math.ListN.{length-set}
 use Rattle.std.proofs.lemmas.Option.{slice_get-get_or, slice_get_within}
 use Rattle.std.proofs.lemmas.Slice.Eq.{bytes_eq-Decides}
 use Rattle.ring_id.specs.declared.side.Side.{Side}
-use Rattle.ring_roster.specs.Ring.{IsRing, has_number, position_of}
-use Rattle.ring_election.proofs.Rings.{same_position}
+use Rattle.ring_id.specs.Identity.{number_of}
+use Rattle.ring_roster.specs.Ring.{IsRing, is_numbered, position_of}
 use Rattle.ring_election.specs.Tables.{Table}
 use Rattle.ring_node.specs.declared.charter.Charter.{Charter}
 use Rattle.ring_node.specs.declared.packet.Packet.{Packet}
@@ -29,7 +29,7 @@ use Rattle.ring_terms.specs.Moves.{Informs, LeadsAfter, inform}
 use Rattle.ring_terms.specs.Notes.{NotesOf}
 use Rattle.ring_terms.specs.declared.standing.Noting.{Noting}
 use Rattle.ring_terms.specs.declared.standing.Noting.TheVariants.{Noted, Known, Stale}
-use Rattle.ring_terms.proofs.Members.{position_of-member}
+use Rattle.ring_terms.proofs.Members.{position_of-member, same_numbered}
 use Rattle.ring_mux.specs.Steps.{MovesOf}
 use Rattle.ring_mux.specs.Views.{IsHeld, IsSeat, IsWorldOf, world_in}
 use Rattle.ring_mux.specs.Journeys.{with_world}
@@ -189,12 +189,12 @@ module _ {E S M : Type 0} (t : E → Table S M) (object : Object E) (worlds : Li
   }
 
 -- where a member of a ring stands
-pub position_is : (ring : List ℕ) (i m k : ℕ) → IsRing ring → slice_get ring i ≡ Some m → position_of m ring ≡ Some k → k ≡ i
+pub position_is : (ring : List ℕ) (i m k : ℕ) → IsRing ring → slice_get ring i ≡ Some m → position_of (number_of m) ring ≡ Some k → k ≡ i
 position_is ring i m k is_ring here placed =
-    let at = position-Some (has_number m) ring k 0 placed in
-    let test : get_or ring k 0 == m ≡ true = at.1 in
-    let same : get_or ring k 0 ≡ m = grind (arith, nat_tests) in
-    same_position ring k i m is_ring (slice_get-get_or ring k 0 (at.0) ∙ ap (λ (n : ℕ). Some n) same) here
+    let at = position-Some (is_numbered (number_of m)) ring k 0 placed in
+    let test : number_of (get_or ring k 0) == number_of m ≡ true = at.1 in
+    let same : number_of (get_or ring k 0) ≡ number_of m = grind (arith, nat_tests) in
+    same_numbered ring k i (get_or ring k 0) m is_ring.distinct (slice_get-get_or ring k 0 (at.0)) here same
 
 -- what was written at a place stands there, and all else as before
 set_here : {X : Type 0} (xs : List X) (i : ℕ) (y : X) → i < length xs → slice_get (slice_set xs i y) i ≡ Some y
@@ -241,7 +241,7 @@ module _ {E S M : Type 0} (t : E → Table S M) (object : Object E) (worlds : Li
 
   module _ (is_ring : IsRing world.charter.roster) (report : Told E) (told : told_of t (node_at world i) (node_at (after_receipt world i side p) i) ≡ Some report) where
     -- the member that reports stands at the receiver's position
-    reporter_at : (k : ℕ) → position_of report.member term.ring ≡ Some k → k ≡ i
+    reporter_at : (k : ℕ) → position_of (number_of report.member) term.ring ≡ Some k → k ≡ i
     reporter_at k placed =
         let ring : IsRing term.ring = rw (here_of.0) at is_ring in
         let knows = told_knows t world i within side p report told in
@@ -257,7 +257,7 @@ module _ {E S M : Type 0} (t : E → Table S M) (object : Object E) (worlds : Li
     reporter_runs = here_of.1 ∙ ap (λ (c : Charter E). Some c) (sym ((told_knows t world i within side p report told).2))
 
     -- the group after its note
-    noted_group : (greatest : Bool) (before after : GroupView E) → before ≡ group → Informs greatest report.member report.leader before after → after ≡ with_last (inform i report.leader term) group
+    noted_group : (greatest : Bool) (before after : GroupView E) → before ≡ group → Informs greatest (number_of report.member) report.leader before after → after ≡ with_last (inform i report.leader term) group
     noted_group greatest before after same informs =
         let last_is : informs.before ≡ term = same_found (last_term group) informs.before term (rw same at informs.found) last in
         let place : informs.does.position ≡ i = reporter_at informs.does.position (rw last_is at informs.does.placed) in
@@ -268,7 +268,7 @@ module _ {E S M : Type 0} (t : E → Table S M) (object : Object E) (worlds : Li
         ∙ ap (λ (g : GroupView E). with_last (inform i report.leader term) g) same
 
     -- and the leader that is named
-    noted_leads : (greatest : Bool) (before after : GroupView E) → before ≡ group → Informs greatest report.member report.leader before after → LeadsAfter greatest term.ring term.leader report.leader
+    noted_leads : (greatest : Bool) (before after : GroupView E) → before ≡ group → Informs greatest (number_of report.member) report.leader before after → LeadsAfter greatest term.ring term.leader report.leader
     noted_leads greatest before after same informs =
         let last_is : informs.before ≡ term = same_found (last_term group) informs.before term (rw same at informs.found) last in
         rw last_is at informs.does.leads
@@ -316,9 +316,9 @@ module _ {E S M : Type 0} (t : E → Table S M) (object : Object E) (worlds : Li
     noted greatest Stale object' notes = absurd ((notes.0) (rw at reporter_runs))
 
 -- a member stands at its own position
-member_at : (ring : List ℕ) (i m : ℕ) (o : Option ℕ) → IsRing ring → slice_get ring i ≡ Some m → position_of m ring ≡ o → position_of m ring ≡ Some i
+member_at : (ring : List ℕ) (i m : ℕ) (o : Option ℕ) → IsRing ring → slice_get ring i ≡ Some m → position_of (number_of m) ring ≡ o → position_of (number_of m) ring ≡ Some i
 member_at ring i m (Some k) is_ring here e = e ∙ ap (λ (n : ℕ). Some n) (position_is ring i m k is_ring here e)
 member_at ring i m None is_ring here e = absurd (position_of-member m ring i here e)
 
-pub position_here : (ring : List ℕ) (i : ℕ) → IsRing ring → i < length ring → position_of (get_or ring i 0) ring ≡ Some i
-position_here ring i is_ring below = member_at ring i (get_or ring i 0) (position_of (get_or ring i 0) ring) is_ring (slice_get-get_or ring i 0 below) refl
+pub position_here : (ring : List ℕ) (i : ℕ) → IsRing ring → i < length ring → position_of (number_of (get_or ring i 0)) ring ≡ Some i
+position_here ring i is_ring below = member_at ring i (get_or ring i 0) (position_of (number_of (get_or ring i 0)) ring) is_ring (slice_get-get_or ring i 0 below) refl

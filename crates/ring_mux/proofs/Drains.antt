@@ -6,6 +6,7 @@ use Rattle.std.proofs.lemmas.Map.Steps.{set_value_same}
 use Rattle.ring_id.specs.declared.side.Side.{Side}
 use Rattle.ring_id.specs.declared.side.Side.TheVariants.{Left, Right}
 use Rattle.ring_id.specs.declared.refusal.Refusal.TheVariants as refused
+use Rattle.ring_id.specs.Identity.{number_of}
 use Rattle.ring_id.specs.Refusals.{unless_some}
 use Rattle.ring_roster.specs.Ring.{IsRing}
 use Rattle.ring_election.specs.Tables.{Table}
@@ -128,7 +129,7 @@ module _ {E S M : Type 0} (t : E → Table S M) (object : Object E) (worlds : Li
     carries_on two_way greatest n start new is_ring moves made carries =
         let carried = (carries kept.world kept.found).1 in
         let same : carried.before ≡ kept.world = same_found (world_in name worlds) carried.before kept.world carried.found kept.found in
-        let node : ℕ = get_or kept.world.charter.roster position 0 in
+        let node : ℕ = number_of (get_or kept.world.charter.roster position 0) in
         let step = (carried.object) node (rw same (position_here kept.world.charter.roster position is_ring ready.inside)) in (
           one_moved greatest name n node start.object object new.object moves step,
           (record { object = object; worlds = worlds }, made, record { position = position; side = side; carried = carried; ready = rw same ready }),

@@ -19,6 +19,7 @@ use Rattle.ring_node.specs.declared.charter.Charter.{Charter}
 use Rattle.ring_terms.specs.Kept.{IsKept}
 use Rattle.ring_terms.specs.Object.{GroupView, InGroup, Object, OfGroup, find, names, new_group, place_of}
 use Rattle.ring_id.specs.declared.side.Side.{Side}
+use Rattle.ring_id.specs.Identity.{number_of}
 use Rattle.ring_roster.specs.Ring.{IsRing}
 use Rattle.ring_election.specs.Tables.{Table}
 use Rattle.ring_world.specs.Worlds.{IsSoundWorld, Running}
@@ -152,8 +153,9 @@ pub names_carried : {E S M : Type 0} (t : E → Table S M) (greatest : E → Boo
     HasCarried t greatest name i side old new → IsRing world.charter.roster → i < length world.charter.roster → names new.object ≡ names old.object
 names_carried t greatest name i side old new world found carried ring inside =
     let roster = world.charter.roster in
+    let node = number_of (get_or roster i 0) in
     let same = same_found (world_in name old.worlds) carried.before world carried.found found in
-    names_kept name (MovesOf greatest (get_or roster i 0)) old.object new.object (carried.object (get_or roster i 0) (rw same (position_here roster i ring inside)))
+    names_kept name (MovesOf greatest node) old.object new.object (carried.object node (rw same (position_here roster i ring inside)))
 
 -- where a world stands there is a place
 pub inside_at : {X : Type 0} (slots : List (Option X)) (place : ℕ) (x : X) → world_at slots place ≡ Some x → place < length slots

@@ -5,7 +5,7 @@ use Rattle.ring_id.specs.declared.refusal.Refusal.{Refusal}
 use Rattle.ring_id.specs.declared.refusal.Refusal.TheVariants as refused
 use Rattle.ring_id.specs.declared.side.Side.{Side}
 use Rattle.ring_id.specs.Refusals.{IsRefusal, unless_some}
-use Rattle.ring_roster.specs.Ring.{has_number, position_of}
+use Rattle.ring_roster.specs.Ring.{is_numbered, position_of}
 use Rattle.ring_election.specs.Tables.{Table}
 use Rattle.ring_node.specs.declared.charter.Charter.{Charter}
 use Rattle.ring_world.specs.Worlds.{Running, link_refusal}
@@ -40,7 +40,7 @@ pub seat_on_ring : {E : Type 0} (name : List ℕ) (object : Object E) (node i : 
 seat_on_ring name object node i of = record {
   group = of.group;
   found = of.found;
-  says = record { term = of.says.term; found = of.says.found; says = (position-Some (has_number node) of.says.term.ring i 0 of.says.says).0 };
+  says = record { term = of.says.term; found = of.says.found; says = (position-Some (is_numbered node) of.says.term.ring i 0 of.says.says).0 };
 }
 
 -- and its group runs
