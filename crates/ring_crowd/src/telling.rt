@@ -2,7 +2,7 @@
 use anyhow::{Result, anyhow};
 use ring_any::Any;
 use ring_grammar::print_reply;
-use ring_id::GroupName;
+use ring_id::{GroupName, NodeId};
 use ring_mux::Command;
 use ring_service::Entry;
 use ring_terms::Noting;
@@ -34,9 +34,11 @@ pub fn tell(alloc: Global, entry: &Entry<Any>) -> Result<Vec<u8>> {
             leader,
             noting,
         } => {
-            let (group, term, member) = (name(group)?, term.get(), member.get());
-            let (leader, became) = (leader.get(), word(*noting));
-            writeln!(text, "filed {group} {term} {member} {leader} {became}")?;
+            write!(text, "filed {} {} ", name(group)?, term.get())?;
+            write_node(&mut text, *member)?;
+            text.push(' ')?;
+            write_node(&mut text, *leader)?;
+            writeln!(text, " {}", word(*noting))?;
             Ok(text.into_bytes())
         }
     }
@@ -56,6 +58,15 @@ fn word(noting: Noting) -> &'static str {
     }
 }
 
+// Writes an identity as a line spells it: its number, and its weight where it has one.
+fn write_node(text: &mut String, node: NodeId) -> Result<()> {
+    write!(text, "{}", node.get())?;
+    if node.weight() > 0 {
+        write!(text, "/{}", node.weight())?;
+    }
+    Ok(())
+}
+
 // Writes a command as its line spells it.
 fn write_command(text: &mut String, command: &Command<Any>) -> Result<()> {
     match command {
@@ -63,7 +74,10 @@ fn write_command(text: &mut String, command: &Command<Any>) -> Result<()> {
             let kind = str::from_utf8(kind.word())?;
             write!(text, "create {} {kind}", name(group)?)?;
         }
-        Command::Join(group, node) => write!(text, "join {} {}", name(group)?, node.get())?,
+        Command::Join(group, node) => {
+            write!(text, "join {} ", name(group)?)?;
+            write_node(text, *node)?;
+        }
         Command::Leave(group, node) => write!(text, "leave {} {}", name(group)?, node.get())?,
         Command::Start(group) => write!(text, "start {}", name(group)?)?,
         Command::Who(group, node) => write!(text, "who {} {}", name(group)?, node.get())?,

@@ -8,6 +8,7 @@ use Rattle.std.proofs.lemmas.Bool.{cases_Bool}
 use Rattle.std.proofs.lemmas.Cmp.{nat_list_eq_equiv}
 use Rattle.std.proofs.lemmas.List.{get_or-set_other, get_or-set_same, length-set}
 use Rattle.std.proofs.lemmas.Option.{none-some, same_Some, slice_get-get_or, get_or_from_slice_get, slice_get_within}
+use Rattle.ring_id.specs.Identity.{number_of}
 use Rattle.ring_election.specs.Tables.{Table}
 use Rattle.ring_node.specs.declared.charter.Charter.{Charter}
 use Rattle.ring_node.specs.Nodes.{Seated, report_of}
@@ -124,7 +125,7 @@ module _ {E : Type 0} (greatest : E → Bool) (report : Told E) (old new : Objec
   notes_running : (became : Noting) → Notes greatest report old became new → (name : List ℕ) (charter : Charter E) → running_in name old ≡ Some charter → running_in name new ≡ Some charter
   notes_running Noted noted name charter runs =
       running_of name new charter (kept_in report.charter.group name _ _ old new
-      (λ before after informs. still_running (greatest report.charter.algorithm) report.member report.leader before after informs name charter)
+      (λ before after informs. still_running (greatest report.charter.algorithm) (number_of report.member) report.leader before after informs name charter)
       noted.1 (of_running name old charter runs))
   notes_running Known noted name charter runs = rw noted.1 runs
   notes_running Stale noted name charter runs = rw noted.1 runs
@@ -133,20 +134,20 @@ module _ {E : Type 0} (greatest : E → Bool) (report : Told E) (old new : Objec
   notes_informed : (became : Noting) → Notes greatest report old became new → (name : List ℕ) (member leader : ℕ) → OfGroup name (IsInformed member leader) old → OfGroup name (IsInformed member leader) new
   notes_informed Noted noted name member leader informed =
       kept_in report.charter.group name _ _ old new
-      (λ before after informs. still_informed (greatest report.charter.algorithm) report.member report.leader before after informs member leader)
+      (λ before after informs. still_informed (greatest report.charter.algorithm) (number_of report.member) report.leader before after informs member leader)
       noted.1 informed
   notes_informed Known noted name member leader informed = rw noted.1 informed
   notes_informed Stale noted name member leader informed = rw noted.1 informed
 
   -- a report of the running term informs its member
-  notes_member : (became : Noting) → Notes greatest report old became new → running_in report.charter.group old ≡ Some report.charter → OfGroup report.charter.group (IsInformed report.member report.leader) new
+  notes_member : (became : Noting) → Notes greatest report old became new → running_in report.charter.group old ≡ Some report.charter → OfGroup report.charter.group (IsInformed (number_of report.member) report.leader) new
   notes_member Noted noted runs =
       let inside = noted.1 in
       record {
         group = inside.after;
         found = ap (find report.charter.group) inside.rest ∙ find-with_group report.charter.group inside.before inside.after old inside.found report.charter.group
             ∙ ap (λ b. cond b (Some inside.after) (find report.charter.group old)) (nat_list_eq_equiv.refl report.charter.group);
-        says = now_informed (greatest report.charter.algorithm) report.member report.leader inside.before inside.after inside.does;
+        says = now_informed (greatest report.charter.algorithm) (number_of report.member) report.leader inside.before inside.after inside.does;
       }
   notes_member Known noted runs = rw noted.1 noted.2
   notes_member Stale noted runs = absurd (noted.0 runs)
@@ -173,12 +174,12 @@ module _ {E S M : Type 0} (t : E → Table S M) (greatest : E → Bool) where
 
   -- where one of these nodes has a report of the running term, its member is informed afterwards
   pub report_informs : (nodes : List (Seated E M)) (old new : TableView E) → FilesEach t greatest nodes old new → (k : ℕ) (node : Seated E M) (report : Told E) → slice_get nodes k ≡ Some node → report_of t node ≡ Some report →
-      running_in report.charter.group old.book ≡ Some report.charter → OfGroup report.charter.group (IsInformed report.member report.leader) new.book
+      running_in report.charter.group old.book ≡ Some report.charter → OfGroup report.charter.group (IsInformed (number_of report.member) report.leader) new.book
   report_informs [] old new filed k node report there reports runs = absurd (none-some node there)
   report_informs (first ∷ nodes) old new filed zero node report there reports runs =
       let one : first ≡ node = same_Some first node there in
       let is : FilesOne greatest (Some report) old filed.0 = subst (λ r. FilesOne greatest r old filed.0) (ap (report_of t) one ∙ reports) filed.1 in
-      each_informed nodes filed.0 new filed.2 report.charter.group report.member report.leader (notes_member greatest report old.book filed.0.book is.1.became is.1.noted runs)
+      each_informed nodes filed.0 new filed.2 report.charter.group (number_of report.member) report.leader (notes_member greatest report old.book filed.0.book is.1.became is.1.noted runs)
   report_informs (first ∷ nodes) old new filed (suc k) node report there reports runs =
       report_informs nodes filed.0 new filed.2 k node report there reports (one_running (report_of t first) old filed.0 filed.1 report.charter.group report.charter runs)
 

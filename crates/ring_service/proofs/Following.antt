@@ -1,6 +1,7 @@
 -- Histories that grow: an entry more, and the entry of a report.
 use Rattle.std.proofs.Common.{◌≡◌, ℕ, Bool, List, [], ◌∷◌, ◌++◌, length, Some, refl, sym, ap, subst}
 use Rattle.std.proofs.lemmas.Option.{same_Some}
+use Rattle.ring_id.specs.Identity.{number_of}
 use Rattle.ring_node.specs.declared.charter.Charter.{Charter}
 use Rattle.ring_node.specs.Reports.{Told}
 use Rattle.ring_terms.specs.Charters.{running_charter, running_in}
@@ -42,7 +43,7 @@ filing_of greatest report old Noted new notes =
       before = inside.before;
       after = inside.after;
       found = inside.found;
-      does = record { numbered = of.numbered; informs = subst (λ a. Informs (greatest a) report.member report.leader inside.before inside.after) of.algorithm inside.does };
+      does = record { numbered = of.numbered; informs = subst (λ a. Informs (greatest a) (number_of report.member) report.leader inside.before inside.after) of.algorithm inside.does };
       rest = inside.rest;
     }
 filing_of greatest report old Known new notes =

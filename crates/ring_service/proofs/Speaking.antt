@@ -5,7 +5,7 @@ use Rattle.std.specs.List.{list_any}
 use Rattle.ring_id.specs.declared.refusal.Refusal.{Refusal}
 use Rattle.ring_id.specs.declared.refusal.Refusal.TheVariants as refused
 use Rattle.ring_id.specs.Refusals.{IsRefusal, first_of, unless_some}
-use Rattle.ring_roster.specs.Ring.{has_number, position_of}
+use Rattle.ring_roster.specs.Ring.{has_number, is_numbered, position_of}
 use Rattle.ring_terms.specs.Commands.{create_refusal, in_group, join_refusal, leave_refusal, member_refusal, never_refused, start_refusal, who_refusal}
 use Rattle.ring_terms.specs.Object.{GroupView, Object, find, last_term}
 use Rattle.ring_mux.specs.declared.event.Command.{Command}
@@ -48,7 +48,7 @@ module _ {E : Type 0} where
       (first (nat_le 256 (length group.members)) refused.RingFull None (λ is. cc) nothing)
 
   leave_not : (node : ℕ) (group : GroupView E) → IsNoBadLine (leave_refusal node group)
-  leave_not node group = first (not (list_any (has_number node) group.members)) refused.NotMember None (λ is. cc) nothing
+  leave_not node group = first (not (list_any (is_numbered node) group.members)) refused.NotMember None (λ is. cc) nothing
 
   start_not : (group : GroupView E) → IsNoBadLine (start_refusal group)
   start_not group =

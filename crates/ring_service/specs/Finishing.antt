@@ -1,5 +1,6 @@
 -- Finishing a table: the reports of nodes are filed, one after another.
 use Rattle.std.specs.Prelude.{◌≡◌, ℕ, Bool, List, [], ◌∷◌, ◌++◌, Option, Some, None, Result, Ok, Err, slice_get}
+use Rattle.ring_id.specs.Identity.{number_of}
 use Rattle.ring_id.specs.declared.refusal.NoMemory.{NoMemory}
 use Rattle.ring_election.specs.Tables.{Table}
 use Rattle.ring_node.specs.declared.charter.Charter.{Charter}
@@ -34,4 +35,4 @@ Finishes t greatest nodes old (Err refused) new = FilesSome t greatest nodes old
 
 -- each member of a charter's ring is informed of this leader in the last term of its group
 pub record AllInformed {E : Type 0} (charter : Charter E) (leader : ℕ) (object : Object E) : Type 0 where
-  pub each : (i member : ℕ) → slice_get charter.roster i ≡ Some member → OfGroup charter.group (IsInformed member leader) object
+  pub each : (i member : ℕ) → slice_get charter.roster i ≡ Some member → OfGroup charter.group (IsInformed (number_of member) leader) object

@@ -1,6 +1,7 @@
 -- Histories: lists of calls and filings. A history is legal for a book where it is a run of the
 -- election object, from no groups at all, that gives its replies and that book.
 use Rattle.std.specs.Prelude.{◌≡◌, ℕ, Bool, List, [], ◌∷◌, length}
+use Rattle.ring_id.specs.Identity.{number_of}
 use Rattle.ring_id.specs.declared.refusal.Refusal.TheVariants.{NoMemory}
 use Rattle.ring_terms.specs.Moves.{Informs}
 use Rattle.ring_terms.specs.Object.{GroupView, InGroup, Object, OfGroup}
@@ -23,22 +24,23 @@ pub record IsCall {E : Type 0} (two_way greatest : E → Bool) (command : Comman
   pub step : StepOf two_way greatest old command answer new
   pub granted : answer ≡ starved → ⊥
 
--- in the last term of a group, which has this number, a member that was not informed becomes informed
--- of this leader, as by a delivery that moves it
+-- in the last term of a group, which has this number, a member, named by its number, that was not
+-- informed becomes informed of this leader, as by a delivery that moves it
 pub record InformsOf {E : Type 0} (greatest : E → Bool) (term member leader : ℕ) (old new : GroupView E) : Type 0 where
   pub numbered : length old.terms ≡ term
   pub informs : Informs (greatest old.algorithm) member leader old new
 
--- in the last term of a group, which has this number, a member is informed of this leader
+-- in the last term of a group, which has this number, a member, named by its number, is informed of
+-- this leader
 pub record IsInformedOf {E : Type 0} (term member leader : ℕ) (group : GroupView E) : Type 0 where
   pub numbered : length group.terms ≡ term
   pub informed : IsInformed member leader group
 
--- What the filing of a report does. Noted: the member becomes informed of the leader. Known: it was
--- informed of it already. Known and stale change nothing.
+-- What the filing of a report does, which has its member's identity. Noted: the member becomes informed
+-- of the leader. Known: it was informed of it already. Known and stale change nothing.
 abbrev pub IsFiling : {E : Type 0} → (E → Bool) → List ℕ → ℕ → ℕ → ℕ → Object E → Noting → Object E → Type 0
-IsFiling greatest group term member leader old Noted new = InGroup group (InformsOf greatest term member leader) old new
-IsFiling greatest group term member leader old Known new = (new ≡ old) × OfGroup group (IsInformedOf term member leader) old
+IsFiling greatest group term member leader old Noted new = InGroup group (InformsOf greatest term (number_of member) leader) old new
+IsFiling greatest group term member leader old Known new = (new ≡ old) × OfGroup group (IsInformedOf term (number_of member) leader) old
 IsFiling greatest group term member leader old Stale new = new ≡ old
 
 module _ {E : Type 0} (two_way greatest : E → Bool) where

@@ -12,13 +12,14 @@ const LEFT: u64 = 92;
 
 const HEAD: u64 = 108;
 
-/// The room behind the last column, for what members then know.
+/// The least room behind the last column, for what members then know.
 const MARGIN: u64 = 190;
 
 /// The places of a picture.
 #[derive(Clone, Copy, Debug)]
 pub struct Frame {
     gap: u64,
+    margin: u64,
     columns: u64,
     steps: u64,
     flying: u64,
@@ -29,8 +30,13 @@ impl Frame {
     /// The places of the picture of a term, which has a title of so many characters.
     pub fn of(tale: &Tale, title: usize) -> Frame {
         let label = (tale.widest() as u64).saturating_mul(7).saturating_add(44);
+        // one member knows another: two names, and seven characters between them
+        let note = (tale.widest_name() as u64)
+            .saturating_mul(14)
+            .saturating_add(50);
         Frame {
             gap: label.max(NARROW),
+            margin: note.max(MARGIN),
             columns: tale.ring.len() as u64,
             steps: tale.steps.len() as u64,
             flying: tale.flying.len() as u64,
@@ -88,7 +94,7 @@ impl Frame {
 
     /// How wide the picture is.
     pub fn width(self) -> u64 {
-        let columns = self.x_margin().saturating_add(MARGIN);
+        let columns = self.x_margin().saturating_add(self.margin);
         let title = self.title.saturating_mul(10).saturating_add(60);
         columns.max(title).max(620)
     }

@@ -1,6 +1,7 @@
-//! The words that stand beside arrows and above pictures.
+//! The words that stand beside arrows and above pictures, and the names of members.
 use ring_any::{Any, AnyMsg};
 use ring_hirschberg::HirschbergMsg;
+use ring_id::NodeId;
 use ring_node::Packet;
 use std::alloc::{AllocError, Global};
 
@@ -8,7 +9,7 @@ use std::alloc::{AllocError, Global};
 pub fn of_packet(alloc: Global, packet: Packet<AnyMsg>) -> Result<String, AllocError> {
     match packet {
         Packet::Leader(leader) => {
-            let leader = leader.get();
+            let leader = of_member(alloc, leader)?;
             format!(in alloc; "leader {leader}")
         }
         Packet::Algo(message) => of_message(alloc, message),
@@ -18,9 +19,9 @@ pub fn of_packet(alloc: Global, packet: Packet<AnyMsg>) -> Result<String, AllocE
 // The words of a message.
 fn of_message(alloc: Global, message: AnyMsg) -> Result<String, AllocError> {
     match message {
-        AnyMsg::LeLann(id) => of_number(alloc, id.get()),
-        AnyMsg::Chang(id) => of_number(alloc, id.get()),
-        AnyMsg::Peterson(id) => of_number(alloc, id.get()),
+        AnyMsg::LeLann(id) => of_member(alloc, id),
+        AnyMsg::Chang(id) => of_member(alloc, id),
+        AnyMsg::Peterson(id) => of_member(alloc, id),
         AnyMsg::Hirschberg(token) => of_token(alloc, token),
     }
 }
@@ -29,18 +30,22 @@ fn of_message(alloc: Global, message: AnyMsg) -> Result<String, AllocError> {
 fn of_token(alloc: Global, token: HirschbergMsg) -> Result<String, AllocError> {
     match token {
         HirschbergMsg::Out { id, hops } => {
-            let id = id.get();
+            let id = of_member(alloc, id)?;
             format!(in alloc; "{id} out {hops}")
         }
         HirschbergMsg::Back { id } => {
-            let id = id.get();
+            let id = of_member(alloc, id)?;
             format!(in alloc; "{id} back")
         }
     }
 }
 
-fn of_number(alloc: Global, number: u32) -> Result<String, AllocError> {
-    format!(in alloc; "{number}")
+/// The name of a member, as a line spells it: its number, and its weight where it has one.
+pub fn of_member(alloc: Global, member: NodeId) -> Result<String, AllocError> {
+    match member.weight() {
+        0 => format!(in alloc; "{}", member.get()),
+        weight => format!(in alloc; "{}/{weight}", member.get()),
+    }
 }
 
 /// The name of an algorithm.

@@ -3,7 +3,7 @@ use crate::fault::Fault;
 use crate::label;
 use crate::tale::{Arrow, Kind, Step, Tale};
 use ring_any::{Any, AnyMsg};
-use ring_id::{GroupName, NodeId, Refusal, Side};
+use ring_id::{GroupName, NodeNo, Refusal, Side};
 use ring_node::{Charter, Packet};
 use ring_world::{Delivery, World};
 use std::alloc::{AllocError, Global};
@@ -48,7 +48,7 @@ impl Recorder {
     }
 
     /// One delivery to a member from a side, if something is in flight there.
-    pub fn deliver_to(&mut self, alloc: Global, node: NodeId, side: Side) -> Result<(), Fault> {
+    pub fn deliver_to(&mut self, alloc: Global, node: NodeNo, side: Side) -> Result<(), Fault> {
         match self.world.charter().roster().position(node) {
             Some(position) => self.deliver(alloc, position, side),
             None => Ok(()),

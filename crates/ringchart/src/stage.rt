@@ -9,7 +9,7 @@ use crate::recorder::Recorder;
 use crate::tale::Tale;
 use ring_any::Any;
 use ring_grammar::print_reply;
-use ring_id::{GroupName, NodeId, Refusal, Side};
+use ring_id::{GroupName, NodeNo, Refusal, Side};
 use ring_mux::{Command, Event, Mux, Reply};
 use std::alloc::Global;
 use std::str;
@@ -85,7 +85,7 @@ impl Stage {
     }
 
     // One delivery in a group's last term.
-    fn deliver(&mut self, group: GroupName, node: NodeId, side: Side) -> Result<bool, Fault> {
+    fn deliver(&mut self, group: GroupName, node: NodeNo, side: Side) -> Result<bool, Fault> {
         let Some(recorder) = running(&mut self.terms, group) else {
             return Ok(false);
         };

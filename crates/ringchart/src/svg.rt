@@ -1,5 +1,6 @@
 //! A term as an SVG picture.
 use crate::frame::Frame;
+use crate::label;
 use crate::tale::{Arrow, Kind, Tale};
 use ring_id::NodeId;
 use std::alloc::{AllocError, Global};
@@ -126,7 +127,7 @@ impl Drawing {
     // The name of a member in a box.
     fn name(&mut self, x: u64, member: NodeId, leads: bool, again: bool) -> Result<(), AllocError> {
         let y = self.frame.y_names();
-        let number = format!(in *self.out.allocator(); "{}", member.get())?;
+        let number = label::of_member(*self.out.allocator(), member)?;
         let width = (number.len() as u64).saturating_mul(9).saturating_add(18);
         let fill = if leads { "#ffd75e" } else { "white" };
         let dashes = if again {
@@ -262,11 +263,12 @@ impl Drawing {
             )?;
             if let (Some(member), Some(leader)) = (tale.member(step.position), step.learned) {
                 let x = frame.x_margin();
+                let alloc = *self.out.allocator();
                 writeln!(
                     self.out,
                     "<text class=\"note\" x=\"{x}\" y=\"{y}\">{} knows {}</text>",
-                    member.get(),
-                    leader.get()
+                    label::of_member(alloc, member)?,
+                    label::of_member(alloc, leader)?
                 )?;
             }
         }

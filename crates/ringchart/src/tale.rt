@@ -77,7 +77,7 @@ impl Tale {
         let name = label::of_algorithm(self.algorithm);
         let mut title = format!(in alloc; "{name}, ring")?;
         for member in &self.ring {
-            write!(title, " {}", member.get())?;
+            write!(title, " {}", label::of_member(alloc, *member)?)?;
         }
         write!(title, ", term {} of group {}", self.term, self.group_text())?;
         Ok(title)
@@ -89,7 +89,7 @@ impl Tale {
         let mut outcome = match self.leader() {
             Some(leader) => format!(in alloc;
                 "leader {}, known to {} of {size}",
-                leader.get(),
+                label::of_member(alloc, leader)?,
                 self.informed()
             )?,
             None => String::from_str(alloc, "undecided")?,
@@ -102,12 +102,26 @@ impl Tale {
         Ok(outcome)
     }
 
-    /// How many characters the longest label has, or the longest number of a member.
+    /// How many characters the longest name of a member has.
+    pub fn widest_name(&self) -> usize {
+        let names = self.ring.iter().map(|member| width(*member));
+        names.max().unwrap_or(0)
+    }
+
+    /// How many characters the longest label has, or the longest name of a member.
     pub fn widest(&self) -> usize {
-        let names = self.ring.iter().map(|member| digits(member.get())).max();
+        let names = Some(self.widest_name());
         let steps = self.steps.iter().map(|step| step.arrow.label.len()).max();
         let flying = self.flying.iter().map(|arrow| arrow.label.len()).max();
         names.max(steps).max(flying).unwrap_or(0)
+    }
+}
+
+// How many characters the name of a member has.
+fn width(member: NodeId) -> usize {
+    match member.weight() {
+        0 => digits(member.get()),
+        weight => digits(member.get()) + 1 + digits(u32::from(weight)),
     }
 }
 

@@ -1,4 +1,5 @@
 //! A term as a picture of characters.
+use crate::label;
 use crate::tale::{Arrow, Tale};
 use ring_id::NodeId;
 use std::alloc::{AllocError, Global};
@@ -81,7 +82,9 @@ impl Drawing {
             }
             if let (Some(member), Some(leader)) = (tale.member(step.position), step.learned) {
                 let comma = if note.is_empty() { "" } else { ", " };
-                write!(note, "{comma}{} knows {}", member.get(), leader.get())?;
+                let member = label::of_member(alloc, member)?;
+                let leader = label::of_member(alloc, leader)?;
+                write!(note, "{comma}{member} knows {leader}")?;
             }
             let number = format!(in alloc; "{now}")?;
             self.row(number.as_str(), Gap::Taken(&step.arrow), note.as_str())?;
@@ -182,10 +185,11 @@ impl Drawing {
 
 // The name of a member.
 fn name(alloc: Global, member: NodeId, leads: bool) -> Result<String, AllocError> {
+    let name = label::of_member(alloc, member)?;
     if leads {
-        format!(in alloc; "[{}]", member.get())
+        format!(in alloc; "[{name}]")
     } else {
-        format!(in alloc; "{}", member.get())
+        Ok(name)
     }
 }
 

@@ -1,15 +1,20 @@
 //! What a watch has told of a group's terms, and what is new in a reply.
 ghost use Rattle.std.specs.Prelude.{◌≡◌, ◌<◌, ◌↔◌, IsTrue, max};
 
-/// A term in a reply to `terms`: its number, and its leader if it is known.
+/// A term in a reply to `terms`: its number, and its leader if it is known, as the reply spells it.
 #[derive(Clone, Copy, Debug, PartialEq, Eq)]
-pub struct Term {
+pub struct Term<'a> {
     pub number: u16,
-    pub leader: Option<u32>,
+    pub leader: Option<&'a str>,
 }
 
-/// The term that `T:N` or `T:-` is.
-pub fn read_term(text: &str) -> Option<Term> {
+/// The number in the word of an identity: what stands before its weight, if it has one.
+pub fn number_in(word: &str) -> &str {
+    word.split_once('/').map_or(word, |(number, _)| number)
+}
+
+/// The term that `T:N`, `T:N/V` or `T:-` is.
+pub fn read_term(text: &str) -> Option<Term<'_>> {
     let (number, leader) = text.split_once(':')?;
     let number = number.parse().ok()?;
     if leader == "-" {
@@ -18,19 +23,30 @@ pub fn read_term(text: &str) -> Option<Term> {
             leader: None,
         });
     }
+    if !is_identity(leader) {
+        return None;
+    }
     Some(Term {
         number,
-        leader: Some(leader.parse().ok()?),
+        leader: Some(leader),
     })
+}
+
+// Whether this is a number, or a number and a weight.
+fn is_identity(word: &str) -> bool {
+    match word.split_once('/') {
+        Some((number, weight)) => number.parse::<u32>().is_ok() && weight.parse::<u16>().is_ok(),
+        None => word.parse::<u32>().is_ok(),
+    }
 }
 
 /// What is new in a term.
 #[derive(Clone, Copy, Debug, PartialEq, Eq)]
-pub struct News {
+pub struct News<'a> {
     /// It has started.
     pub started: bool,
     /// Its leader has become known.
-    pub leader: Option<u32>,
+    pub leader: Option<&'a str>,
 }
 
 /// The last term that was told, and whether its leader was.
@@ -50,7 +66,7 @@ impl Told {
     }
 
     /// What is new in this term, which counts as told from now on. An earlier one has nothing new.
-    pub fn take(&mut self, term: Term) -> News
+    pub fn take<'a>(&mut self, term: Term<'a>) -> News<'a>
         ensures started { IsTrue result.started ↔ self.old.term < term.number }
         ensures last { self.new.term ≡ max self.old.term term.number }
     {

@@ -5,7 +5,7 @@
 use crate::client::Client;
 use crate::fault::Fault;
 use crate::reply::Reply;
-use crate::told::{News, Told, read_term};
+use crate::told::{News, Told, number_in, read_term};
 use std::alloc::Global;
 use std::io::{Read, Write};
 use std::thread;
@@ -90,7 +90,7 @@ impl Watcher {
             let chosen = reply.split(' ').skip(1).nth(self.turn % count);
             self.turn = self.turn.wrapping_add(1);
             self.member = match chosen {
-                Some(member) => Some(String::from_str(self.alloc, member)?),
+                Some(member) => Some(String::from_str(self.alloc, number_in(member))?),
                 None => None,
             };
         }
@@ -153,7 +153,7 @@ impl Watcher {
 }
 
 // Prints what is new in a term.
-fn print_news(rt: &impl Print, term: u16, news: News) -> Result<(), Fault> {
+fn print_news(rt: &impl Print, term: u16, news: News<'_>) -> Result<(), Fault> {
     if news.started && println!(rt; "term {term} started").is_err() {
         return Err(Fault::Write);
     }

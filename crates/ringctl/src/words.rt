@@ -16,6 +16,7 @@ const ADDRESS: &str = "127.0.0.1:7400";
 const COMMANDS: &str = "Commands:
   create G KIND   a new group; KIND is lelann, chang, hirschberg or peterson
   join G N        a new member, the last in the order
+  join G N/V      one of weight V, 1 to 65535; without it the weight is 0
   leave G N       a member leaves
   start G         a new term on the present members
   who G N         what that member of the last term knows of its leader
