@@ -2,10 +2,12 @@
 //!
 //! All but `drain`, which rows call to bring a world to rest, is tests. A module of rows is one
 //! subject: a node, a world, the scans that a world is spared, its worked schedules, the settlement of
-//! nodes, groups at once, reports, replays over memory, and how much work rings take.
+//! nodes, groups at once, weights, reports, replays over memory, and how much work rings take.
 #![tactic(auto)]
 
 mod drains;
+#[cfg(test)]
+mod events;
 #[cfg(test)]
 mod mux_rows;
 #[cfg(test)]
@@ -22,6 +24,8 @@ mod scan_rows;
 mod schedules;
 #[cfg(test)]
 mod settle_rows;
+#[cfg(test)]
+mod weight_rows;
 #[cfg(test)]
 mod work_rows;
 #[cfg(test)]

@@ -1,77 +1,16 @@
 //! Groups by lists of events: what drains are answered, and whom every member names then.
 
-use crate::rings::{identity, name};
+use crate::events::{Said, answers, create, drain, join, shown, start, who};
+use crate::rings::identity;
 use ring_chang::Chang;
 use ring_election::RingElection;
 use ring_hirschberg::Hirschberg;
 use ring_lelann::LeLann;
-use ring_mux::{Command, Event, Mux, Reply};
+use ring_mux::Mux;
 use ring_peterson::Peterson;
 use std::alloc::Global;
 use std::process::Abort;
 use std::test::Fail;
-
-/// What a reply says to the events of the rows.
-#[derive(Clone, Copy, Debug, PartialEq, Eq)]
-enum Said {
-    Done,
-    Started(u16),
-    Leads(u16, u32),
-    Undecided(u16),
-    Drained(u32, u128),
-    Other,
-}
-
-fn shown(reply: &Reply) -> Said {
-    match reply {
-        Reply::Done => Said::Done,
-        Reply::Term(term) => Said::Started(term.get()),
-        Reply::Leader(term, leader) => Said::Leads(term.get(), leader.get()),
-        Reply::Undecided(term) => Said::Undecided(term.get()),
-        Reply::Drained {
-            done,
-            left,
-            starved: false,
-        } => Said::Drained(*done, *left),
-        _ => Said::Other,
-    }
-}
-
-fn create<E: RingElection>(algorithm: E) -> Result<Event<E>, Fail> {
-    Ok(Event::Client(Command::Create(name()?, algorithm)))
-}
-
-fn join<E: RingElection>(number: u32) -> Result<Event<E>, Fail> {
-    Ok(Event::Client(Command::Join(name()?, identity(number)?)))
-}
-
-fn start<E: RingElection>() -> Result<Event<E>, Fail> {
-    Ok(Event::Client(Command::Start(name()?)))
-}
-
-fn who<E: RingElection>(number: u32) -> Result<Event<E>, Fail> {
-    Ok(Event::Client(Command::Who(name()?, identity(number)?)))
-}
-
-fn drain<E: RingElection>(count: u32) -> Result<Event<E>, Fail> {
-    Ok(Event::Drain(name()?, count))
-}
-
-/// Runs a list of events, which is answered like this.
-fn answers<E: RingElection>(
-    rt: &impl Abort,
-    alloc: Global,
-    mux: &mut Mux<E>,
-    events: &[Event<E>],
-    answers: &[Said],
-) -> Result<(), Fail> {
-    let replies = mux.run(alloc, events)?;
-    assert_eq!(rt; replies.len(), answers.len());
-    for (reply, answer) in replies.iter().zip(answers) {
-        assert_eq!(rt; shown(reply), *answer);
-    }
-    Ok(())
-}
 
 /// A group of these numbers, whose first term has started.
 fn started<E: RingElection>(
@@ -84,7 +23,7 @@ fn started<E: RingElection>(
     let reply = mux.step(alloc, create(algorithm)?);
     assert_eq!(rt; shown(&reply), Said::Done);
     for number in numbers {
-        let reply = mux.step(alloc, join(*number)?);
+        let reply = mux.step(alloc, join(identity(*number)?)?);
         assert_eq!(rt; shown(&reply), Said::Done);
     }
     let reply = mux.step(alloc, start()?);
@@ -106,7 +45,7 @@ fn elects<E: RingElection>(
     assert_eq!(rt; shown(&reply), Said::Drained(deliveries, 0));
     for number in numbers {
         let reply = mux.step(alloc, who(*number)?);
-        assert_eq!(rt; shown(&reply), Said::Leads(1, leader));
+        assert_eq!(rt; shown(&reply), Said::Leads(1, identity(leader)?));
     }
     Ok(())
 }
@@ -116,9 +55,9 @@ fn lelann_on_3_1_2(rt: HostRuntime) -> Result<(), Fail> {
     let mut mux = Mux::new(rt.alloc())?;
     let events = [
         create(LeLann)?,
-        join(3)?,
-        join(1)?,
-        join(2)?,
+        join(identity(3)?)?,
+        join(identity(1)?)?,
+        join(identity(2)?)?,
         start()?,
         drain(100)?,
         who(2)?,
@@ -130,7 +69,7 @@ fn lelann_on_3_1_2(rt: HostRuntime) -> Result<(), Fail> {
         Said::Done,
         Said::Started(1),
         Said::Drained(12, 0),
-        Said::Leads(1, 3),
+        Said::Leads(1, identity(3)?),
     ];
     answers(&rt, rt.alloc(), &mut mux, &events, &replies)
 }
@@ -143,7 +82,7 @@ fn peterson_in_two_drains(rt: HostRuntime) -> Result<(), Fail> {
         Said::Drained(6, 1),
         Said::Undecided(1),
         Said::Drained(9, 0),
-        Said::Leads(1, 1),
+        Said::Leads(1, identity(1)?),
     ];
     answers(&rt, rt.alloc(), &mut mux, &events, &replies)
 }

@@ -2,16 +2,26 @@
 
 use ring_chang::Chang;
 use ring_election::RingElection;
-use ring_id::{GroupName, NodeId, TermNo};
+use ring_id::{GroupName, NodeId, NodeNo, TermNo};
 use ring_node::{Charter, Node};
 use ring_roster::Roster;
 use std::alloc::Global;
 use std::sync::Arc;
 use std::test::Fail;
 
-/// The identity with this number.
+/// The identity with this number and no weight.
 pub fn identity(number: u32) -> Result<NodeId, Fail> {
     Ok(NodeId::new(number).ok_or("no identity is 0")?)
+}
+
+/// The identity with this number and this weight.
+pub fn weighted(number: u32, weight: u16) -> Result<NodeId, Fail> {
+    Ok(NodeId::weighted(number, weight).ok_or("no identity is 0")?)
+}
+
+/// This number of a node.
+pub fn number(number: u32) -> Result<NodeNo, Fail> {
+    Ok(NodeNo::new(number).ok_or("no number is 0")?)
 }
 
 /// The name of the group that rows speak of.

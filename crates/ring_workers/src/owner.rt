@@ -14,7 +14,7 @@ pub(crate) struct Owner {
 }
 
 impl Owner {
-    /// The number of the worker that owns this member.
+    /// The number of the worker that owns this member: its number modulo theirs, whatever it weighs.
     pub fn of(&self, member: NodeId) -> usize
         ensures value { result ≡ owner_of self.now.workers member }
         ensures numbered { result < self.now.workers }
