@@ -1,7 +1,7 @@
 //! The groups in order of creation, with their members and terms.
 
 use crate::algorithms::Kind;
-use crate::names::{GroupName, NodeId};
+use crate::names::{GroupName, NodeId, NodeNo};
 use crate::ready::RING_LIMIT;
 use crate::refusal::Refusal;
 use std::collections::HashMap;
@@ -25,10 +25,10 @@ impl Term {
         self.leader
     }
 
-    pub fn position(&self, node: NodeId) -> Result<usize, Refusal> {
+    pub fn position(&self, node: NodeNo) -> Result<usize, Refusal> {
         self.ring
             .iter()
-            .position(|&member| member == node)
+            .position(|member| member.number() == node)
             .ok_or(Refusal::NotInTerm)
     }
 
@@ -74,7 +74,8 @@ impl Group {
     }
 
     pub fn join(&mut self, node: NodeId) -> Result<(), Refusal> {
-        if self.members.contains(&node) {
+        let number = node.number();
+        if self.members.iter().any(|member| member.number() == number) {
             return Err(Refusal::Member);
         }
         if self.members.len() >= RING_LIMIT {
@@ -84,8 +85,9 @@ impl Group {
         Ok(())
     }
 
-    pub fn leave(&mut self, node: NodeId) -> Result<(), Refusal> {
-        let place = self.members.iter().position(|&member| member == node);
+    pub fn leave(&mut self, node: NodeNo) -> Result<(), Refusal> {
+        let mut members = self.members.iter();
+        let place = members.position(|member| member.number() == node);
         self.members.remove(place.ok_or(Refusal::NotMember)?);
         Ok(())
     }
@@ -116,7 +118,7 @@ impl Group {
         self.terms.last_mut().ok_or(Refusal::NoTerm)
     }
 
-    pub fn who(&self, node: NodeId) -> Result<Standing, Refusal> {
+    pub fn who(&self, node: NodeNo) -> Result<Standing, Refusal> {
         let last = self.last_term()?;
         let position = last.position(node)?;
         Ok(Standing {

@@ -1,7 +1,7 @@
 //! The lines that ask: what a line of bytes spells.
 
 use crate::algorithms::Kind;
-use crate::names::{GroupName, NodeId, Side};
+use crate::names::{GroupName, NodeId, NodeNo, Side};
 
 /// The greatest number that `drain` takes.
 const COUNT_LIMIT: u64 = 1_000_000_000;
@@ -11,13 +11,13 @@ const COUNT_LIMIT: u64 = 1_000_000_000;
 pub enum Event {
     Create(GroupName, Kind),
     Join(GroupName, NodeId),
-    Leave(GroupName, NodeId),
+    Leave(GroupName, NodeNo),
     Start(GroupName),
-    Who(GroupName, NodeId),
+    Who(GroupName, NodeNo),
     Members(GroupName),
     Terms(GroupName),
     Groups,
-    Deliver(GroupName, NodeId, Side),
+    Deliver(GroupName, NodeNo, Side),
     Pending(GroupName),
     Drain(GroupName, u64),
 }
@@ -28,13 +28,13 @@ pub fn parse_event(line: &[u8]) -> Option<Event> {
     let event = match words.next()? {
         b"create" => Event::Create(words.group()?, words.kind()?),
         b"join" => Event::Join(words.group()?, words.node()?),
-        b"leave" => Event::Leave(words.group()?, words.node()?),
+        b"leave" => Event::Leave(words.group()?, words.number()?),
         b"start" => Event::Start(words.group()?),
-        b"who" => Event::Who(words.group()?, words.node()?),
+        b"who" => Event::Who(words.group()?, words.number()?),
         b"members" => Event::Members(words.group()?),
         b"terms" => Event::Terms(words.group()?),
         b"groups" => Event::Groups,
-        b"deliver" => Event::Deliver(words.group()?, words.node()?, words.side()?),
+        b"deliver" => Event::Deliver(words.group()?, words.number()?, words.side()?),
         b"pending" => Event::Pending(words.group()?),
         b"drain" => Event::Drain(words.group()?, words.count()?),
         _ => return None,
@@ -67,9 +67,21 @@ impl<'a> Words<'a> {
         Kind::from_word(self.next()?)
     }
 
+    fn number(&mut self) -> Option<NodeNo> {
+        NodeNo::new(short(self.next()?)?)
+    }
+
+    /// A number, and behind a slash a weight that isn't 0.
     fn node(&mut self) -> Option<NodeId> {
-        let number = decimal(self.next()?)?;
-        NodeId::new(u32::try_from(number).ok()?)
+        let word = self.next()?;
+        let Some(slash) = word.iter().position(|&byte| byte == b'/') else {
+            return NodeId::new(short(word)?);
+        };
+        let weight = u16::try_from(decimal(&word[slash + 1..])?).ok()?;
+        if weight == 0 {
+            return None;
+        }
+        NodeId::weighted(short(&word[..slash])?, weight)
     }
 
     fn count(&mut self) -> Option<u64> {
@@ -83,6 +95,11 @@ impl<'a> Words<'a> {
             _ => None,
         }
     }
+}
+
+/// A decimal number of 32 bits.
+fn short(word: &[u8]) -> Option<u32> {
+    u32::try_from(decimal(word)?).ok()
 }
 
 /// A decimal number of at most ten digits, without sign and without leading zeros.
@@ -136,9 +153,20 @@ mod tests {
             b"join a 7 ",
             b"join a 7\r",
             b"drain a 1000000001",
+            b"join a 5/0",
+            b"join a 5/",
+            b"join a 5/07",
+            b"join a 5/65536",
+            b"join a 5/7/8",
+            b"join a /7",
+            b"join a 0/7",
+            b"leave a 5/7",
+            b"who a 1/9",
+            b"deliver a 5/7 left",
         ] {
             assert_eq!(parse_event(line), None);
         }
         assert!(parse_event(b"drain a 1000000000").is_some());
+        assert!(parse_event(b"join a 5/65535").is_some());
     }
 }

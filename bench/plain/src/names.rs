@@ -3,18 +3,51 @@
 use std::num::NonZeroU32;
 use std::ops::{Index, IndexMut};
 
-/// The identity of a node, 1 to 4294967295, ordered by its number.
+/// The number of a node, 1 to 4294967295.
 #[derive(Clone, Copy, Debug, PartialEq, Eq, PartialOrd, Ord)]
-pub struct NodeId(NonZeroU32);
+pub struct NodeNo(NonZeroU32);
 
-impl NodeId {
+impl NodeNo {
     /// `None` for 0.
-    pub fn new(number: u32) -> Option<NodeId> {
-        NonZeroU32::new(number).map(NodeId)
+    pub fn new(number: u32) -> Option<NodeNo> {
+        NonZeroU32::new(number).map(NodeNo)
     }
 
     pub fn get(self) -> u32 {
         self.0.get()
+    }
+}
+
+/// The identity of a node, ordered by its weight and then by its number.
+#[derive(Clone, Copy, Debug, PartialEq, Eq, PartialOrd, Ord)]
+pub struct NodeId {
+    weight: u16,
+    number: NodeNo,
+}
+
+impl NodeId {
+    /// The identity of weight 0; `None` for the number 0.
+    pub fn new(number: u32) -> Option<NodeId> {
+        NodeId::weighted(number, 0)
+    }
+
+    /// `None` for the number 0.
+    pub fn weighted(number: u32, weight: u16) -> Option<NodeId> {
+        let number = NodeNo::new(number)?;
+        Some(NodeId { weight, number })
+    }
+
+    pub fn number(self) -> NodeNo {
+        self.number
+    }
+
+    pub fn weight(self) -> u16 {
+        self.weight
+    }
+
+    /// The plain number.
+    pub fn get(self) -> u32 {
+        self.number.get()
     }
 }
 
@@ -109,5 +142,13 @@ mod tests {
     fn no_node_is_zero() {
         assert!(NodeId::new(0).is_none());
         assert_eq!(NodeId::new(u32::MAX).unwrap().get(), u32::MAX);
+    }
+
+    #[test]
+    fn a_weight_comes_before_a_number() {
+        let id = |number, weight| NodeId::weighted(number, weight).unwrap();
+        assert!(id(u32::MAX, 0) < id(1, 9));
+        assert!(id(1, 9) < id(2, 9));
+        assert_ne!(id(1, 9), id(1, 0));
     }
 }

@@ -28,7 +28,7 @@ impl Reply<'_> {
             Reply::Term(term) => print_number(out, b"term ", *term as u64),
             Reply::Leader { term, leader } => {
                 print_number(out, b"leader ", *term as u64);
-                print_number(out, b" ", leader.get().into());
+                print_node(out, b" ", *leader);
             }
             Reply::Undecided(term) => print_number(out, b"undecided ", *term as u64),
             Reply::Members(members) => print_members(out, members),
@@ -53,7 +53,7 @@ impl Reply<'_> {
 fn print_members(out: &mut Vec<u8>, members: &[NodeId]) {
     out.extend(b"members");
     for member in members {
-        print_number(out, b" ", member.get().into());
+        print_node(out, b" ", *member);
     }
 }
 
@@ -62,7 +62,7 @@ fn print_terms(out: &mut Vec<u8>, terms: &[Term]) {
     for (number, term) in (1..).zip(terms) {
         print_number(out, b" ", number);
         match term.leader() {
-            Some(leader) => print_number(out, b":", leader.get().into()),
+            Some(leader) => print_node(out, b":", leader),
             None => out.extend(b":-"),
         }
     }
@@ -73,6 +73,14 @@ fn print_groups(out: &mut Vec<u8>, groups: &[Group]) {
     for group in groups {
         out.push(b' ');
         out.extend(group.name().bytes());
+    }
+}
+
+/// Appends the words before an identity, its number, and behind a slash its weight where it has one.
+fn print_node(out: &mut Vec<u8>, before: &[u8], node: NodeId) {
+    print_number(out, before, node.get().into());
+    if node.weight() > 0 {
+        print_number(out, b"/", node.weight().into());
     }
 }
 

@@ -3,7 +3,7 @@
 use crate::algorithms::Kind;
 use crate::book::Book;
 use crate::grammar::Event;
-use crate::names::{GroupName, NodeId, Side};
+use crate::names::{GroupName, NodeId, NodeNo, Side};
 use crate::ready::Link;
 use crate::refusal::Refusal;
 use crate::reply::Reply;
@@ -52,7 +52,7 @@ impl Service {
         Ok(Reply::Done)
     }
 
-    fn leave(&mut self, group: &GroupName, node: NodeId) -> Result<Reply<'_>, Refusal> {
+    fn leave(&mut self, group: &GroupName, node: NodeNo) -> Result<Reply<'_>, Refusal> {
         self.book.group_mut(group)?.leave(node)?;
         Ok(Reply::Done)
     }
@@ -65,7 +65,7 @@ impl Service {
         Ok(Reply::Term(term))
     }
 
-    fn who(&self, group: &GroupName, node: NodeId) -> Result<Reply<'_>, Refusal> {
+    fn who(&self, group: &GroupName, node: NodeNo) -> Result<Reply<'_>, Refusal> {
         let standing = self.book.group(group)?.who(node)?;
         Ok(match standing.leader {
             Some(leader) => Reply::Leader {
@@ -79,7 +79,7 @@ impl Service {
     fn deliver(
         &mut self,
         group: &GroupName,
-        node: NodeId,
+        node: NodeNo,
         side: Side,
     ) -> Result<Reply<'_>, Refusal> {
         let place = self.book.place(group)?;
