@@ -1,0 +1,125 @@
+"""What the scripts that try edits of the sources share: an edit's file, and a check of a copy."""
+
+import os
+import pathlib
+import shutil
+import subprocess
+
+TOP = pathlib.Path(__file__).resolve().parents[1]
+PARTS = ("src", "specs", "proofs")
+
+
+class BadEdit(Exception):
+    """An edit that can't be applied."""
+
+
+class Edit:
+    """The lines `file: PATH`, and then `old: TEXT` and `new: TEXT` in pairs, of an edit's file.
+
+    Each old text stands once in its file, as the pairs before it leave that. `places` has the file
+    and the number of the line of each, from 0; `texts` the files as the edit alone leaves them; `words`
+    what stands behind any other word and its colon."""
+
+    def __init__(self, path, text=None):
+        self.name, self.crate = path.stem, path.parts[-3]
+        self.folder = TOP / "crates" / self.crate
+        self.words, self.places, self.pairs, self.texts = {}, [], [], {}
+        file = old = None
+        for line in (path.read_text(encoding="utf-8") if text is None else text).splitlines():
+            word, _, rest = line.partition(":")
+            rest = rest.removeprefix(" ")
+            if word == "file":
+                file = rest
+            elif word == "old":
+                old = rest
+            elif word == "new":
+                self.add(file, old, rest)
+            else:
+                self.words[word] = rest
+        if not self.pairs:
+            raise BadEdit("it has no 'old:' and 'new:' pair")
+
+    def add(self, file, old, new):
+        """Takes a pair, whose place is looked up in the text that those before it leave."""
+        if not file or not old or not file.startswith(tuple(f"{part}/" for part in PARTS)):
+            raise BadEdit("a pair names no file below src, specs or proofs, or no old text")
+        if file not in self.texts:
+            self.texts[file] = (self.folder / file).read_text(encoding="utf-8")
+        text = self.texts[file]
+        if text.count(old) != 1:
+            raise BadEdit(f"an 'old:' text stands in {file} {text.count(old)} times, and not once")
+        self.places.append((file, text[: text.index(old)].count("\n")))
+        self.pairs.append((file, old, new))
+        self.texts[file] = text.replace(old, new)
+
+    def apply(self, folder):
+        """Changes a copy of the crate."""
+        for file, old, new in self.pairs:
+            text = (folder / file).read_text(encoding="utf-8")
+            if text.count(old) != 1:
+                raise BadEdit(f"an 'old:' text isn't in {file} once any more")
+            (folder / file).write_text(text.replace(old, new), encoding="utf-8")
+
+
+def kit():
+    """The folder of the kit, by rt in PATH or by $RATTLE_KIT."""
+    found = shutil.which("rt")
+    if found:
+        return pathlib.Path(found).resolve().parents[1]
+    return pathlib.Path(os.environ.get("RATTLE_KIT", "/opt/rattle"))
+
+
+def libraries():
+    """What each crate stands on, by the lines of crates.txt."""
+    found = {}
+    for line in (TOP / "crates.txt").read_text(encoding="utf-8").splitlines():
+        head, _, named = line.partition("#")[0].partition(":")
+        if head.strip():
+            found[head.split()[0]] = named.split()
+    return found
+
+
+def below(crate, named):
+    """The crates of the repository that a crate stands on, near and far."""
+    found, left = {}, [crate]
+    while left:
+        new = [it for it in named[left.pop()] if it in named and it not in found]
+        found.update(dict.fromkeys(new))
+        left += new
+    return list(found)
+
+
+def words_of(crate):
+    """The words of `rattle check` that say what a crate is, and on what it stands."""
+    named, home = libraries(), kit()
+    is_program = (TOP / "crates" / crate / "src/main.rt").exists()
+    words = ["--crate-name", crate, "src/main.rt" if is_program else "src/lib.rt"]
+    for name in ["std", *named[crate]]:
+        at = TOP / "crates" / name / "out/rlib" if name in named else home / "rlibs"
+        words += ["--extern", f"{name}={at}/{name}.rlib"]
+    words += ["-L", f"dependency={home}/rlibs"]
+    for name in below(crate, named):
+        words += ["-L", f"dependency={TOP}/crates/{name}/out/rlib"]
+    words += ["--antt-project", f"{home}/rattle/logic/antt-project.json"]
+    return [*words, "--logic-built", f"{home}/logic_built", "--links", f"{crate}=", "--jobs", "1"]
+
+
+def missing(crate):
+    """The libraries below a crate that aren't built, which `rt ci` or `rt all check` does."""
+    at = [(it, TOP / "crates" / it / "out/rlib" / f"{it}.rlib") for it in below(crate, libraries())]
+    return [name for name, rlib in at if not rlib.is_dir()]
+
+
+def copy_of(crate, to):
+    """Copies the sources of a crate."""
+    for part in PARTS:
+        if (TOP / "crates" / crate / part).is_dir():
+            shutil.copytree(TOP / "crates" / crate / part, to / part)
+
+
+def check(crate, folder, *words):
+    """Checks a copy of a crate over the libraries of this tree: the status, and what was said."""
+    ran = subprocess.run([kit() / "bin/rattle", "check", *words_of(crate), *words], cwd=folder,
+                         stdin=subprocess.DEVNULL, stdout=subprocess.PIPE, stderr=subprocess.STDOUT,
+                         text=True, errors="replace", check=False)
+    return ran.returncode, ran.stdout

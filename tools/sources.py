@@ -1,0 +1,107 @@
+"""Where the functions of a crate's sources stand, in rt fmt's layout, and which call which."""
+
+import re
+
+FN = re.compile(r"( *)(?:pub(?:\([^)]*\))? )?(?:const |unsafe )*fn (\w+)")
+IMPL = re.compile(r"impl(?:<(?P<own>.*?)>)? (?:(?P<of>\w.*?) for )?(?P<for>\w.*?)(?: where .*)? \{$")
+WORD = re.compile(r"\w+")
+CALL = re.compile(r"(?:(\.)|(\w+)::)?\b([a-z_]\w*)\b")
+
+
+class Function:
+    """A function by its path below the crate, its lines in its file, from 0, and its body's text."""
+
+    def __init__(self, file, path, first, body, last, text):
+        self.file, self.path = file, path
+        self.first, self.body, self.last = first, body, last
+        self.calls = set(CALL.findall(text))
+
+    def name(self):
+        return self.path.rpartition("::")[2]
+
+    def folder(self):
+        """Where the files of its proof stand, below proofs."""
+        return self.path.replace("::", "/")
+
+    def closures(self):
+        """Where those of its closures stand."""
+        parts = self.path.split("::")
+        depth = next((at for at, it in enumerate(parts) if it[:1].isupper()), len(parts) - 1)
+        return "/".join([*parts[:depth], "fn", *parts[depth:]])
+
+
+def module_of(file):
+    """The path of a source file's module below the crate."""
+    parts = file.removeprefix("src/").removesuffix(".rt").split("/")
+    return [it for it in parts if it not in ("lib", "main", "mod")]
+
+
+def spelled(text, own):
+    """A type or a trait with what it is applied to as one name, as the prover spells it."""
+    name, _, inside = re.sub(r".*::", "", text.partition("<")[0]), *text.partition("<")[1:]
+    given = [it for it in WORD.findall(re.sub(r"'\w+", "", inside)) if it not in own]
+    return name + "".join(it[:1].upper() + it[1:] for it in given)
+
+
+def owner_of(line):
+    """The name that stands for an `impl` line or a `trait` line in the paths of its functions."""
+    if found := IMPL.match(line):
+        own = WORD.findall(found["own"] or "")
+        return spelled(found["for"], own) + (spelled(found["of"], own) if found["of"] else "")
+    named = re.match(r"(?:pub(?:\([^)]*\))? )?trait (\w+)", line)
+    return named[1] if named else ""
+
+
+def functions_in(file, text):
+    """The functions of a source file, without those of its modules, such as tests."""
+    lines, found, owner = text.split("\n"), [], ""
+    for at, line in enumerate(lines):
+        if line[:1].strip() and line[0] not in "})":
+            owner = owner_of(line)
+        head = FN.match(line)
+        if not head or len(head[1]) != (4 if owner else 0):
+            continue
+        body = next((it for it in range(at, len(lines)) if re.search(r"(^| )\{(\}| .*\})?$", lines[it])
+                     and not lines[it].lstrip().startswith(("requires", "ensures", "ghost"))), at)
+        ends = (f"{head[1]}}}",)
+        last = body if lines[body].endswith("}") else next(
+            (it for it in range(body, len(lines)) if lines[it].startswith(ends)), at)
+        path = "::".join([*module_of(file), *([owner] if owner else []), head[2]])
+        found.append(Function(file, path, at, body, last, "\n".join(lines[body : last + 1])))
+    return found
+
+
+def functions_of(folder):
+    """All functions of a crate, by their paths."""
+    found = {}
+    for file in sorted((folder / "src").rglob("*.rt")):
+        short = str(file.relative_to(folder))
+        for it in functions_in(short, file.read_text(encoding="utf-8")):
+            found[it.path] = it
+    return found
+
+
+def called(function, by_name):
+    """The functions that one may call, by their names and by the types that stand before these."""
+    found = []
+    for dot, owner, name in function.calls:
+        for it in by_name.get(name, ()):
+            of = it.path.split("::")[-2:-1] or [""]
+            is_method = of[0][:1].isupper()
+            if is_method and (dot or owner[:1].islower() or of[0].startswith(owner.replace("Self", "")) and owner):
+                found.append(it)
+            elif not is_method and not dot and not owner[:1].isupper():
+                found.append(it)
+    return found
+
+
+def reached(function, functions, passes):
+    """The functions that this one may call, and those called through them where `passes` says so."""
+    by_name, found, left = {}, set(), [function]
+    for it in functions.values():
+        by_name.setdefault(it.name(), []).append(it)
+    while left:
+        new = [it for it in called(left.pop(), by_name) if it.path not in found]
+        found.update(it.path for it in new)
+        left += [it for it in new if passes(it)]
+    return found
