@@ -145,7 +145,7 @@ def public_text(text, names):
             continue
         if not bare or bare.startswith("//") or "use Rattle." in line:
             continue
-        if line[0] not in " })#" and not line.startswith("where"):
+        if line[0] not in " {})#" and not line.startswith("where"):
             name, public = subject(line)
             public = public and (names is None or name in names)
             inherent = line.startswith("impl") and " for " not in line
