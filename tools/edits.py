@@ -16,49 +16,63 @@ class BadEdit(Exception):
 class Edit:
     """The lines `file: PATH`, and then `old: TEXT` and `new: TEXT` in pairs, of an edit's file.
 
-    Each old text stands once in its file, as the pairs before it leave that. `places` has the file
-    and the number of the line of each, from 0; `texts` the files as the edit alone leaves them; `words`
-    what stands behind any other word and its colon."""
+    Each old text stands once in its file, as the pairs before it leave that; or behind a text that
+    stands there once, in a line `after: TEXT` before it, and then the first one there is meant. `places` has
+    the file and the number of the line of each, from 0; `texts` the files as the edit alone leaves them;
+    `words` what stands behind any other word and its colon."""
 
     def __init__(self, path, text=None):
         self.name, self.crate = path.stem, path.parts[-3]
         self.folder = TOP / "crates" / self.crate
         self.words, self.places, self.pairs, self.texts = {}, [], [], {}
         file = old = None
+        after = ""
         for line in (path.read_text(encoding="utf-8") if text is None else text).splitlines():
             word, _, rest = line.partition(":")
             rest = rest.removeprefix(" ")
             if word == "file":
                 file = rest
+            elif word == "after":
+                after = rest
             elif word == "old":
                 old = rest
             elif word == "new":
-                self.add(file, old, rest)
+                self.add(file, after, old, rest)
+                after = ""
             else:
                 self.words[word] = rest
         if not self.pairs:
             raise BadEdit("it has no 'old:' and 'new:' pair")
 
-    def add(self, file, old, new):
+    def add(self, file, after, old, new):
         """Takes a pair, whose place is looked up in the text that those before it leave."""
         if not file or not old or not file.startswith(tuple(f"{part}/" for part in PARTS)):
             raise BadEdit("a pair names no file below src, specs or proofs, or no old text")
         if file not in self.texts:
             self.texts[file] = (self.folder / file).read_text(encoding="utf-8")
         text = self.texts[file]
-        if text.count(old) != 1:
-            raise BadEdit(f"an 'old:' text stands in {file} {text.count(old)} times, and not once")
-        self.places.append((file, text[: text.index(old)].count("\n")))
-        self.pairs.append((file, old, new))
-        self.texts[file] = text.replace(old, new)
+        at = place_of(text, after, old, file)
+        self.places.append((file, text[:at].count("\n")))
+        self.pairs.append((file, after, old, new))
+        self.texts[file] = text[:at] + new + text[at + len(old) :]
 
     def apply(self, folder):
         """Changes a copy of the crate."""
-        for file, old, new in self.pairs:
+        for file, after, old, new in self.pairs:
             text = (folder / file).read_text(encoding="utf-8")
-            if text.count(old) != 1:
-                raise BadEdit(f"an 'old:' text isn't in {file} once any more")
-            (folder / file).write_text(text.replace(old, new), encoding="utf-8")
+            at = place_of(text, after, old, file)
+            (folder / file).write_text(text[:at] + new + text[at + len(old) :], encoding="utf-8")
+
+
+def place_of(text, after, old, file):
+    """Where an old text stands: once in the whole text, or first behind the one `after` text."""
+    once = after or old
+    if text.count(once) != 1:
+        raise BadEdit(f"an '{'after' if after else 'old'}:' text stands in {file} {text.count(once)} times, and not once")
+    at = text.find(old, text.index(after) + len(after)) if after else text.index(old)
+    if at < 0:
+        raise BadEdit(f"an 'old:' text isn't in {file} behind its 'after:' text")
+    return at
 
 
 def kit():

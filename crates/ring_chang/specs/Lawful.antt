@@ -1,5 +1,5 @@
 -- The laws that keep the leader unique, for this algorithm.
-use Rattle.std.proofs.Common.{◌≡◌, ◌==◌, cond, ◌++◌, ℕ, true, false, List, [], ◌∷◌, Some, slice_get, nat_lt, filter, refl, sym, ap, ◌∙◌, subst, inl, inr, arith}
+use Rattle.std.proofs.Common.{◌≡◌, ◌==◌, cond, ◌++◌, ℕ, true, false, List, [], ◌∷◌, Some, None, slice_get, nat_lt, filter, refl, sym, ap, ◌∙◌, subst, inl, inr, arith}
 use Rattle.std.proofs.lemmas.List.Elements.{filter-append}
 use Rattle.ring_id.specs.declared.side.Side.{Side}
 use Rattle.ring_id.specs.declared.side.Side.TheVariants.{Left, Right}
@@ -71,6 +71,10 @@ stays_decided me receipts side m v decided = step side
         elim (m == s.me) as (λ b. (cond b (record s { decided = Some s.me }) s).decided ≡ Some v)
         [ true ↦ ap (λ (z : ℕ). Some z) (state_me (chang_first me) receipts ∙ sym (decided_me me receipts v decided).0) | false ↦ decided ]
 
+-- a node that starts has decided nothing
+start_undecided : (me : ℕ) → chang_table.decided (chang_table.first me) ≡ None
+start_undecided me = refl
+
 -- what a node sends when it starts fits
 first_fits : (ring : List ℕ) (i me : ℕ) (side : Side) (m : ℕ) → IsRing ring → slice_get ring i ≡ Some me → to_side side (rightward me) ≡ Some m → chang_fits ring i side 0 m
 first_fits ring i me Left m is here sent = let nothing_sent = sent in cc
@@ -87,7 +91,7 @@ all_sent_fits ring i me receipts Right k m is here all sent = sent_fits ring i m
 -- the algorithm is lawful
 pub chang_lawful : Lawful false true chang_table chang_fits greatest_of
 chang_lawful = record {
-  start_undecided = λ me. refl;
+  start_undecided = start_undecided;
   decision_stays = stays_decided;
   one_way = λ h ring i k m fits. fits;
   first_sends_fit = first_fits;

@@ -205,12 +205,16 @@ module _ (ring : List ℕ) (i me : ℕ) (here : slice_get ring i ≡ Some me) wh
       state_keeps hirschberg_table IsReached Arrives Arrives reached_next (hirschberg_first me) receipts reached_first (each_fits allows ring i receipts fit) in
       reached.is_own.decides v decided ∙ greatest-unique ring me (record { place = i; there = here }) (λ w other_one. all_round is (reached.came v decided) other_one.place w other_one.there)
 
+-- it is two-way, so that any message may fit on a left link
+one_way : true ≡ false → (ring : List ℕ) (i k : ℕ) (m : HirschbergMsg) → hirschberg_fits ring i Left k m → ⊥
+one_way never ring i k m fit = absurd (cc)
+
 -- Hirschberg-Sinclair is lawful: it sends both ways and elects the greatest member
 pub hirschberg_lawful : Lawful true true hirschberg_table hirschberg_fits greatest_of
 hirschberg_lawful = record {
   start_undecided = λ me. refl;
   decision_stays = λ me receipts side m v. decision_stays me (state_after hirschberg_table me receipts) side m v (own_after me receipts);
-  one_way = λ e ring i k m fit. absurd (cc);
+  one_way = one_way;
   first_sends_fit = λ ring i me side m is here sent. own_token_allowed ring i me here me 1 refl (omega arith) side m sent;
   sends_fit = λ ring i me receipts side k m is here fit sent. all_allowed ring i me here receipts fit side k m sent;
   decides_winner = λ ring i me receipts v is here fit decided. decides_greatest ring i me here is receipts v fit decided;

@@ -49,6 +49,10 @@ decides_winner ring i me receipts leader is here all decided =
     let others = before-last me home.before (home.after ++ part.0) (behind ring i) (λ v. differs_behind ring i me v is here) whole in
     home.leads ∙ ap (λ (l : List ℕ). greatest_of (me ∷ l)) others ∙ ap greatest_of (sym (leftward-here ring i me here)) ∙ greatest-leftward ring i is
 
+-- the winner is a member
+winner_is_member : (ring : List ℕ) → IsRing ring → (i : ℕ) × (slice_get ring i ≡ Some (greatest_of ring))
+winner_is_member ring is = let found = greatest-is_in ring is.some in (found.place, found.there)
+
 -- the algorithm keeps a leader unique
 pub lelann_lawful : Lawful false true lelann_table lelann_fits greatest_of
 lelann_lawful = record {
@@ -58,6 +62,6 @@ lelann_lawful = record {
   first_sends_fit = first_sends_fit;
   sends_fit = sends_fit;
   decides_winner = decides_winner;
-  winner_is_member = λ ring is. let found = greatest-is_in ring is.some in (found.place, found.there);
+  winner_is_member = winner_is_member;
   winner_is_greatest = λ _ ring i v is there. greatest-at_least ring v (record { place = i; there = there });
 }

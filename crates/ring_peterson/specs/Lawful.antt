@@ -1,5 +1,5 @@
 -- Peterson's election meets the laws that keep a leader unique.
-use Rattle.std.specs.Prelude.{◌≡◌, ℕ, false, List, ◌∷◌, length, Some, slice_get, slice_index}
+use Rattle.std.specs.Prelude.{◌≡◌, ◌≤◌, ℕ, true, false, List, ◌∷◌, length, Some, slice_get, slice_index}
 use Rattle.std.proofs.Common.{refl, sym, ap, ◌∙◌, arith}
 use Rattle.std.proofs.lemmas.Option.{get_or_from_slice_get, none-some, slice_get-get_or, slice_get_within}
 use Rattle.ring_id.specs.declared.side.Side.{Side}
@@ -74,6 +74,10 @@ winner_is_member ring is_ring =
     let last = ring_last ring is_ring in
     (last.position, slice_get-get_or ring last.position 0 last.below ∙ ap (λ (x : ℕ). Some x) (sym (winner-is ring last.position last.value last.alone)))
 
+-- it doesn't promise the greatest, so that the winner may be any member
+winner_is_greatest : false ≡ true → (ring : List ℕ) (i v : ℕ) → IsRing ring → slice_get ring i ≡ Some v → v ≤ peterson_winner ring
+winner_is_greatest never ring i v is_ring here = absurd (cc)
+
 pub peterson_lawful : Lawful false false peterson_table peterson_fits peterson_winner
 peterson_lawful = record {
   start_undecided = λ me. refl;
@@ -83,5 +87,5 @@ peterson_lawful = record {
   sends_fit = sends_fit;
   decides_winner = decides_winner;
   winner_is_member = winner_is_member;
-  winner_is_greatest = λ never. absurd (cc);
+  winner_is_greatest = winner_is_greatest;
 }

@@ -1,0 +1,179 @@
+"""Which definitions of specs/ a reader of the public contracts meets.
+
+A definition is an `abbrev`, a `record` or a `data` of crates/*/specs. It is met where a clause of a public function
+names it, or a ghost member or an invariant of a public type or trait, or a definition that is met itself. A lemma
+is none: what it says stands in the trait's member that it is given for, and how it is proved no reader needs.
+"""
+
+import collections
+import re
+
+NAME = r"[A-Za-z_][\w'-]*"
+WORD = re.compile(NAME)
+USE = re.compile(r"^\s*(?:pub )?(?:ghost )?use Rattle\.(\w+)\.specs\.(\w+)\.\{(.*?)\}", re.M | re.S)
+DECLARED = re.compile(rf"(abbrev )?(?:pub )?(record |data )?(?:pub )?({NAME})(?=\s|$)")
+EXPORT = re.compile(r"^pub use (?:\w+::)+(?:\{(.*?)\}|(\w+));", re.M | re.S)
+IMPL = re.compile(r"^impl(?:<.*?>+)? (?:.* for )?(?:&(?:mut )?)?(?:\w+::)*(\w+)")
+ITEM = re.compile(r"^(pub )?(?:const |unsafe )*(?:struct|enum|trait|type|fn) (\w+)")
+FN = re.compile(r"^(\s*)(pub |pub\(crate\) )?(?:const |unsafe )*fn \w+")
+
+# Where a definition stands: its crate, its file, its name.
+Place = collections.namedtuple("Place", "crate file name")
+
+
+class Declared:
+    """A declaration of a file of specs: its kind, empty for a lemma, and its text."""
+
+    def __init__(self, kind):
+        self.kind = kind
+        self.text = ""
+
+
+def uses(text):
+    """What each imported name stands for."""
+    found = {}
+    for crate, file, names in USE.findall(text):
+        for name in names.split(","):
+            words = name.split()
+            if words:
+                found[words[-1]] = Place(crate, file, words[0])
+    return found
+
+
+def declarations(text):
+    """The declarations of a file of specs, by their names. A module's line belongs to each inside it."""
+    found, modules, now = {}, [], None
+    for line in text.splitlines():
+        bare = line.strip()
+        indent = len(line) - len(line.lstrip())
+        if not bare or bare.startswith(("--", "use ", "pub use ", "pub mod ", "mod ", "unfolding ")):
+            continue
+        while modules and indent < modules[-1][0]:
+            modules.pop()
+        if bare.startswith("module "):
+            modules.append((indent + 2, line))
+            now = None
+            continue
+        start = DECLARED.match(bare) if indent == (modules[-1][0] if modules else 0) else None
+        if start:
+            abbrev, kind, name = start.groups()
+            now = found.setdefault(name, Declared((abbrev or kind or "").strip()))
+            now.text += "".join(f"{header}\n" for _, header in modules)
+        if now:
+            now.text += line.partition(" -- ")[0] + "\n"
+    return found
+
+
+class Specs:
+    """All declarations of the specs of all crates."""
+
+    def __init__(self, top):
+        self.top, self.declared, self.imports, self.constructed = top, {}, {}, {}
+        for path in sorted(top.glob("crates/*/specs/*.antt")):
+            file = (path.parts[-3], path.stem)
+            text = path.read_text(encoding="utf-8")
+            self.imports[file] = uses(text)
+            for name, one in declarations(text).items():
+                self.declared[Place(*file, name)] = one
+                if one.kind == "data":
+                    for constructor in re.findall(rf"^ +({NAME}) : ", one.text, re.M):
+                        self.constructed[Place(*file, constructor)] = Place(*file, name)
+
+    def definitions(self):
+        """Where all definitions stand."""
+        return {place for place, one in self.declared.items() if one.kind}
+
+    def named(self, words, imports, file=None):
+        """The declarations that these words name, in a file with these imports."""
+        found = set()
+        for word in words:
+            place = imports.get(word) or (Place(*file, word) if file else None)
+            if place not in self.declared:
+                place = self.constructed.get(place)
+            if place:
+                found.add(place)
+        return found
+
+    def closed(self, start):
+        """The definitions that are met from these declarations on."""
+        found, open_ones = set(), list(start)
+        while open_ones:
+            place = open_ones.pop()
+            if place in found or not self.declared[place].kind:
+                continue
+            found.add(place)
+            file = (place.crate, place.file)
+            open_ones += self.named(WORD.findall(self.declared[place].text), self.imports[file], file)
+        return found
+
+    def met_by_crate(self):
+        """The definitions that each crate's public contracts lead to, by the crates' names."""
+        crates = sorted(path for path in (self.top / "crates").iterdir() if (path / "src").is_dir())
+        return {crate.name: self.closed(reached(self, crate)) for crate in crates}
+
+
+def exported(crate):
+    """The names that a library hands out; None for a program, whose public items all count."""
+    library = crate / "src" / "lib.rt"
+    if not library.exists():
+        return None
+    found = set()
+    for several, one in EXPORT.findall(library.read_text(encoding="utf-8")):
+        found |= {name.split()[-1] for name in several.split(",") if name.split()} | ({one} if one else set())
+    return found
+
+
+def subject(line):
+    """The name of the type, trait or function that an item at the left edge is about, and whether it is public."""
+    of_impl = IMPL.match(line)
+    if of_impl:
+        return of_impl[1], True
+    item = ITEM.match(line)
+    return (item[2], bool(item[1])) if item else (None, False)
+
+
+def public_text(text, names):
+    """The public part of a source: the headers of its public functions, and all else of its public types and traits.
+
+    It rests on rt fmt's layout. Tests are left out, and so are bodies.
+    """
+    kept, public, inherent, testing, header, shown, depth, end = [], False, False, False, False, False, 0, None
+    for line in text.splitlines():
+        bare = line.strip()
+        if end is not None:
+            end = None if line == end else end
+            continue
+        if not bare or bare.startswith("//") or "use Rattle." in line:
+            continue
+        if line[0] not in " {})#" and not line.startswith("where"):
+            name, public = subject(line)
+            public = public and (names is None or name in names)
+            inherent = line.startswith("impl") and " for " not in line
+            if testing and bare.endswith("{"):
+                end = "}"
+            if testing:
+                public = testing = False
+                continue
+        testing = testing or line == "#[cfg(test)]"
+        start = FN.match(line)
+        if start:
+            header, depth = True, 0
+            shown = public and (start[2] == "pub " or not inherent)
+        if (shown if header else public):
+            kept.append(line)
+        if header and (depth or bare.startswith(("ensures", "requires"))):
+            depth += line.count("{") - line.count("}")
+            header = depth > 0 or not bare.endswith(";")
+        elif header and bare.endswith(("{", "}", ";")):
+            header = False
+            end = f"{line[:len(line) - len(bare)]}}}" if bare.endswith("{") else None
+    return "\n".join(kept)
+
+
+def reached(specs, crate):
+    """The declarations that a crate's public contracts name."""
+    found, names = set(), exported(crate)
+    for path in sorted((crate / "src").rglob("*.rt")):
+        text = path.read_text(encoding="utf-8")
+        found |= specs.named(WORD.findall(public_text(text, names)), uses(text))
+    return found
