@@ -1,8 +1,8 @@
 //! The lines of a history.
 use anyhow::{Result, anyhow};
 use ring_any::Any;
-use ring_grammar::print_reply;
 use ring_id::{GroupName, NodeId};
+use ring_lines::Spell;
 use ring_mux::Command;
 use ring_service::Entry;
 use ring_terms::Noting;
@@ -24,7 +24,9 @@ pub fn tell(alloc: Global, entry: &Entry<Any>) -> Result<Vec<u8>> {
             write_command(&mut text, command)?;
             text.push_str(" => ")?;
             let mut line = text.into_bytes();
-            print_reply(reply, &mut line).map_err(|_| anyhow!("a reply is not written"))?;
+            reply
+                .spell(&mut line)
+                .map_err(|_| anyhow!("a reply is not written"))?;
             Ok(line)
         }
         Entry::Filing {

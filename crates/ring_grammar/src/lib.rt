@@ -12,6 +12,6 @@ mod spelling;
 mod values;
 
 pub use parse::{parse_command, parse_event};
-pub use print::print_reply;
+pub use print::{print_groups, print_members, print_reply, print_terms};
 pub use sink::{Sink, SinkFailed};
 pub use spelling::one_spelling;

@@ -4,8 +4,11 @@ ghost use Rattle.ring_grammar.specs.Identities.{IsNode, node_word, weight_text};
 ghost use Rattle.ring_grammar.specs.Spelling.{IsReply, line_of, reply_line, reply_words, term_word};
 ghost use Rattle.ring_mux.specs.declared.reply.Reply.TheVariants as reply;
 
+mod lists;
+
 use crate::sink::{Sink, SinkFailed};
 use itoa::Buffer;
+pub use lists::{print_groups, print_members, print_terms};
 use ring_id::{GroupName, NodeId};
 use ring_mux::Reply;
 

@@ -2,6 +2,7 @@ pub mod Accesses
 pub mod Chunks
 pub mod Finishing
 pub mod Histories
+pub mod Kept
 pub mod Locks
 pub mod Sessions
 pub mod Tables

@@ -1,19 +1,22 @@
 ghost use Rattle.std.specs.Prelude.{◌≡◌, IsTrue, ◌↔◌};
 ghost use Rattle.ring_service.specs.Tables.{IsRefused, filed_of};
 
-use ring_id::{GroupName, NodeId, Refusal, TermNo};
-use ring_mux::{Command, Reply};
+use crate::kept::KeptReply;
+use ring_any::Any;
+use ring_id::{GroupName, NodeId, TermNo};
+use ring_mux::Command;
 use ring_terms::Noting;
 use ring_workers::Filed;
+use std::mem::size_of;
 
-/// One line of a history.
+/// One line of a history. It takes at most 64 bytes, and what the list of a reply takes.
 #[derive(Debug, Drop)]
 pub enum Entry<E> {
     /// A session's command and the reply that it got.
     Call {
         session: u32,
         command: Command<E>,
-        reply: Reply,
+        reply: KeptReply,
     },
     /// A report that this member knows this leader of this term, and what became of it.
     Filing {
@@ -24,6 +27,8 @@ pub enum Entry<E> {
         noting: Noting,
     },
 }
+
+const _: () = prove!(size_of::<Entry<Any>>() <= 64);
 
 /// The answer for a report that was noted so.
 pub(crate) fn filed_from(noting: Noting) -> Filed

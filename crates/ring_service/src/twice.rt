@@ -5,6 +5,7 @@ ghost use Rattle.ring_mux.specs.declared.event.Command.TheVariants as command;
 ghost use Rattle.ring_mux.specs.declared.reply.Reply.TheVariants as reply;
 ghost use Rattle.ring_service.specs.Twice.{IsTwice, Performs};
 
+use crate::kept::{Kept, KeptReply};
 use ring_election::RingElection;
 use ring_id::{GroupName, NoMemory, Refusal};
 use ring_mux::{Command, Reply};
@@ -14,7 +15,7 @@ use std::alloc::Global;
 /// A reply twice: one is kept in the history, and one is told to the session.
 #[derive(Drop)]
 pub(crate) struct Twice {
-    pub(crate) kept: Reply,
+    pub(crate) kept: KeptReply,
     pub(crate) told: Reply,
 }
 
@@ -44,7 +45,7 @@ fn done(outcome: Result<(), Refusal>) -> Result<Twice, NoMemory>
 {
     match outcome {
         Ok(()) => Ok(Twice {
-            kept: Reply::Done,
+            kept: KeptReply::new(Kept::Done),
             told: Reply::Done,
         }),
         Err(refusal) => refused(refusal),
@@ -57,7 +58,7 @@ fn tell(outcome: Result<Standing, Refusal>) -> Result<Twice, NoMemory>
 {
     match outcome {
         Ok(standing) => Ok(Twice {
-            kept: says(&standing),
+            kept: keeps(&standing),
             told: says(&standing),
         }),
         Err(refusal) => refused(refusal),
@@ -73,6 +74,16 @@ fn says(standing: &Standing) -> Reply
     }
 }
 
+// The same, kept.
+fn keeps(standing: &Standing) -> KeptReply
+    ensures { result ≡ standing_reply standing.now }
+{
+    match standing {
+        Standing::Leader { term, leader } => KeptReply::new(Kept::Leader(*term, *leader)),
+        Standing::Undecided(term) => KeptReply::new(Kept::Undecided(*term)),
+    }
+}
+
 // The answer to a command that was refused.
 fn refused(refusal: Refusal) -> Result<Twice, NoMemory>
     ensures { IsTwice (reply.Refused refusal) result }
@@ -81,7 +92,7 @@ fn refused(refusal: Refusal) -> Result<Twice, NoMemory>
         return Err(NoMemory);
     }
     Ok(Twice {
-        kept: Reply::Refused(refusal),
+        kept: KeptReply::new(Kept::Refused(refusal)),
         told: Reply::Refused(refusal),
     })
 }
@@ -96,7 +107,7 @@ fn start<E: RingElection>(
 {
     match book.start(alloc, group) {
         Ok(charter) => Ok(Twice {
-            kept: Reply::Term(charter.term()),
+            kept: KeptReply::new(Kept::Term(charter.term())),
             told: Reply::Term(charter.term()),
         }),
         Err(refusal) => refused(refusal),
@@ -112,12 +123,15 @@ fn members<E: RingElection>(
     ensures { Performs E.is_two_way E.is_greatest (command.Members group) book.now result book.now }
 {
     let kept = match book.members(alloc, group) {
-        Ok(members) => Reply::Members(members),
+        Ok(members) => members,
         Err(refusal) => return refused(refusal),
+    };
+    let Ok(kept) = Box::new(alloc, kept) else {
+        return Err(NoMemory);
     };
     match book.members(alloc, group) {
         Ok(members) => Ok(Twice {
-            kept,
+            kept: KeptReply::new(Kept::Members(kept)),
             told: Reply::Members(members),
         }),
         Err(_) => Err(NoMemory),
@@ -133,12 +147,15 @@ fn terms<E: RingElection>(
     ensures { Performs E.is_two_way E.is_greatest (command.Terms group) book.now result book.now }
 {
     let kept = match book.terms(alloc, group) {
-        Ok(terms) => Reply::Terms(terms),
+        Ok(terms) => terms,
         Err(refusal) => return refused(refusal),
+    };
+    let Ok(kept) = Box::new(alloc, kept) else {
+        return Err(NoMemory);
     };
     match book.terms(alloc, group) {
         Ok(terms) => Ok(Twice {
-            kept,
+            kept: KeptReply::new(Kept::Terms(kept)),
             told: Reply::Terms(terms),
         }),
         Err(_) => Err(NoMemory),
@@ -150,12 +167,15 @@ fn groups<E: RingElection>(book: &Book<E>, alloc: Global) -> Result<Twice, NoMem
     ensures { Performs E.is_two_way E.is_greatest command.Groups book.now result book.now }
 {
     let kept = match book.groups(alloc) {
-        Ok(groups) => Reply::Groups(groups),
+        Ok(groups) => groups,
         Err(refusal) => return refused(refusal),
+    };
+    let Ok(kept) = Box::new(alloc, kept) else {
+        return Err(NoMemory);
     };
     match book.groups(alloc) {
         Ok(groups) => Ok(Twice {
-            kept,
+            kept: KeptReply::new(Kept::Groups(kept)),
             told: Reply::Groups(groups),
         }),
         Err(_) => Err(NoMemory),
