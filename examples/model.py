@@ -1,12 +1,15 @@
 """What a group may answer, and whether replies to several clients fit one history.
 
-A command is a tuple of words behind the group's name, as ("join", 3), and a reply is a line as text. The
+A command is a tuple of words behind the group's name, as ("leave", 3), where who joins is an `Identity` and all
+others are named by their numbers; a reply is a line as text. The
 workers tell members of a leader between any two commands, so a state doesn't say who knows: it says who
 is known to know. Of an earlier term it says whether a leader was seen, seen to be missing, or neither.
 """
 
 import functools
 from typing import NamedTuple
+
+from identity import numbers_of
 
 MOST_MEMBERS = 256
 MOST_TERMS = 1000
@@ -50,17 +53,17 @@ def after(group, command, reply):
 
 
 def join(group, reply, member):
-    if member in group.members:
+    if member.number in numbers_of(group.members):
         return group if reply == "no member" else None
     if len(group.members) == MOST_MEMBERS:
         return group if reply == "no ring-full" else None
     return group._replace(members=(*group.members, member)) if reply == "ok" else None
 
 
-def leave(group, reply, member):
-    if member not in group.members:
+def leave(group, reply, number):
+    if number not in numbers_of(group.members):
         return group if reply == "no not-member" else None
-    rest = tuple(it for it in group.members if it != member)
+    rest = tuple(it for it in group.members if it.number != number)
     return group._replace(members=rest) if reply == "ok" else None
 
 
@@ -75,20 +78,20 @@ def start(group, reply):
                           leaders=(*group.leaders, None), ring=group.members, informed=frozenset())
 
 
-def who(group, reply, member):
+def who(group, reply, number):
     term = len(group.leaders)
     if not term:
         return group if reply == "no no-term" else None
-    if member not in group.ring:
+    if number not in numbers_of(group.ring):
         return group if reply == "no not-in-term" else None
     if reply == f"undecided {term}":
-        return group if member not in group.informed else None
+        return group if number not in group.informed else None
     leader = group.rightful[-1]
     if reply != f"leader {term} {leader}":
         return None
-    if member in group.informed:
+    if number in group.informed:
         return group
-    return group._replace(leaders=(*group.leaders[:-1], leader), informed=group.informed | {member})
+    return group._replace(leaders=(*group.leaders[:-1], leader), informed=group.informed | {number})
 
 
 def members(group, reply):
