@@ -3,7 +3,9 @@
 import re
 
 FN = re.compile(r"( *)(?:pub(?:\([^)]*\))? )?(?:const |unsafe )*fn (\w+)")
-IMPL = re.compile(r"impl(?:<(?P<own>.*?)>)? (?:(?P<of>\w.*?) for )?(?P<for>\w.*?)(?: where .*)? \{$")
+IMPL = re.compile(r"impl(?:<(?P<own>.*?)>)? (?:(?P<of>\w.*?) for )?(?P<for>[&\w].*?)(?: where .*)? \{$")
+OWN = re.compile(r"(?:^|, )(\w+)(?=:|,|$)")
+TYPE = re.compile(r"^(?:pub(?:\([^)]*\))? )?(?:struct|enum) (\w+)", re.M)
 WORD = re.compile(r"\w+")
 CALL = re.compile(r"(?:(\.)|(\w+)::)?\b([a-z_]\w*)\b")
 
@@ -38,26 +40,32 @@ def module_of(file):
 
 def spelled(text, own):
     """A type or a trait with what it is applied to as one name, as the prover spells it."""
-    name, _, inside = re.sub(r".*::", "", text.partition("<")[0]), *text.partition("<")[1:]
+    head, _, inside = text.partition("<")
+    name = re.sub(r".*::", "", re.sub(r"^&('\w+ )?", "Ref", head))
     given = [it for it in WORD.findall(re.sub(r"'\w+", "", inside)) if it not in own]
     return name + "".join(it[:1].upper() + it[1:] for it in given)
 
 
-def owner_of(line):
-    """The name that stands for an `impl` line or a `trait` line in the paths of its functions."""
+def owner_of(line, module, types):
+    """The path that an `impl` line or a `trait` line gives its functions; what a type has by itself
+    stands where the type does."""
     if found := IMPL.match(line):
-        own = WORD.findall(found["own"] or "")
-        return spelled(found["for"], own) + (spelled(found["of"], own) if found["of"] else "")
+        own = OWN.findall(found["own"] or "")
+        name = spelled(found["for"], own)
+        if found["of"]:
+            return [*module, name + spelled(found["of"], own)]
+        places = types.get(name, [module])
+        return [*(module if module in places else places[0]), name]
     named = re.match(r"(?:pub(?:\([^)]*\))? )?trait (\w+)", line)
-    return named[1] if named else ""
+    return [*module, named[1]] if named else []
 
 
-def functions_in(file, text):
+def functions_in(file, text, types):
     """The functions of a source file, without those of its modules, such as tests."""
-    lines, found, owner = text.split("\n"), [], ""
+    lines, found, owner, module = text.split("\n"), [], [], module_of(file)
     for at, line in enumerate(lines):
         if line[:1].strip() and line[0] not in "})":
-            owner = owner_of(line)
+            owner = owner_of(line, module, types)
         head = FN.match(line)
         if not head or len(head[1]) != (4 if owner else 0):
             continue
@@ -66,19 +74,19 @@ def functions_in(file, text):
         ends = (f"{head[1]}}}",)
         last = body if lines[body].endswith("}") else next(
             (it for it in range(body, len(lines)) if lines[it].startswith(ends)), at)
-        path = "::".join([*module_of(file), *([owner] if owner else []), head[2]])
+        path = "::".join([*(owner or module), head[2]])
         found.append(Function(file, path, at, body, last, "\n".join(lines[body : last + 1])))
     return found
 
 
 def functions_of(folder):
     """All functions of a crate, by their paths."""
-    found = {}
-    for file in sorted((folder / "src").rglob("*.rt")):
-        short = str(file.relative_to(folder))
-        for it in functions_in(short, file.read_text(encoding="utf-8")):
-            found[it.path] = it
-    return found
+    texts = {str(it.relative_to(folder)): it.read_text(encoding="utf-8") for it in sorted((folder / "src").rglob("*.rt"))}
+    types = {}
+    for file, name in ((file, name) for file, text in texts.items() for name in TYPE.findall(text)):
+        types.setdefault(name, []).append(module_of(file))
+    found = [it for file, text in texts.items() for it in functions_in(file, text, types)]
+    return {it.path: it for it in found}
 
 
 def called(function, by_name):
