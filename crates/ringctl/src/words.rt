@@ -29,7 +29,7 @@ Without a command each line of standard input is sent, and its reply printed.
 
 A watch asks a member of the group once a second what it knows, and for the terms each time
 that the answer is another. The service keeps each of these commands in memory for as long as
-it lives: about 8 MB for a day of watching, and 8 bytes for each term of the group at each
+it lives: about 8 MB for a day of watching, and 12 bytes for each term of the group at each
 change.
 
 The status is 0 where all was done, 1 where the command was refused (the word is on standard
