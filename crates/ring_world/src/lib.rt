@@ -15,9 +15,9 @@
 
 mod circle;
 mod delivery;
+mod link_set;
 mod owners;
 mod places;
-mod ready_set;
 mod settlement;
 mod sort;
 mod world;
