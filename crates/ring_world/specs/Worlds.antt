@@ -1,5 +1,5 @@
 -- Worlds: the journals of all nodes of a term, which links between them are cut, and what is in flight.
--- What is in flight is said of whole journals; no queue, count or bit is in these definitions.
+-- What is in flight is said of whole journals; no queue and no count is in these definitions.
 use Rattle.std.specs.Prelude.{◌≡◌, ◌+◌, ◌*◌, ◌<◌, ◌⊎◌, ◌&&◌, ℕ, zero, suc, Bool, true, false, cond, not, nat_lt, List, [], ◌∷◌, ◌++◌, length, drop, replicate, Option, Some, None, Result, Ok, Err, slice_set, slice_index_or}
 use Rattle.ring_id.specs.declared.refusal.Refusal.{Refusal}
 use Rattle.ring_id.specs.declared.refusal.Refusal.TheVariants as refused
