@@ -57,7 +57,7 @@ pub fn parse_command(line: &[u8]) -> Option<Event> {
     parse_event(line).filter(|event| {
         !matches!(
             event,
-            Event::Deliver(..) | Event::Pending(_) | Event::Drain(..)
+            Event::Deliver(..) | Event::Cut(..) | Event::Pending(_) | Event::Drain(..)
         )
     })
 }

@@ -18,6 +18,7 @@ pub enum Event {
     Terms(GroupName),
     Groups,
     Deliver(GroupName, NodeNo, Side),
+    Cut(GroupName, NodeNo, Side),
     Pending(GroupName),
     Drain(GroupName, u64),
 }
@@ -35,6 +36,7 @@ pub fn parse_event(line: &[u8]) -> Option<Event> {
         b"terms" => Event::Terms(words.group()?),
         b"groups" => Event::Groups,
         b"deliver" => Event::Deliver(words.group()?, words.number()?, words.side()?),
+        b"cut" => Event::Cut(words.group()?, words.number()?, words.side()?),
         b"pending" => Event::Pending(words.group()?),
         b"drain" => Event::Drain(words.group()?, words.count()?),
         _ => return None,

@@ -1,4 +1,4 @@
-//! The set of links with something in flight.
+//! Sets of links: those with something in flight, and those that are cut.
 
 use crate::names::Side;
 
@@ -49,6 +49,11 @@ impl ReadyLinks {
     pub fn remove(&mut self, link: Link) {
         let place = link.place();
         self.words[place / WORD_BITS] &= !(1 << (place % WORD_BITS));
+    }
+
+    pub fn has(&self, link: Link) -> bool {
+        let place = link.place();
+        self.words[place / WORD_BITS] & 1 << (place % WORD_BITS) != 0
     }
 
     /// The least link of the set.

@@ -33,6 +33,7 @@ impl Service {
             Event::Terms(group) => Ok(Reply::Terms(self.book.group(&group)?.terms())),
             Event::Groups => Ok(Reply::Groups(self.book.groups())),
             Event::Deliver(group, node, side) => self.deliver(&group, node, side),
+            Event::Cut(group, node, side) => self.cut(&group, node, side),
             Event::Pending(group) => {
                 let place = self.book.place(&group)?;
                 Ok(Reply::Pending(self.running_at(place)?.pending()))
@@ -96,6 +97,20 @@ impl Service {
                 Ok(Reply::Moved)
             }
         }
+    }
+
+    fn cut(
+        &mut self,
+        group: &GroupName,
+        node: NodeId,
+        side: Side,
+    ) -> Result<Reply<'_>, Refusal> {
+        let place = self.book.place(group)?;
+        let receiver = self.book.group(group)?.last_term()?.position(node)?;
+        if !self.running_at(place)?.cut(Link { receiver, side }) {
+            return Err(Refusal::OneWay);
+        }
+        Ok(Reply::Done)
     }
 
     fn drain(&mut self, group: &GroupName, count: u64) -> Result<Reply<'_>, Refusal> {

@@ -11,7 +11,7 @@ pub enum Delivery {
     /// The front packet was taken; the leader is there where the receiver now knows it for the
     /// first time.
     Moved(Option<NodeId>),
-    /// Nothing is in flight on that link.
+    /// Nothing is in flight on that link, or it is cut.
     Idle,
     /// Nothing ever arrives from that side.
     OneWay,
@@ -26,7 +26,10 @@ pub trait RunningTerm: Send {
     /// tells `learned` of each node that gets to know the leader. The answer is their number.
     fn drain(&mut self, count: u64, learned: &mut dyn FnMut(usize, NodeId)) -> u64;
 
-    /// The number of packets in flight.
+    /// Cuts a link: it delivers nothing more. The answer is whether anything ever arrives there.
+    fn cut(&mut self, link: Link) -> bool;
+
+    /// The number of packets in flight, and of those that are stuck on links that are cut.
     fn pending(&self) -> u64;
 }
 
@@ -46,6 +49,7 @@ struct World<A: Algorithm> {
     nodes: Vec<Node<A>>,
     pending: u64,
     ready: ReadyLinks,
+    cut: ReadyLinks,
 }
 
 impl<A: Algorithm> World<A> {
@@ -55,6 +59,7 @@ impl<A: Algorithm> World<A> {
             nodes,
             pending: 0,
             ready: ReadyLinks::default(),
+            cut: ReadyLinks::default(),
         };
         for position in 0..ring.len() {
             world.count_sends(position, 0, 0);
@@ -90,22 +95,32 @@ impl<A: Algorithm> World<A> {
         self.pending += (more_left + more_right) as u64;
         if more_left > 0 {
             let receiver = self.neighbour(position, Side::Left);
-            self.ready.insert(Link {
+            self.wake(Link {
                 receiver,
                 side: Side::Right,
             });
         }
         if more_right > 0 {
             let receiver = self.neighbour(position, Side::Right);
-            self.ready.insert(Link {
+            self.wake(Link {
                 receiver,
                 side: Side::Left,
             });
         }
     }
 
+    /// Marks a link as ready, unless it is cut.
+    fn wake(&mut self, link: Link) {
+        if !self.cut.has(link) {
+            self.ready.insert(link);
+        }
+    }
+
     /// Moves the front packet of a link that may be used.
     fn advance(&mut self, link: Link) -> Delivery {
+        if self.cut.has(link) {
+            return Delivery::Idle;
+        }
         let Link { receiver, side } = link;
         let sender = self.neighbour(receiver, side);
         let place = self.nodes[receiver].taken(side);
@@ -145,6 +160,15 @@ impl<A: Algorithm> RunningTerm for World<A> {
         count
     }
 
+    fn cut(&mut self, link: Link) -> bool {
+        if link.side == Side::Right && !A::TWO_WAY {
+            return false;
+        }
+        self.cut.insert(link);
+        self.ready.remove(link);
+        true
+    }
+
     fn pending(&self) -> u64 {
         self.pending
     }
@@ -175,6 +199,20 @@ mod tests {
         assert_eq!(world.deliver(least), Delivery::Idle);
         assert_eq!(world.drain(100, &mut |_, _| {}), 7);
         assert_eq!(world.pending(), 0);
+        assert_eq!(world.ready.least(), None);
+    }
+
+    #[test]
+    fn a_cut_link_keeps_its_packets() {
+        let mut world = World::<Chang>::begin(&ring(&[3, 1, 2]));
+        let link = Link {
+            receiver: 2,
+            side: Side::Left,
+        };
+        assert!(world.cut(link));
+        assert_eq!(world.deliver(link), Delivery::Idle);
+        assert_eq!(world.drain(100, &mut |_, _| {}), 2);
+        assert_eq!(world.pending(), 2);
         assert_eq!(world.ready.least(), None);
     }
 

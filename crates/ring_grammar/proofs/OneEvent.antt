@@ -12,7 +12,7 @@ use Rattle.ring_id.specs.declared.side.Side.TheVariants.{Left, Right}
 use Rattle.ring_mux.specs.declared.event.Command.{Command}
 use Rattle.ring_mux.specs.declared.event.Command.TheVariants.{Create, Join, Leave, Start, Who, Members, Terms, Groups}
 use Rattle.ring_mux.specs.declared.event.Event.{Event}
-use Rattle.ring_mux.specs.declared.event.Event.TheVariants.{Client, Deliver, Pending, Drain}
+use Rattle.ring_mux.specs.declared.event.Event.TheVariants.{Client, Deliver, Cut, Pending, Drain}
 use Rattle.ring_grammar.specs.Identities.{IsNode, IsNumber, node_word, weight_text}
 use Rattle.ring_grammar.specs.Spelling.{IsCommand, IsEvent, Spells, command_words, event_words, line_of, side_word}
 use Rattle.ring_grammar.specs.OneSpelling.{HaveOneSpelling}
@@ -62,7 +62,7 @@ same_command _ _ p q same = absurd (omega (arith, ap number_of_first same))
 abbrev is_schedule : List (List ℕ) → Bool
 is_schedule words =
     let first = number_of_first words in
-    (first == number_of_word (codes "deliver")) || (first == number_of_word (codes "pending")) || (first == number_of_word (codes "drain"))
+    (first == number_of_word (codes "deliver")) || (first == number_of_word (codes "cut")) || (first == number_of_word (codes "pending")) || (first == number_of_word (codes "drain"))
 
 -- a client command is no line of a schedule
 no_schedule : (command : Command Any) → is_schedule (command_words command) ≡ false
@@ -83,12 +83,15 @@ apart command words schedule same = let none : is_schedule words ≡ false = sym
 same_event : (a b : Event Any) → IsEvent a → IsEvent b → event_words a ≡ event_words b → a ≡ b
 same_event (Client a) (Client b) p q same = ap (λ (command : Command Any). Client command) (same_command a b p q same)
 same_event (Client a) (Deliver h n t) p q same = absurd (apart a (event_words (Deliver h n t)) refl same)
+same_event (Client a) (Cut h n t) p q same = absurd (apart a (event_words (Cut h n t)) refl same)
 same_event (Client a) (Pending h) p q same = absurd (apart a (event_words (Pending h)) refl same)
 same_event (Client a) (Drain h n) p q same = absurd (apart a (event_words (Drain h n)) refl same)
 same_event (Deliver g m s) (Client b) p q same = absurd (apart b (event_words (Deliver g m s)) refl (sym same))
+same_event (Cut g m s) (Client b) p q same = absurd (apart b (event_words (Cut g m s)) refl (sym same))
 same_event (Pending g) (Client b) p q same = absurd (apart b (event_words (Pending g)) refl (sym same))
 same_event (Drain g m) (Client b) p q same = absurd (apart b (event_words (Drain g m)) refl (sym same))
 same_event (Deliver g m s) (Deliver h n t) p q same = let number = same_number m n p.1 q.1 cc in let side = same_side s t cc in cc
+same_event (Cut g m s) (Cut h n t) p q same = let number = same_number m n p.1 q.1 cc in let side = same_side s t cc in cc
 same_event (Pending g) (Pending h) p q same = cc
 same_event (Drain g m) (Drain h n) p q same = let count = decimal_injective m n (omega arith) (omega arith) cc in cc
 same_event _ _ p q same = absurd (omega (arith, ap number_of_first same))
@@ -131,6 +134,7 @@ short-event (Client (Members g)) p = omega (arith, p.short)
 short-event (Client (Terms g)) p = omega (arith, p.short)
 short-event (Client Groups) p = omega arith
 short-event (Deliver g n s) p =
+    omega (arith, length-append g (32 ∷ (decimal n ++ 32 ∷ side_word s)), length-append (decimal n) (32 ∷ side_word s), p.0.short, short-number n p.1.1, short-side s)
     omega (arith, length-append g (32 ∷ (decimal n ++ 32 ∷ side_word s)), length-append (decimal n) (32 ∷ side_word s), p.0.short, short-number n p.1.1, short-side s)
 short-event (Pending g) p = omega (arith, p.short)
 short-event (Drain g k) p = omega (arith, length-append g (32 ∷ decimal k), p.0.short, short-number k (omega arith))

@@ -13,7 +13,7 @@ use Rattle.ring_id.specs.declared.side.Side.{Side}
 use Rattle.ring_id.specs.declared.side.Side.TheVariants.{Left, Right}
 use Rattle.ring_mux.specs.declared.event.Command.TheVariants.{Create, Join, Leave, Start, Who, Members, Terms, Groups}
 use Rattle.ring_mux.specs.declared.event.Event.{Event}
-use Rattle.ring_mux.specs.declared.event.Event.TheVariants.{Client, Deliver, Pending, Drain}
+use Rattle.ring_mux.specs.declared.event.Event.TheVariants.{Client, Deliver, Cut, Pending, Drain}
 use Rattle.ring_grammar.specs.Identities.{IsNode, IsNumber, node_word, weight_text}
 use Rattle.ring_grammar.specs.Reading.{Reads, words_in}
 use Rattle.ring_grammar.specs.Spelling.{IsEvent, Spells, event_words, line_of, side_word}
@@ -30,6 +30,7 @@ one_to_four_words (Client (Members group)) = (omega arith, omega arith)
 one_to_four_words (Client (Terms group)) = (omega arith, omega arith)
 one_to_four_words (Client Groups) = (omega arith, omega arith)
 one_to_four_words (Deliver group node side) = (omega arith, omega arith)
+one_to_four_words (Cut group node side) = (omega arith, omega arith)
 one_to_four_words (Pending group) = (omega arith, omega arith)
 one_to_four_words (Drain group count) = (omega arith, omega arith)
 
@@ -79,6 +80,7 @@ plain-event (Client (Members group)) legal = and_from (is_plain group) true (pla
 plain-event (Client (Terms group)) legal = and_from (is_plain group) true (plain-name group legal) refl
 plain-event (Client Groups) legal = refl
 plain-event (Deliver group number side) legal = and_from (is_plain group) (all_plain (decimal number ∷ side_word side ∷ [])) (plain-name group legal.0) (both_plain (decimal number) (side_word side) (plain-number number legal.1) (plain-side side))
+plain-event (Cut group number side) legal = and_from (is_plain group) (all_plain (decimal number ∷ side_word side ∷ [])) (plain-name group legal.0) (both_plain (decimal number) (side_word side) (plain-number number legal.1) (plain-side side))
 plain-event (Pending group) legal = and_from (is_plain group) true (plain-name group legal) refl
 plain-event (Drain group count) legal = both_plain group (decimal count) (plain-name group legal.0) (plain-decimal count (omega arith))
 

@@ -3,7 +3,7 @@ use Rattle.std.specs.Prelude.{◌≡◌, ◌<◌, ◌==◌, ◌^◌, ℕ, List, 
 use Rattle.std.specs.List.{slice_split}
 use Rattle.ring_mux.specs.declared.event.Command.{Command}
 use Rattle.ring_mux.specs.declared.event.Event.{Event}
-use Rattle.ring_mux.specs.declared.event.Event.TheVariants.{Client, Deliver, Pending, Drain}
+use Rattle.ring_mux.specs.declared.event.Event.TheVariants.{Client, Deliver, Cut, Pending, Drain}
 
 -- The value that this text spells, and none only where it spells no value that is legal.
 abbrev pub Reads : {A B : Type 0} → (A → B) → (A → Type 0) → B → Option A → Type 0
@@ -26,5 +26,6 @@ IsShortNumber n = n < 2 ^ 32
 abbrev pub client_part : {E : Type 0} → Event E → Option (Command E)
 client_part (Client command) = Some command
 client_part (Deliver group node side) = None
+client_part (Cut group node side) = None
 client_part (Pending group) = None
 client_part (Drain group count) = None

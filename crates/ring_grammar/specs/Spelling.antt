@@ -12,7 +12,7 @@ use Rattle.ring_any.specs.declared.any.Any.{Any}
 use Rattle.ring_mux.specs.declared.event.Command.{Command}
 use Rattle.ring_mux.specs.declared.event.Command.TheVariants.{Create, Join, Leave, Start, Who, Members, Terms, Groups}
 use Rattle.ring_mux.specs.declared.event.Event.{Event}
-use Rattle.ring_mux.specs.declared.event.Event.TheVariants.{Client, Deliver, Pending, Drain}
+use Rattle.ring_mux.specs.declared.event.Event.TheVariants.{Client, Deliver, Cut, Pending, Drain}
 use Rattle.ring_mux.specs.declared.reply.Reply.{Reply}
 use Rattle.ring_mux.specs.declared.reply.Reply.TheVariants.{Done, Term, Leader, Undecided, Moved, Idle, Drained, Refused}
 use Rattle.ring_mux.specs.declared.reply.Reply.TheVariants as reply
@@ -42,6 +42,7 @@ command_words Groups = codes "groups" ∷ []
 abbrev pub event_words : Event Any → List (List ℕ)
 event_words (Client command) = command_words command
 event_words (Deliver group number side) = codes "deliver" ∷ group ∷ decimal number ∷ side_word side ∷ []
+event_words (Cut group number side) = codes "cut" ∷ group ∷ decimal number ∷ side_word side ∷ []
 event_words (Pending group) = codes "pending" ∷ group ∷ []
 event_words (Drain group count) = codes "drain" ∷ group ∷ decimal count ∷ []
 
@@ -60,6 +61,7 @@ IsCommand Groups = Unit {0}
 abbrev pub IsEvent : Event Any → Type 0
 IsEvent (Client command) = IsCommand command
 IsEvent (Deliver group number side) = IsName group × IsNumber number
+IsEvent (Cut group number side) = IsName group × IsNumber number
 IsEvent (Pending group) = IsName group
 IsEvent (Drain group count) = IsName group × (count ≤ 1000000000)
 

@@ -31,7 +31,7 @@ pub fn parse_event(line: &[u8]) -> Option<Event<Any>>
 
 /// The client command that a line spells, given without its LF; none exactly where it spells none.
 ///
-/// Lines of a schedule, `deliver`, `pending` and `drain`, spell no client command. Takes no memory.
+/// Lines of a schedule, `deliver`, `cut`, `pending` and `drain`, spell no client command. Takes no memory.
 pub fn parse_command(line: &[u8]) -> Option<Command<Any>>
     ensures some { IfSome result (λ command. Spells line.now (Client command)) }
     ensures none { IfNone result ((command : Command Any) → ¬ (Spells line.now (Client command))) }
@@ -44,7 +44,7 @@ fn client_command(event: Event<Any>) -> Option<Command<Any>>
 {
     match event {
         Event::Client(command) => Some(command),
-        Event::Deliver(..) | Event::Pending(_) | Event::Drain(..) => None,
+        Event::Deliver(..) | Event::Cut(..) | Event::Pending(_) | Event::Drain(..) => None,
     }
 }
 
@@ -118,6 +118,8 @@ fn event_of_four(word: &[u8], group: &[u8], argument: &[u8], end: &[u8]) -> Opti
 {
     if word == b"deliver".as_slice() {
         Some(Event::Deliver(name(group)?, node_number(argument)?, side(end)?))
+    } else if word == b"cut".as_slice() {
+        Some(Event::Cut(name(group)?, node_number(argument)?, side(end)?))
     } else {
         None
     }

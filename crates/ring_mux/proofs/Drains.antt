@@ -11,27 +11,19 @@ use Rattle.ring_id.specs.Refusals.{unless_some}
 use Rattle.ring_roster.specs.Ring.{IsRing}
 use Rattle.ring_election.specs.Tables.{Table}
 use Rattle.ring_node.specs.declared.charter.Charter.{Charter}
+use Rattle.ring_world.specs.Quiet.{IsQuiet}
 use Rattle.ring_world.specs.Worlds.{IsFirstLink, IsReady, Running, in_flight, pending_below, pending_of, size_of}
 use Rattle.ring_world.proofs.Links.{same_or_not}
 use Rattle.ring_terms.specs.Commands.{running_refusal}
 use Rattle.ring_terms.specs.Object.{GroupView, InGroup, Object, OfGroup, TermView, find, last_term, with_group}
 use Rattle.ring_mux.specs.declared.carried.Carried.TheVariants.{Moved}
-use Rattle.ring_mux.specs.Journeys.{Carries, CarriesAmong, CarriesTimes, MakesAmong, with_world}
+use Rattle.ring_mux.specs.Journeys.{CanMove, Carries, CarriesAmong, CarriesTimes, MakesAmong, with_world}
 use Rattle.ring_mux.specs.Steps.{MovesOf, MovesTimes}
 use Rattle.ring_mux.specs.Views.{Held, IsHeld, IsSeat, IsSoundHeld, IsWorldOf, world_in}
 use Rattle.ring_mux.proofs.Outcomes.{of_found}
 use Rattle.ring_mux.proofs.Carrying.{last_written, position_here, running_ring, same_found, written_found}
 
 module _ {E S M : Type 0} (t : E → Table S M) (world : Running E M) where
-  -- where nothing is in flight on the links below n, nothing is pending there
-  none_below : (n : ℕ) → ((i : ℕ) (side : Side) → i < n → in_flight t world i side ≡ []) → pending_below t world n ≡ 0
-  none_below zero none = refl
-  none_below (suc n) none =
-      let rest = none_below n (λ i side below. none i side (omega arith)) in
-      let left = ap length (none n Left (omega arith)) in
-      let right = ap length (none n Right (omega arith)) in
-      omega (arith, rest, left, right)
-
   -- where something is in flight on a link into a position, something is pending there
   side_waits : (n : ℕ) (side : Side) → 0 < length (in_flight t world n side) → 0 < pending_below t world (suc n)
   side_waits n Left waits = omega (arith, waits)
@@ -45,6 +37,10 @@ module _ {E S M : Type 0} (t : E → Table S M) (world : Running E M) where
         | inl here ↦ side_waits n side (rw here at waits)
         | inr differ ↦ let rest = some_below n i side (omega arith) waits in omega (arith, rest)
       ]
+
+  -- where something can move something is pending
+  pub some_pending : CanMove t world → 0 < pending_of t world
+  some_pending moves = some_below (size_of world) moves.position moves.side moves.first.inside moves.first.waits
 
 -- a value that is written twice is the last one
 written_twice : {X : Type 0} (name : List ℕ) (es : List (List ℕ × X)) (v w : X) → set_value (bytes_eq name) (set_value (bytes_eq name) es v) w ≡ set_value (bytes_eq name) es w
@@ -105,20 +101,20 @@ module _ {E S M : Type 0} (t : E → Table S M) (object : Object E) (worlds : Li
   pub kept_world : (world : Running E M) → world_in name worlds ≡ Some world → kept.world ≡ world
   kept_world world found = same_found (world_in name worlds) kept.world world kept.found found
 
-  -- where nothing is ready nothing is pending
-  pub quiet_at : IsReady t kept.world None → (w : Running E M) → world_in name worlds ≡ Some w → pending_of t w ≡ 0
-  quiet_at none w found = rw (same_found (world_in name worlds) w kept.world found kept.found) (none_below t kept.world (size_of kept.world) none)
+  -- where nothing is ready it is quiet
+  pub quiet_at : IsReady t kept.world None → (w : Running E M) → world_in name worlds ≡ Some w → IsQuiet t w
+  quiet_at none w found = rw (same_found (world_in name worlds) w kept.world found kept.found) (record { idle = none })
 
   module _ (position : ℕ) (side : Side) (ready : IsFirstLink t kept.world position side) where
-    -- a link that is ready is a seat, and something is pending there
+    -- a link that is ready is a seat, and something can move there
     pub seat_ready : IsSeat name position object
     seat_ready =
         let charter = running_ring name runs.group (the_term.0) kept.world.charter (the_term.1) kept.charter in
         let inside : position < length (the_term.0.ring) = subst (λ (c : Charter E). position < length c.roster) charter ready.inside in
         record { group = runs.group; found = runs.found; says = record { term = the_term.0; found = the_term.1; says = inside } }
 
-    pub pending_at : (w : Running E M) → world_in name worlds ≡ Some w → 0 < pending_of t w
-    pending_at w found = rw (same_found (world_in name worlds) w kept.world found kept.found) (some_below t kept.world (size_of kept.world) position side ready.inside ready.waits)
+    pub ready_at : (w : Running E M) → world_in name worlds ≡ Some w → CanMove t w
+    ready_at w found = rw (same_found (world_in name worlds) w kept.world found kept.found) (record { position = position; side = side; first = ready })
 
     -- a delivery there is one more of the drain's
     pub carries_on : (two_way greatest : E → Bool) (n : ℕ) (start new : Held E M) → IsRing kept.world.charter.roster
@@ -234,7 +230,7 @@ module _ {E S M : Type 0} (t : E → Table S M) (fits : E → List ℕ → ℕ �
           object = before.moves;
           runs = before.runs;
           ended = λ h. cc;
-          stopped = λ h. (few, pending_at t object' now before.kept.held name before.runs position side (rw (← here) at ready));
+          stopped = λ h. (few, ready_at t object' now before.kept.held name before.runs position side (rw (← here) at ready));
         }),
         rw twice at after.1,
       )

@@ -1,4 +1,4 @@
--- A drain of more than all that a world can take leaves nothing: each delivery is one receipt more.
+-- A drain of more than all that a world can take leaves nothing that can move: each delivery is one receipt more.
 use Rattle.std.proofs.Common.{◌≡◌, ◌+◌, ◌<◌, ℕ, zero, suc, Bool, false, List, [], ◌∷◌, ◌++◌, length, Some, get_or, slice_set, refl, sym, ap, ◌∙◌, arith, inl, inr}
 use Rattle.std.proofs.Math.ListN.{length-set}
 use Rattle.std.proofs.lemmas.List.{length_push}
@@ -6,11 +6,11 @@ use Rattle.ring_id.specs.declared.side.Side.{Side}
 use Rattle.ring_election.specs.Laws.{Bounded}
 use Rattle.ring_election.specs.Tables.{Table}
 use Rattle.ring_node.specs.declared.packet.Packet.{Packet}
-use Rattle.ring_world.specs.Worlds.{Running, delivered_of, most_deliveries, pending_of, receipts_in, size_of}
+use Rattle.ring_world.specs.Worlds.{Running, delivered_of, most_deliveries, receipts_in, size_of}
 use Rattle.ring_world.proofs.Work.{work_bounded}
 use Rattle.ring_mux.specs.Journeys.{CarriesTimes, Makes}
 use Rattle.ring_mux.specs.Views.{AreSound, Held, world_in}
-use Rattle.ring_mux.specs.WorldSteps.{LeavesNothing}
+use Rattle.ring_mux.specs.WorldSteps.{LeavesQuiet}
 use Rattle.ring_mux.specs.declared.reply.Reply.TheVariants.{Drained}
 use Rattle.ring_mux.proofs.Carrying.{same_found, written_found}
 
@@ -54,23 +54,20 @@ module _ {E S M : Type 0} (t : E → Table S M) (name : List ℕ) where
         taken = omega (arith, more, here);
       }
 
-  -- a drain that isn't starved and is of more than the bound allows leaves nothing
-  pub leaves_nothing : (fits : E → List ℕ → ℕ → Side → ℕ → M → Type 0) (winner : E → List ℕ → ℕ) (bound : E → ℕ → ℕ) → ((a : E) → Bounded (t a) (fits a) (bound a)) → (greatest : E → Bool) (count done left : ℕ) (starved : Bool) (old new : Held E M)
+  -- a drain that isn't starved and is of more than the bound allows leaves nothing that can move
+  pub leaves_quiet : (fits : E → List ℕ → ℕ → Side → ℕ → M → Type 0) (winner : E → List ℕ → ℕ) (bound : E → ℕ → ℕ) → ((a : E) → Bounded (t a) (fits a) (bound a)) → (greatest : E → Bool) (count done left : ℕ) (starved : Bool) (old new : Held E M)
       → AreSound t fits winner old.worlds
       → AreSound t fits winner new.worlds
       → Makes t greatest name count done starved old new
-      → ((w : Running E M) → world_in name new.worlds ≡ Some w → left ≡ pending_of t w)
-      → LeavesNothing bound name count old.worlds (Drained done left starved)
-  leaves_nothing fits winner bound bounded greatest count done left starved old new sound_old sound_new makes counted = record {
+      → LeavesQuiet t bound name count old.worlds new.worlds (Drained done left starved)
+  leaves_quiet fits winner bound bounded greatest count done left starved old new sound_old sound_new makes = record {
     each = λ world found many done' left' says.
         let taken = has_taken greatest done old new makes.made world found (sound_old.each name world found).count in
-        let left_is : left ≡ left' = cc in
         let calm : starved ≡ false = cc in
         let work = work_bounded t fits winner taken.after (sound_new.each name taken.after taken.found) bound (bounded taken.after.charter.algorithm) in
         let most : most_deliveries bound taken.after ≡ most_deliveries bound world = rw taken.charter refl in
-        sym left_is
-        ∙ elim (makes.ended calm) [
+        elim (makes.ended calm) [
           | inl all ↦ absurd (let more = taken.taken in omega (arith, work, most, more, all, many))
-          | inr quiet ↦ counted taken.after taken.found ∙ quiet taken.after taken.found
+          | inr quiet ↦ quiet
         ];
   }

@@ -1,4 +1,5 @@
 pub mod Carrying
+pub mod Cutting
 pub mod Drains
 pub mod Holding
 pub mod HoldingSteps

@@ -1,5 +1,8 @@
 -- A member's seat in the running term of its group, and the refusals of a delivery there.
 use Rattle.std.proofs.Common.{◌≡◌, ℕ, Bool, true, false, List, length, Option, Some, None, refl, sym, ap, subst, ◌∙◌}
+use Rattle.std.specs.Prelude.{Result, Ok, Err}
+use Rattle.std.specs.Str.{bytes_eq}
+use Rattle.std.proofs.lemmas.Map.Steps.{set_value_same}
 use Rattle.std.proofs.lemmas.List.Quantifiers.{position-Some}
 use Rattle.ring_id.specs.declared.refusal.Refusal.{Refusal}
 use Rattle.ring_id.specs.declared.refusal.Refusal.TheVariants as refused
@@ -8,16 +11,17 @@ use Rattle.ring_id.specs.Refusals.{IsRefusal, unless_some}
 use Rattle.ring_roster.specs.Ring.{is_numbered, position_of}
 use Rattle.ring_election.specs.Tables.{Table}
 use Rattle.ring_node.specs.declared.charter.Charter.{Charter}
-use Rattle.ring_world.specs.Worlds.{Running, link_refusal}
+use Rattle.ring_world.specs.Worlds.{Cuts, Running, link_refusal}
 use Rattle.ring_terms.specs.Charters.{running_charter}
 use Rattle.ring_terms.specs.Commands.{in_group, member_refusal, running_refusal, who_refusal}
 use Rattle.ring_terms.specs.Object.{GroupView, InGroup, Object, OfGroup, OfLast, TermView, find, last_term}
-use Rattle.ring_mux.specs.Steps.{MovesOf, deliver_refusal}
-use Rattle.ring_mux.specs.Views.{Held, IsHeld, IsPendingIn, IsSeat, IsWorldOf, world_in}
-use Rattle.ring_world.specs.Worlds.{pending_of}
+use Rattle.ring_mux.specs.Replies.{done_reply}
+use Rattle.ring_mux.specs.Steps.{MovesOf, Replies, deliver_refusal}
+use Rattle.ring_mux.specs.Views.{Held, IsHeld, IsSeat, IsWorldOf, world_in}
 use Rattle.ring_mux.specs.declared.carried.Carried.TheVariants.{Moved, Idle, Refused}
-use Rattle.ring_mux.specs.Journeys.{Carries}
-use Rattle.ring_mux.specs.WorldSteps.{CarriesAt}
+use Rattle.ring_mux.specs.Journeys.{Carries, with_world}
+use Rattle.ring_mux.specs.WorldSteps.{CarriesAt, CutOfWorlds}
+use Rattle.ring_mux.specs.declared.reply.Reply.TheVariants as reply
 use Rattle.ring_mux.specs.declared.carried.Carried.{Carried}
 use Rattle.ring_mux.proofs.Carrying.{option_map-some, running_ring, same_found}
 
@@ -48,22 +52,22 @@ pub seat_runs : {E : Type 0} {Says : TermView → Type 0} (name : List ℕ) (obj
 seat_runs name object of = record { group = of.group; found = of.found; says = rw of.says.found refl }
 
 -- a refusal of a call that grows nothing is the first that holds
-member_step : (o : Option ℕ) (rest : Option Refusal) (refusal : Refusal) → IsRefusal (unless_some o refused.NotInTerm (λ _. None)) false refusal → IsRefusal (unless_some o refused.NotInTerm (λ _. rest)) true refusal
-member_step None rest refusal h = h
-member_step (Some i) rest refusal h = let bad = h.0 in cc
+member_step : (grows : Bool) (o : Option ℕ) (rest : Option Refusal) (refusal : Refusal) → IsRefusal (unless_some o refused.NotInTerm (λ _. None)) false refusal → IsRefusal (unless_some o refused.NotInTerm (λ _. rest)) grows refusal
+member_step grows None rest refusal h = h
+member_step grows (Some i) rest refusal h = let bad = h.0 in cc
 
-module _ {E : Type 0} (two_way : E → Bool) (node : ℕ) (side : Side) (refusal : Refusal) where
+module _ {E : Type 0} (two_way : E → Bool) (node : ℕ) (side : Side) (refusal : Refusal) (grows : Bool) where
   term_step : (group : GroupView E) (o : Option TermView) → IsRefusal (unless_some o refused.NoTerm (member_refusal node)) false refusal
-      → IsRefusal (unless_some o refused.NoTerm (λ t. unless_some (position_of node t.ring) refused.NotInTerm (λ _. link_refusal (two_way group.algorithm) side))) true refusal
+      → IsRefusal (unless_some o refused.NoTerm (λ t. unless_some (position_of node t.ring) refused.NotInTerm (λ _. link_refusal (two_way group.algorithm) side))) grows refusal
   term_step group None h = h
-  term_step group (Some term) h = member_step (position_of node term.ring) (link_refusal (two_way group.algorithm) side) refusal h
+  term_step group (Some term) h = member_step grows (position_of node term.ring) (link_refusal (two_way group.algorithm) side) refusal h
 
-  group_step : (o : Option (GroupView E)) → IsRefusal (unless_some o refused.NoGroup (who_refusal node)) false refusal → IsRefusal (unless_some o refused.NoGroup (deliver_refusal two_way node side)) true refusal
+  group_step : (o : Option (GroupView E)) → IsRefusal (unless_some o refused.NoGroup (who_refusal node)) false refusal → IsRefusal (unless_some o refused.NoGroup (deliver_refusal two_way node side)) grows refusal
   group_step None h = h
   group_step (Some group) h = term_step group (last_term group) h
 
-  -- what refuses who refuses a delivery
-  pub refused_as_who : (name : List ℕ) (object : Object E) → IsRefusal (in_group name (who_refusal node) object) false refusal → IsRefusal (in_group name (deliver_refusal two_way node side) object) true refusal
+  -- what refuses who refuses a delivery, and a cut
+  pub refused_as_who : (name : List ℕ) (object : Object E) → IsRefusal (in_group name (who_refusal node) object) false refusal → IsRefusal (in_group name (deliver_refusal two_way node side) object) grows refusal
   refused_as_who name object h = group_step (find name object) h
 
 -- memory is never refused to a call that grows nothing
@@ -135,6 +139,22 @@ module _ {E S M : Type 0} (t : E → Table S M) (object : Object E) (worlds : Li
     (carries kept.world kept.found).1,
     λ memory. subst (λ (r : Refusal). CarriesAt t two_way greatest name node side (record { object = object; worlds = worlds }) (Refused r) new) memory (carries_at new (Refused refusal) carries),
   )
+
+  -- a cut there is refused as the link refuses it, and changes nothing in the object
+  pub cut_at : (answer : Result (Unit {0}) Refusal) (after : Running E M) → ((w : Running E M) → world_in name worlds ≡ Some w → Cuts (two_way w.charter.algorithm) w i side answer after)
+      → Replies (in_group name (deliver_refusal two_way node side) object) false object (done_reply answer) object (λ r. (r ≡ reply.Done) × (object ≡ object))
+  cut_at (Ok done) after cuts = let done = cuts kept.world kept.found in (refusal_is ∙ done.0, (refl, refl))
+  cut_at (Err refusal) after cuts = let done = cuts kept.world kept.found in (refl, rw (refusal_is ∙ done.0) refl)
+
+  -- it is a cut of the link into that position
+  pub cut_worlds : (answer : Result (Unit {0}) Refusal) (after : Running E M) → ((w : Running E M) → world_in name worlds ≡ Some w → Cuts (two_way w.charter.algorithm) w i side answer after)
+      → CutOfWorlds name node side (record { object = object; worlds = worlds }) (done_reply answer) (record { object = object; worlds = with_world name after worlds })
+  cut_worlds (Ok done) after cuts =
+      let done = cuts kept.world kept.found in
+      record { world = kept.world; position = i; found = kept.found; placed = placed; worlds = ap (λ (w : Running E M). with_world name w worlds) done.1 }
+  cut_worlds (Err refusal) after cuts =
+      let done = cuts kept.world kept.found in
+      ap (λ (l : List (List ℕ × Running E M)). record { object = object; worlds = l }) (ap (λ (w : Running E M). with_world name w worlds) done.1 ∙ set_value_same (bytes_eq name) worlds kept.world kept.found)
 
 -- a group with a running charter runs
 pub runs_of : {E : Type 0} (name : List ℕ) (object : Object E) (charter : Charter E) → OfGroup name (λ g. running_charter name g ≡ Some charter) object → OfGroup name (λ g. running_refusal g ≡ None) object

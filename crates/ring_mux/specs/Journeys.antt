@@ -8,7 +8,8 @@ use Rattle.ring_roster.specs.Ring.{position_of}
 use Rattle.ring_election.specs.Tables.{Table}
 use Rattle.ring_node.specs.declared.charter.Charter.{Charter}
 use Rattle.ring_node.specs.Reports.{Told}
-use Rattle.ring_world.specs.Worlds.{HasMoved, IsFirstLink, Running, in_flight, link_refusal, pending_of}
+use Rattle.ring_world.specs.Quiet.{IsQuiet}
+use Rattle.ring_world.specs.Worlds.{HasMoved, IsFirstLink, Running, in_flight, link_refusal, no_cuts}
 use Rattle.ring_terms.specs.declared.standing.Noting.TheVariants.{Noted}
 use Rattle.ring_terms.specs.Commands.{running_refusal}
 use Rattle.ring_terms.specs.Notes.{Notes}
@@ -22,9 +23,9 @@ use Rattle.ring_mux.specs.Views.{Held, IsSeat, IsSoundHeld, world_in}
 abbrev pub with_world : {E M : Type 0} → List ℕ → Running E M → List (List ℕ × Running E M) → List (List ℕ × Running E M)
 with_world name world worlds = set_value (bytes_eq name) worlds world
 
--- the world of a charter before any delivery
+-- the world of a charter before any delivery and any cut
 abbrev pub begun_of : {E M : Type 0} → Charter E → Running E M
-begun_of charter = record { charter = charter; journals = replicate (length charter.roster) [] }
+begun_of charter = record { charter = charter; journals = replicate (length charter.roster) []; cut = no_cuts (length charter.roster) }
 
 -- what a delivery files in the object: nothing where it tells nothing, else its report, by which the
 -- member that it names becomes informed
@@ -60,6 +61,12 @@ CarriesAmong {E} {S} {M} t fits winner two_way greatest i side object world done
     × IsSoundHeld t fits winner object' (with_world name world' worlds)
     × (names object' ≡ names object)
 
+-- something can move in a world: there is a first link with something in flight
+pub record CanMove {E S M : Type 0} (t : E → Table S M) (world : Running E M) : Type 0 where
+  pub position : ℕ
+  pub side : Side
+  pub first : IsFirstLink t world position side
+
 -- one delivery of a drain, on the link that is ready first in a group's world
 pub record CarriesOnce {E S M : Type 0} (t : E → Table S M) (greatest : E → Bool) (name : List ℕ) (old new : Held E M) : Type 0 where
   pub position : ℕ
@@ -73,14 +80,16 @@ abbrev pub CarriesTimes : {E S M : Type 0} → (E → Table S M) → (E → Bool
 CarriesTimes t greatest name zero old new = new ≡ old
 CarriesTimes {E} {S} {M} t greatest name (suc n) old new = (mid : Held E M) × CarriesTimes t greatest name n old mid × CarriesOnce t greatest name mid new
 
--- what the deliveries of a drain did: how many were made, and whether one was refused memory
+-- What the deliveries of a drain did: how many were made, and whether one was refused memory. It ends with
+-- all of them made or where nothing can move; it starves where deliveries were still to be made and
+-- something could move.
 pub record Makes {E S M : Type 0} (t : E → Table S M) (greatest : E → Bool) (name : List ℕ) (count done : ℕ) (starved : Bool) (old new : Held E M) : Type 0 where
   pub within : done ≤ count
   pub made : CarriesTimes t greatest name done old new
   pub object : InGroup name (MovesTimes greatest done) old.object new.object
   pub runs : OfGroup name (λ group. running_refusal group ≡ None) new.object
-  pub ended : starved ≡ false → (done ≡ count) ⊎ ((w : Running E M) → world_in name new.worlds ≡ Some w → pending_of t w ≡ 0)
-  pub stopped : starved ≡ true → (done < count) × ((w : Running E M) → world_in name new.worlds ≡ Some w → 0 < pending_of t w)
+  pub ended : starved ≡ false → (done ≡ count) ⊎ ((w : Running E M) → world_in name new.worlds ≡ Some w → IsQuiet t w)
+  pub stopped : starved ≡ true → (done < count) × ((w : Running E M) → world_in name new.worlds ≡ Some w → CanMove t w)
 
 -- the same, wherever that world stands among the worlds of a mux
 abbrev pub MakesAmong : {E S M : Type 0} → (E → Table S M) → (E → List ℕ → ℕ → Side → ℕ → M → Type 0) → (E → List ℕ → ℕ) → (E → Bool) → ℕ → Object E → Running E M → ℕ → Bool → Object E → Running E M → Type 0

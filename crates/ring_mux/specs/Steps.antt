@@ -17,7 +17,7 @@ use Rattle.ring_terms.specs.Standings.{Tells}
 use Rattle.ring_mux.specs.declared.event.Command.{Command}
 use Rattle.ring_mux.specs.declared.event.Command.TheVariants.{Create, Join, Leave, Start, Who, Members, Terms, Groups}
 use Rattle.ring_mux.specs.declared.event.Event.{Event}
-use Rattle.ring_mux.specs.declared.event.Event.TheVariants.{Client, Deliver, Pending, Drain}
+use Rattle.ring_mux.specs.declared.event.Event.TheVariants.{Client, Deliver, Cut, Pending, Drain}
 use Rattle.ring_mux.specs.declared.reply.Reply.{Reply}
 use Rattle.ring_mux.specs.declared.reply.Reply.TheVariants as reply
 
@@ -38,7 +38,7 @@ pub record TellsReply {E : Type 0} (node : ℕ) (answer : Reply) (group : GroupV
   pub reply_is : answer ≡ standing_reply said
   pub tells : Tells node said group
 
--- deliver: no term was started; its number is not in the ring of the last one; nothing arrives from
+-- deliver and cut: no term was started; its number is not in the ring of the last one; nothing arrives from
 -- that side
 abbrev pub deliver_refusal : {E : Type 0} → (E → Bool) → ℕ → Side → GroupView E → Option Refusal
 deliver_refusal two_way node side group =
@@ -52,7 +52,7 @@ MovesOf greatest node old new = Moves (greatest old.algorithm) node old new
 pub record IsKnown (term : TermView) : Type 0 where
   pub each : (i : ℕ) → i < length term.ring → slice_get term.informed i ≡ Some true
 
--- where so many packets are in flight in the running term of this group: if there are none, the term
+-- where so many packets are in flight or stuck in the running term of this group: if there are none, the term
 -- is known at all its members
 abbrev pub KnownIfNone : {E : Type 0} → List ℕ → ℕ → Object E → Type 0
 KnownIfNone name number object = number ≡ 0 → OfGroup name (OfLast IsKnown) object
@@ -67,8 +67,8 @@ abbrev pub MovesTimes : {E : Type 0} → (E → Bool) → ℕ → GroupView E �
 MovesTimes greatest zero old new = new ≡ old
 MovesTimes {E} greatest (suc n) old new = (mid : GroupView E) × MovesTimes greatest n old mid × MovesOnce greatest mid new
 
--- A drain makes at most so many deliveries. It ends with all of them made or with nothing left, or it
--- starved: then deliveries were still to be made and packets remain. Nothing left means known.
+-- A drain makes at most so many deliveries. Where it starved, deliveries were still to be made and packets
+-- remain. Nothing left means known.
 pub record Drains {E : Type 0} (greatest : E → Bool) (name : List ℕ) (count : ℕ) (answer : Reply) (old new : Object E) : Type 0 where
   pub done : ℕ
   pub left : ℕ
@@ -76,7 +76,6 @@ pub record Drains {E : Type 0} (greatest : E → Bool) (name : List ℕ) (count 
   pub reply_is : answer ≡ reply.Drained done left starved
   pub within : done ≤ count
   pub moves : InGroup name (MovesTimes greatest done) old new
-  pub ended : starved ≡ false → (done ≡ count) ⊎ (left ≡ 0)
   pub stopped : starved ≡ true → (done < count) × (0 < left)
   pub known : KnownIfNone name left new
 
@@ -98,6 +97,7 @@ module _ {E : Type 0} (two_way greatest : E → Bool) where
   Step old (Deliver name node side) answer new =
       Replies (in_group name (deliver_refusal two_way node side) old) true old answer new
       (λ r. ((r ≡ reply.Idle) × (new ≡ old)) ⊎ ((r ≡ reply.Moved) × InGroup name (MovesOf greatest node) old new))
+  Step old (Cut name node side) answer new = Replies (in_group name (deliver_refusal two_way node side) old) false old answer new (λ r. (r ≡ reply.Done) × (new ≡ old))
   Step old (Pending name) answer new = Replies (in_group name running_refusal old) false old answer new (λ r. (new ≡ old) × (number : ℕ) × (r ≡ reply.Pending number) × KnownIfNone name number old)
   Step old (Drain name count) answer new = Replies (in_group name running_refusal old) false old answer new (λ r. Drains greatest name count r old new)
 

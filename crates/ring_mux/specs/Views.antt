@@ -64,7 +64,7 @@ pub record HasGrown {X : Type 0} (place : ℕ) (old new : List (Option X)) : Typ
   pub inside : place < length new
   pub within : (most : ℕ) → length old ≤ most → place < most → length new ≤ most
 
--- so many packets are in flight in the world under a name
+-- so many packets are in flight or stuck in the world under a name
 pub record IsPendingIn {E S M : Type 0} (t : E → Table S M) (name : List ℕ) (number : ℕ) (held : Held E M) : Type 0 where
   pub world : Running E M
   pub found : world_in name held.worlds ≡ Some world

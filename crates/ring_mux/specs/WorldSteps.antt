@@ -1,5 +1,6 @@
--- The runs of a mux below the election object: which journals an event changes, and what the numbers
--- in its reply count. Every event but a start, a delivery and a drain leaves all worlds as they are.
+-- The runs of a mux below the election object: which journals an event changes, which link it cuts, and
+-- what the numbers in its reply count. Every event but a start, a delivery, a cut and a drain leaves all
+-- worlds as they are.
 use Rattle.std.specs.Prelude.{◌≡◌, ◌<◌, ℕ, Bool, false, cond, List, [], ◌∷◌, Some}
 use Rattle.std.specs.Str.{bytes_eq}
 use Rattle.ring_id.specs.declared.refusal.Refusal.TheVariants.{NoMemory}
@@ -7,7 +8,8 @@ use Rattle.ring_id.specs.declared.side.Side.{Side}
 use Rattle.ring_roster.specs.Ring.{position_of}
 use Rattle.ring_election.specs.Tables.{Table}
 use Rattle.ring_node.specs.declared.charter.Charter.{Charter}
-use Rattle.ring_world.specs.Worlds.{Running, most_deliveries}
+use Rattle.ring_world.specs.Quiet.{IsQuiet}
+use Rattle.ring_world.specs.Worlds.{Running, after_cut, most_deliveries}
 use Rattle.ring_terms.specs.Charters.{running_charter}
 use Rattle.ring_terms.specs.Object.{OfGroup}
 use Rattle.ring_mux.specs.declared.carried.Carried.{Carried}
@@ -18,11 +20,11 @@ use Rattle.ring_mux.specs.declared.event.Event.{Event}
 use Rattle.ring_mux.specs.declared.event.Event.TheVariants as event
 use Rattle.ring_mux.specs.declared.reply.Reply.{Reply}
 use Rattle.ring_mux.specs.declared.reply.Reply.TheVariants as reply
-use Rattle.ring_mux.specs.Journeys.{Carries, Makes, begun_of}
+use Rattle.ring_mux.specs.Journeys.{Carries, Makes, begun_of, with_world}
 use Rattle.ring_mux.specs.Steps.{Step}
 use Rattle.ring_mux.specs.Views.{Held, IsPendingIn, world_in}
 
--- the world of the term that a group has started, before any delivery; every other group's stays
+-- the world of the term that a group has started, before any delivery and any cut; every other group's stays
 pub record Begins {E M : Type 0} (name : List ℕ) (old new : Held E M) : Type 0 where
   pub charter : Charter E
   pub started : OfGroup name (λ group. running_charter name group ≡ Some charter) new.object
@@ -37,6 +39,20 @@ StartOfWorlds name old other new = new.worlds ≡ old.worlds
 abbrev pub CommandOfWorlds : {E M : Type 0} → Held E M → Command E → Reply → Held E M → Type 0
 CommandOfWorlds old (Start name) answer new = StartOfWorlds name old answer new
 CommandOfWorlds old other answer new = new.worlds ≡ old.worlds
+
+-- a cut at a member is one of the link into its position, in the world of its group; no other world changes
+pub record CutsAt {E M : Type 0} (name : List ℕ) (node : ℕ) (side : Side) (old new : Held E M) : Type 0 where
+  pub world : Running E M
+  pub position : ℕ
+  pub found : world_in name old.worlds ≡ Some world
+  pub placed : position_of node world.charter.roster ≡ Some position
+  pub worlds : new.worlds ≡ with_world name (after_cut world position side) old.worlds
+
+-- cut: the link is cut, or it is refused
+abbrev pub CutOfWorlds : {E M : Type 0} → List ℕ → ℕ → Side → Held E M → Reply → Held E M → Type 0
+CutOfWorlds name node side old reply.Done new = CutsAt name node side old new
+CutOfWorlds name node side old (reply.Refused refusal) new = new ≡ old
+CutOfWorlds name node side old other new = ⊥
 
 module _ {E S M : Type 0} (t : E → Table S M) (two_way greatest : E → Bool) where
   -- a delivery at a member is one on the link into its position, in the world of its group
@@ -54,7 +70,7 @@ module _ {E S M : Type 0} (t : E → Table S M) (two_way greatest : E → Bool) 
   DeliverOfWorlds name node side old (reply.Refused refusal) new = (new ≡ old) × (refusal ≡ NoMemory → CarriesAt name node side old (carried.Refused NoMemory) new)
   DeliverOfWorlds name node side old other new = ⊥
 
-  -- pending: the number is that of the packets in flight
+  -- pending: the number is that of the packets in flight or stuck
   abbrev pub PendingOfWorlds : List ℕ → Held E M → Reply → Held E M → Type 0
   PendingOfWorlds name old (reply.Pending number) new = (new ≡ old) × IsPendingIn t name number old
   PendingOfWorlds name old (reply.Refused refusal) new = new ≡ old
@@ -70,6 +86,7 @@ module _ {E S M : Type 0} (t : E → Table S M) (two_way greatest : E → Bool) 
   abbrev pub StepOfWorlds : Held E M → Event E → Reply → Held E M → Type 0
   StepOfWorlds old (event.Client command) answer new = CommandOfWorlds old command answer new
   StepOfWorlds old (event.Deliver name node side) answer new = DeliverOfWorlds name node side old answer new
+  StepOfWorlds old (event.Cut name node side) answer new = CutOfWorlds name node side old answer new
   StepOfWorlds old (event.Pending name) answer new = PendingOfWorlds name old answer new
   StepOfWorlds old (event.Drain name count) answer new = DrainOfWorlds name count old answer new
 
@@ -81,6 +98,7 @@ module _ {E S M : Type 0} (t : E → Table S M) (two_way greatest : E → Bool) 
   RunOfWorlds old (event ∷ events) (answer ∷ answers) new =
       (mid : Held E M) × (Step two_way greatest old.object event answer mid.object × StepOfWorlds old event answer mid) × RunOfWorlds mid events answers new
 
--- a drain of more than all that the world of a group can take leaves nothing, unless it starved
-pub record LeavesNothing {E M : Type 0} (bound : E → ℕ → ℕ) (name : List ℕ) (count : ℕ) (worlds : List (List ℕ × Running E M)) (answer : Reply) : Type 0 where
-  pub each : (world : Running E M) → world_in name worlds ≡ Some world → most_deliveries bound world < count → (done left : ℕ) → answer ≡ reply.Drained done left false → left ≡ 0
+-- a drain of more than all that the world of a group can take leaves nothing that can move, unless it starved
+pub record LeavesQuiet {E S M : Type 0} (t : E → Table S M) (bound : E → ℕ → ℕ) (name : List ℕ) (count : ℕ) (old new : List (List ℕ × Running E M)) (answer : Reply) : Type 0 where
+  pub each : (world : Running E M) → world_in name old ≡ Some world → most_deliveries bound world < count → (done left : ℕ) → answer ≡ reply.Drained done left false
+      → (after : Running E M) → world_in name new ≡ Some after → IsQuiet t after

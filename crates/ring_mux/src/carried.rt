@@ -5,7 +5,7 @@ use ring_id::Refusal;
 pub enum Carried {
     /// The front packet of the link was taken, and what it told was noted.
     Moved,
-    /// Nothing is in flight on the link.
+    /// Nothing is in flight on the link, or it is cut.
     Idle,
     /// Refused, and nothing has changed.
     Refused(Refusal),

@@ -28,7 +28,10 @@ pub enum Event<E> {
     Client(Command<E>),
     /// One delivery, at the member of a group's running term with this number, from this side.
     Deliver(GroupName, NodeNo, Side),
-    /// How many packets are in flight in a group's running term.
+    /// The link into the member of a group's running term with this number, from this side, is cut: nothing
+    /// moves there any more.
+    Cut(GroupName, NodeNo, Side),
+    /// How many packets are in flight or stuck in a group's running term.
     Pending(GroupName),
     /// At most so many deliveries in a group's running term, each at the first ready link.
     Drain(GroupName, u32),

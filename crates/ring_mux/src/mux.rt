@@ -6,7 +6,7 @@ ghost use Rattle.ring_mux.specs.Quiet.{QuietIsKnown};
 ghost use Rattle.ring_mux.specs.Replies.{done_reply, told_reply};
 ghost use Rattle.ring_mux.specs.Steps.{KnownIfNone, Run, Step, StepOf, standing_reply};
 ghost use Rattle.ring_mux.specs.Views.{HasGrown, IsAt, IsHeld, IsPendingIn};
-ghost use Rattle.ring_mux.specs.WorldSteps.{CommandOfWorlds, LeavesNothing, RunOfWorlds, StartOfWorlds, StepOfWorlds};
+ghost use Rattle.ring_mux.specs.WorldSteps.{CommandOfWorlds, LeavesQuiet, RunOfWorlds, StartOfWorlds, StepOfWorlds};
 
 use crate::carried::Carried;
 use crate::deliveries::{carry, carry_many};
@@ -60,7 +60,7 @@ impl<E: RingElection> Mux<E> {
 
     /// One event: its reply is a step of the election object, and what it does below is a step of the
     /// worlds. Afterwards a member of a running term is informed exactly where its own node knows the
-    /// leader, and a term with nothing in flight is known at all its members.
+    /// leader, and a term with nothing in flight and no cut link is known at all its members.
     pub fn step(&mut self, alloc: Global, event: Event<E>) -> Reply
         ensures object { Step E.is_two_way E.is_greatest self.old.object event result self.new.object }
         ensures worlds { StepOfWorlds E.table E.is_two_way E.is_greatest self.old event result self.new }
@@ -70,6 +70,7 @@ impl<E: RingElection> Mux<E> {
         let reply = match event {
             Event::Client(command) => self.command(alloc, command),
             Event::Deliver(group, node, side) => self.deliver(group, node, side),
+            Event::Cut(group, node, side) => self.cut(group, node, side),
             Event::Pending(group) => self.count(group),
             Event::Drain(group, count) => self.drain(group, count),
         };
@@ -80,8 +81,8 @@ impl<E: RingElection> Mux<E> {
 
     /// Events one after another, one reply each: a run of the election object, and of the worlds.
     /// Afterwards a member of a running term is informed exactly where its own node knows the leader,
-    /// and a term with nothing in flight is known at all its members. Room for all replies is found
-    /// first: refused memory means that no event was taken.
+    /// and a term with nothing in flight and no cut link is known at all its members. Room for all replies
+    /// is found first: refused memory means that no event was taken.
     pub fn run(&mut self, alloc: Global, events: &[Event<E>]) -> Result<Vec<Reply>, NoMemory>
         ensures run { IfOk result (λ replies. Run E.is_two_way E.is_greatest self.old.object events.now replies.items self.new.object) }
         ensures worlds { IfOk result (λ replies. RunOfWorlds E.table E.is_two_way E.is_greatest self.old events.now replies.items self.new) }
@@ -154,8 +155,8 @@ impl<E: RingElection> Mux<E> {
         }
     }
 
-    /// How many packets are in flight in a group's running term; where there are none the term is known
-    /// at all its members. Takes no memory. Refused, the first that holds: `NoGroup`, `NoTerm`.
+    /// How many packets are in flight or stuck in a group's running term; where there are none the term is
+    /// known at all its members. Takes no memory. Refused, the first that holds: `NoGroup`, `NoTerm`.
     pub fn pending(&self, group: GroupName) -> Result<u128, Refusal>
         ensures number { Shows (in_group group running_refusal self.now.object) false result (λ number. IsPendingIn E.table group number self.now) }
         ensures known { IfOk result (λ number. KnownIfNone group number self.now.object) }
@@ -168,14 +169,15 @@ impl<E: RingElection> Mux<E> {
     }
 
     /// Makes deliveries at the first ready link of a group's running term, until so many are made,
-    /// nothing is ready, or one is refused memory; those that were made stand. Refused, the first that
-    /// holds: `NoGroup`, `NoTerm`. A drain of more than the algorithm's bound and the length of the ring
-    /// together leaves nothing, unless it was refused memory. What a delivery tells is filed before the
+    /// nothing is ready, or one is refused memory; those that were made stand. A link that is cut is never
+    /// ready, and what is stuck there is left. Refused, the first that holds: `NoGroup`, `NoTerm`. A drain
+    /// of more than the algorithm's bound and the length of the ring together leaves nothing that can move,
+    /// unless it was refused memory. What a delivery tells is filed before the
     /// next one: a member is informed exactly where its own node knows the leader.
     pub fn drain(&mut self, group: GroupName, count: u32) -> Reply
         ensures object { Step E.is_two_way E.is_greatest self.old.object (Event.Drain group count) result self.new.object }
         ensures worlds { StepOfWorlds E.table E.is_two_way E.is_greatest self.old (Event.Drain group count) result self.new }
-        ensures bounded { LeavesNothing E.bound group count self.old.worlds result }
+        ensures bounded { LeavesQuiet E.table E.bound group count self.old.worlds self.new.worlds result }
         ensures informed { IsHeld E.table self.new.object self.new.worlds }
     {
         let place = match self.place(group) {
@@ -212,7 +214,22 @@ impl<E: RingElection> Mux<E> {
         }
     }
 
-    /// How many packets are in flight, as a reply.
+    /// Cuts the link into a member's position from a side, in a group's running term.
+    fn cut(&mut self, group: GroupName, node: NodeId, side: Side) -> Reply
+        ensures object { Step E.is_two_way E.is_greatest self.old.object (Event.Cut group node side) result self.new.object }
+        ensures worlds { StepOfWorlds E.table E.is_two_way E.is_greatest self.old (Event.Cut group node side) result self.new }
+    {
+        let (place, position) = match self.seat(group, node) {
+            Ok(seat) => seat,
+            Err(refusal) => return Reply::Refused(refusal),
+        };
+        let Some(world) = &mut self.worlds[place] else {
+            return Reply::Refused(Refusal::NoTerm);
+        };
+        done(world.cut(position, side))
+    }
+
+    /// How many packets are in flight or stuck, as a reply.
     fn count(&self, group: GroupName) -> Reply
         ensures object { Step E.is_two_way E.is_greatest self.now.object (Event.Pending group) result self.now.object }
         ensures worlds { StepOfWorlds E.table E.is_two_way E.is_greatest self.now (Event.Pending group) result self.now }

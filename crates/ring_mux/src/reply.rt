@@ -20,9 +20,9 @@ pub enum Reply {
     Groups(GroupList),
     /// A packet was delivered.
     Moved,
-    /// Nothing was in flight on that link.
+    /// Nothing was in flight on that link, or it is cut.
     Idle,
-    /// So many packets are in flight.
+    /// So many packets are in flight or stuck.
     Pending(u128),
     /// So many deliveries were made and so many packets remain; whether a delivery was refused memory.
     Drained {

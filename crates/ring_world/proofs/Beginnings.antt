@@ -1,5 +1,5 @@
 -- A world that begins: every journal is empty, and nothing was taken.
-use Rattle.std.proofs.Common.{◌≡◌, ◌+◌, ◌<◌, ℕ, zero, suc, List, [], ◌∷◌, ◌++◌, length, replicate, get_or, refl, sym, ap, ◌∙◌, arith}
+use Rattle.std.proofs.Common.{◌≡◌, ◌+◌, ◌*◌, ◌<◌, ℕ, zero, suc, Bool, List, [], ◌∷◌, ◌++◌, length, replicate, get_or, refl, sym, ap, ◌∙◌, arith}
 use Rattle.std.proofs.lemmas.Grind.{replicate_next}
 use Rattle.std.proofs.lemmas.List.{length-replicate}
 use Rattle.ring_id.specs.declared.side.Side.{Side}
@@ -34,14 +34,15 @@ pub started_journals : {E M : Type 0} (charter : Charter E) (n : ℕ) (nodes : L
 started_journals charter n nodes are = ap journals_of are ∙ journals_of-nodes_from charter 0 (replicate n [])
 
 module _ {E S M : Type 0} (t : E → Table S M) (fits : E → List ℕ → ℕ → Side → ℕ → M → Type 0) (winner : E → List ℕ → ℕ) (charter : Charter E) (is_ring : IsRing charter.roster)
-    (faithful : (i : ℕ) → i < length charter.roster → IsFaithful t fits winner (record { charter = charter; position = i; journal = [] })) where
+    (faithful : (i : ℕ) → i < length charter.roster → IsFaithful t fits winner (record { charter = charter; position = i; journal = [] })) (cut : List Bool) (each_link : length cut ≡ 2 * length charter.roster) where
   -- a world in which nothing was received is sound
-  started_sound : IsSoundWorld t fits winner (record { charter = charter; journals = replicate (length charter.roster) [] })
+  started_sound : IsSoundWorld t fits winner (record { charter = charter; journals = replicate (length charter.roster) []; cut = cut })
   started_sound =
-      let world : Running E M = record { charter = charter; journals = replicate (length charter.roster) [] } in
+      let world : Running E M = record { charter = charter; journals = replicate (length charter.roster) []; cut = cut } in
       record {
         is_ring = is_ring;
         count = length-replicate (length charter.roster) [];
+        each_link = each_link;
         links = record {
           taken_first = λ i side below.
               let none : taken_at t world i side ≡ [] = ap (taken_from side) (get_or-empties (length charter.roster) i) in
@@ -51,7 +52,7 @@ module _ {E S M : Type 0} (t : E → Table S M) (fits : E → List ℕ → ℕ �
       }
 
   -- nodes that have started are those of such a world
-  pub started_world : (nodes : List (Seated E M)) → nodes ≡ nodes_from charter 0 (replicate (length charter.roster) []) → IsWorld t fits winner charter nodes
+  pub started_world : (nodes : List (Seated E M)) → nodes ≡ nodes_from charter 0 (replicate (length charter.roster) []) → IsWorld t fits winner charter nodes cut
   started_world nodes are = record {
     nodes_are = are ∙ ap (λ (l : List (List (Side × Packet M))). nodes_from charter 0 l) (sym (started_journals charter (length charter.roster) nodes are));
     sound = rw (started_journals charter (length charter.roster) nodes are) started_sound;

@@ -13,7 +13,7 @@ use Rattle.ring_node.specs.declared.packet.Packet.{Packet}
 use Rattle.ring_node.specs.Journals.{news}
 use Rattle.ring_node.specs.Nodes.{IsFaithful, Seated, known_of, member_of, news_of, receiving, report_of, sent_of, taken_of, told_of}
 use Rattle.ring_node.proofs.Receipts.{packets_after-snoc, taken_from-snoc}
-use Rattle.ring_world.specs.Worlds.{IsSoundLinks, IsSoundWorld, IsWorld, Running, after_receipt, in_flight, journals_of, node_at, nodes_from, sent_into, size_of, taken_at}
+use Rattle.ring_world.specs.Worlds.{IsSoundLinks, IsSoundWorld, IsWorld, Running, after_receipt, on_link, journals_of, node_at, nodes_from, sent_into, size_of, taken_at}
 use Rattle.ring_world.proofs.Links.{first_part, front_first, journals_of-set, length-journals_of, node_of_world, nodes_from-set, same_or_not}
 
 -- a link whose sender sent more
@@ -81,34 +81,34 @@ module _ {E S M : Type 0} (t : E → Table S M) (world : Running E M) (i : ℕ) 
   taken_from_other_side from differ = taken_by from ∙ ap (λ (b : Bool). taken_at t world i from ++ cond b (p ∷ []) []) differ ∙ append-nil _
 
   -- the link of the packet, another link into the same position, and a link into another one
-  link_here : IsSoundLinks t world → slice_get (in_flight t world i side) 0 ≡ Some p → i < size_of world
-      → taken_at t (after_receipt world i side p) i side ++ in_flight t (after_receipt world i side p) i side ≡ sent_into t (after_receipt world i side p) i side
+  link_here : IsSoundLinks t world → slice_get (on_link t world i side) 0 ≡ Some p → i < size_of world
+      → taken_at t (after_receipt world i side p) i side ++ on_link t (after_receipt world i side p) i side ≡ sent_into t (after_receipt world i side p) i side
   link_here sound front inside =
       let grown = sent_grows (neighbour (size_of world) i side) (other side) in
-      front_taken (taken_at t world i side) (in_flight t world i side) (sent_into t world i side) _ (grown.0) _ p (sound.taken_first i side inside) (front_first _ p front) (grown.1) taken_here
+      front_taken (taken_at t world i side) (on_link t world i side) (sent_into t world i side) _ (grown.0) _ p (sound.taken_first i side inside) (front_first _ p front) (grown.1) taken_here
 
   link_beside : IsSoundLinks t world → (from : Side) → same_side from side ≡ false → i < size_of world
-      → taken_at t (after_receipt world i side p) i from ++ in_flight t (after_receipt world i side p) i from ≡ sent_into t (after_receipt world i side p) i from
+      → taken_at t (after_receipt world i side p) i from ++ on_link t (after_receipt world i side p) i from ≡ sent_into t (after_receipt world i side p) i from
   link_beside sound from differ inside =
       let grown = sent_grows (neighbour (size_of world) i from) (other from) in
-      more_sent (taken_at t world i from) (in_flight t world i from) (sent_into t world i from) _ (grown.0) _ (sound.taken_first i from inside) (grown.1) (taken_from_other_side from differ)
+      more_sent (taken_at t world i from) (on_link t world i from) (sent_into t world i from) _ (grown.0) _ (sound.taken_first i from inside) (grown.1) (taken_from_other_side from differ)
 
   link_away : IsSoundLinks t world → (j : ℕ) (from : Side) → j ≢ i → j < size_of world
-      → taken_at t (after_receipt world i side p) j from ++ in_flight t (after_receipt world i side p) j from ≡ sent_into t (after_receipt world i side p) j from
+      → taken_at t (after_receipt world i side p) j from ++ on_link t (after_receipt world i side p) j from ≡ sent_into t (after_receipt world i side p) j from
   link_away sound j from differ inside =
       let grown = sent_grows (neighbour (size_of world) j from) (other from) in
-      more_sent (taken_at t world j from) (in_flight t world j from) (sent_into t world j from) _ (grown.0) _ (sound.taken_first j from inside) (grown.1)
+      more_sent (taken_at t world j from) (on_link t world j from) (sent_into t world j from) _ (grown.0) _ (sound.taken_first j from inside) (grown.1)
       (ap (λ (node : Seated E M). taken_of node from) (others_after j differ))
 
   -- each link keeps a first part of what was sent
-  pub links_after : IsSoundLinks t world → slice_get (in_flight t world i side) 0 ≡ Some p → i < size_of world → IsSoundLinks t (after_receipt world i side p)
+  pub links_after : IsSoundLinks t world → slice_get (on_link t world i side) 0 ≡ Some p → i < size_of world → IsSoundLinks t (after_receipt world i side p)
   links_after sound front inside = record {
     taken_first = λ j from below.
         elim (same_or_not j i) [
           | inr differ ↦ link_away sound j from differ below
           | inl here ↦
               rw here
-              (elim (same_side from side) as (λ b. same_side from side ≡ b → taken_at t (after_receipt world i side p) i from ++ in_flight t (after_receipt world i side p) i from ≡ sent_into t (after_receipt world i side p) i from) [
+              (elim (same_side from side) as (λ b. same_side from side ≡ b → taken_at t (after_receipt world i side p) i from ++ on_link t (after_receipt world i side p) i from ≡ sent_into t (after_receipt world i side p) i from) [
                 | true ↦ λ same. rw (same_side-same from side same) (link_here sound front inside)
                 | false ↦ λ differ. link_beside sound from differ inside
               ] refl)
@@ -117,7 +117,7 @@ module _ {E S M : Type 0} (t : E → Table S M) (world : Running E M) (i : ℕ) 
 
   -- The world after a delivery is sound, if the receiver is faithful.
   pub sound_after : (fits : E → List ℕ → ℕ → Side → ℕ → M → Type 0) (winner : E → List ℕ → ℕ) → IsSoundWorld t fits winner world
-      → slice_get (in_flight t world i side) 0 ≡ Some p
+      → slice_get (on_link t world i side) 0 ≡ Some p
       → IsFaithful t fits winner (receiving (node_at world i) side p)
       → IsSoundWorld t fits winner (after_receipt world i side p)
   sound_after fits winner sound front faithful =
@@ -125,6 +125,7 @@ module _ {E S M : Type 0} (t : E → Table S M) (world : Running E M) (i : ℕ) 
       record {
         is_ring = sound.is_ring;
         count = length-set world.journals i ((receiving (node_at world i) side p).journal) ∙ sound.count;
+        each_link = sound.each_link;
         links = links_after sound.links front inside;
         faithful = λ j below.
             elim (same_or_not j i) [
@@ -134,15 +135,15 @@ module _ {E S M : Type 0} (t : E → Table S M) (world : Running E M) (i : ℕ) 
       }
 
 -- the nodes of a world, one of which has received the front packet of a link, are those of the world after it
-pub world_after : {E S M : Type 0} (t : E → Table S M) (fits : E → List ℕ → ℕ → Side → ℕ → M → Type 0) (winner : E → List ℕ → ℕ) (charter : Charter E) (nodes : List (Seated E M))
-    → (world : IsWorld t fits winner charter nodes)
+pub world_after : {E S M : Type 0} (t : E → Table S M) (fits : E → List ℕ → ℕ → Side → ℕ → M → Type 0) (winner : E → List ℕ → ℕ) (charter : Charter E) (nodes : List (Seated E M)) (cut : List Bool)
+    → (world : IsWorld t fits winner charter nodes cut)
     → (i : ℕ) → i < length nodes → (side : Side) (p : Packet M)
-    → slice_get (in_flight t (record { charter = charter; journals = journals_of nodes }) i side) 0 ≡ Some p
-    → (node : Seated E M) → node ≡ receiving (node_at (record { charter = charter; journals = journals_of nodes }) i) side p
+    → slice_get (on_link t (record { charter = charter; journals = journals_of nodes; cut = cut }) i side) 0 ≡ Some p
+    → (node : Seated E M) → node ≡ receiving (node_at (record { charter = charter; journals = journals_of nodes; cut = cut }) i) side p
     → IsFaithful t fits winner node
-    → IsWorld t fits winner charter (slice_set nodes i node)
-world_after {E} {S} {M} t fits winner charter nodes world i within side p front node is faithful =
-    let old : Running E M = record { charter = charter; journals = journals_of nodes } in
+    → IsWorld t fits winner charter (slice_set nodes i node) cut
+world_after {E} {S} {M} t fits winner charter nodes cut world i within side p front node is faithful =
+    let old : Running E M = record { charter = charter; journals = journals_of nodes; cut = cut } in
     let gained : Seated E M = receiving (node_at old i) side p in
     let inside : i < length (journals_of nodes) = rw length-journals_of within in
     let at : i ≡ 0 + i = omega arith in
@@ -170,42 +171,42 @@ pub report_of_receipt : {E S M : Type 0} (t : E → Table S M) (node : Seated E 
 report_of_receipt t node side p v h =
     ap (option_map (λ (leader : ℕ). record { charter = node.charter; member = member_of node; leader = leader })) (news-known (known_of t node) (known_of t (receiving node side p)) v h ∙ sym h)
 
-module _ {E S M : Type 0} (t : E → Table S M) (fits : E → List ℕ → ℕ → Side → ℕ → M → Type 0) (winner : E → List ℕ → ℕ) (charter : Charter E) (nodes : List (Seated E M))
-    (world : IsWorld t fits winner charter nodes) (i : ℕ) (inside : i < length charter.roster) where
+module _ {E S M : Type 0} (t : E → Table S M) (fits : E → List ℕ → ℕ → Side → ℕ → M → Type 0) (winner : E → List ℕ → ℕ) (charter : Charter E) (nodes : List (Seated E M)) (cut : List Bool)
+    (world : IsWorld t fits winner charter nodes cut) (i : ℕ) (inside : i < length charter.roster) where
   -- a world has a node for each position
   pub place_within : i < length nodes
   place_within = rw (← length-journals_of nodes, world.sound.count) inside
 
   -- the node at a place is the one of that position
-  pub node_there : (node : Seated E M) → node ≡ get_or nodes i node → node ≡ node_at (record { charter = charter; journals = journals_of nodes }) i
-  node_there node is = is ∙ node_of_world charter nodes world.nodes_are i node place_within
+  pub node_there : (node : Seated E M) → node ≡ get_or nodes i node → node ≡ node_at (record { charter = charter; journals = journals_of nodes; cut = cut }) i
+  node_there node is = is ∙ node_of_world charter nodes cut world.nodes_are i node place_within
 
   -- the journals once that node has received a packet
-  pub view_after : (side : Side) (p : Packet M) (node : Seated E M) → node ≡ receiving (node_at (record { charter = charter; journals = journals_of nodes }) i) side p
-      → (let now : Running E M = record { charter = charter; journals = journals_of (slice_set nodes i node) } in now ≡ after_receipt (record { charter = charter; journals = journals_of nodes }) i side p)
+  pub view_after : (side : Side) (p : Packet M) (node : Seated E M) → node ≡ receiving (node_at (record { charter = charter; journals = journals_of nodes; cut = cut }) i) side p
+      → (let now : Running E M = record { charter = charter; journals = journals_of (slice_set nodes i node); cut = cut } in now ≡ after_receipt (record { charter = charter; journals = journals_of nodes; cut = cut }) i side p)
   view_after side p node is =
-      rw is (ap (λ (l : List (List (Side × Packet M))). record { charter = charter; journals = l }) (journals_of-set nodes i _))
+      rw is (ap (λ (l : List (List (Side × Packet M))). record { charter = charter; journals = l; cut = cut }) (journals_of-set nodes i _))
 
   -- what that receipt tells
-  pub told_after : (side : Side) (p : Packet M) (node : Seated E M) → node ≡ receiving (node_at (record { charter = charter; journals = journals_of nodes }) i) side p
-      → told_of t (node_at (record { charter = charter; journals = journals_of nodes }) i) (node_at (record { charter = charter; journals = journals_of (slice_set nodes i node) }) i)
-      ≡ told_of t (node_at (record { charter = charter; journals = journals_of nodes }) i) (receiving (node_at (record { charter = charter; journals = journals_of nodes }) i) side p)
+  pub told_after : (side : Side) (p : Packet M) (node : Seated E M) → node ≡ receiving (node_at (record { charter = charter; journals = journals_of nodes; cut = cut }) i) side p
+      → told_of t (node_at (record { charter = charter; journals = journals_of nodes; cut = cut }) i) (node_at (record { charter = charter; journals = journals_of (slice_set nodes i node); cut = cut }) i)
+      ≡ told_of t (node_at (record { charter = charter; journals = journals_of nodes; cut = cut }) i) (receiving (node_at (record { charter = charter; journals = journals_of nodes; cut = cut }) i) side p)
   told_after side p node is =
-      let old : Running E M = record { charter = charter; journals = journals_of nodes } in
+      let old : Running E M = record { charter = charter; journals = journals_of nodes; cut = cut } in
       let within : i < length (journals_of nodes) = rw length-journals_of place_within in
       ap (λ (now : Running E M). told_of t (node_at old i) (node_at now i)) (view_after side p node is)
       ∙ ap (λ (now : Seated E M). told_of t (node_at old i) now) (receiver_after t old i within side p)
 
   -- where the receipt brings no news, nothing is told
-  pub silent_after : (side : Side) (p : Packet M) (node : Seated E M) → node ≡ receiving (node_at (record { charter = charter; journals = journals_of nodes }) i) side p
-      → news_of t (node_at (record { charter = charter; journals = journals_of nodes }) i) (receiving (node_at (record { charter = charter; journals = journals_of nodes }) i) side p) ≡ None
-      → None ≡ told_of t (node_at (record { charter = charter; journals = journals_of nodes }) i) (node_at (record { charter = charter; journals = journals_of (slice_set nodes i node) }) i)
-  silent_after side p node is none = sym (told_after side p node is ∙ nothing_told t (node_at (record { charter = charter; journals = journals_of nodes }) i) (receiving (node_at (record { charter = charter; journals = journals_of nodes }) i) side p) none)
+  pub silent_after : (side : Side) (p : Packet M) (node : Seated E M) → node ≡ receiving (node_at (record { charter = charter; journals = journals_of nodes; cut = cut }) i) side p
+      → news_of t (node_at (record { charter = charter; journals = journals_of nodes; cut = cut }) i) (receiving (node_at (record { charter = charter; journals = journals_of nodes; cut = cut }) i) side p) ≡ None
+      → None ≡ told_of t (node_at (record { charter = charter; journals = journals_of nodes; cut = cut }) i) (node_at (record { charter = charter; journals = journals_of (slice_set nodes i node); cut = cut }) i)
+  silent_after side p node is none = sym (told_after side p node is ∙ nothing_told t (node_at (record { charter = charter; journals = journals_of nodes; cut = cut }) i) (receiving (node_at (record { charter = charter; journals = journals_of nodes; cut = cut }) i) side p) none)
 
   -- where it brings news, the node's report is told
-  pub report_after : (side : Side) (p : Packet M) (node : Seated E M) → node ≡ receiving (node_at (record { charter = charter; journals = journals_of nodes }) i) side p
-      → (v : ℕ) → news_of t (node_at (record { charter = charter; journals = journals_of nodes }) i) (receiving (node_at (record { charter = charter; journals = journals_of nodes }) i) side p) ≡ Some v
-      → report_of t (receiving (node_at (record { charter = charter; journals = journals_of nodes }) i) side p)
-      ≡ told_of t (node_at (record { charter = charter; journals = journals_of nodes }) i) (node_at (record { charter = charter; journals = journals_of (slice_set nodes i node) }) i)
+  pub report_after : (side : Side) (p : Packet M) (node : Seated E M) → node ≡ receiving (node_at (record { charter = charter; journals = journals_of nodes; cut = cut }) i) side p
+      → (v : ℕ) → news_of t (node_at (record { charter = charter; journals = journals_of nodes; cut = cut }) i) (receiving (node_at (record { charter = charter; journals = journals_of nodes; cut = cut }) i) side p) ≡ Some v
+      → report_of t (receiving (node_at (record { charter = charter; journals = journals_of nodes; cut = cut }) i) side p)
+      ≡ told_of t (node_at (record { charter = charter; journals = journals_of nodes; cut = cut }) i) (node_at (record { charter = charter; journals = journals_of (slice_set nodes i node); cut = cut }) i)
   report_after side p node is v some =
-      report_of_receipt t (node_at (record { charter = charter; journals = journals_of nodes }) i) side p v some ∙ sym (told_after side p node is)
+      report_of_receipt t (node_at (record { charter = charter; journals = journals_of nodes; cut = cut }) i) side p v some ∙ sym (told_after side p node is)

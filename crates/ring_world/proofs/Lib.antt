@@ -1,6 +1,7 @@
 pub mod Announcements
 pub mod Beginnings
 pub mod Bits
+pub mod Cuts
 pub mod Deliveries
 pub mod Links
 pub mod Placing

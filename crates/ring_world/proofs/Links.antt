@@ -1,5 +1,5 @@
 -- The nodes of a world by their journals, and its links before and after one receipt.
-use Rattle.std.proofs.Common.{◌≡◌, ◌≢◌, ◌+◌, ◌<◌, ◌≤◌, ℕ, zero, suc, true, false, nat_lt, ◌==◌, List, [], ◌∷◌, ◌++◌, length, take, drop, Some, None, slice_get, slice_set, get_or, refl, sym, ap, ◌∙◌, arith, add-one, ◌⊎◌, inl, inr}
+use Rattle.std.proofs.Common.{◌≡◌, ◌≢◌, ◌+◌, ◌<◌, ◌≤◌, ℕ, zero, suc, Bool, true, false, nat_lt, ◌==◌, List, [], ◌∷◌, ◌++◌, length, take, drop, Some, None, slice_get, slice_set, get_or, refl, sym, ap, ◌∙◌, arith, add-one, ◌⊎◌, inl, inr}
 use Rattle.std.proofs.lemmas.Bool.Decides.{nat_tests}
 use Rattle.std.proofs.Math.Seq.{take-append_seam, drop-append_seam}
 use Rattle.ring_id.specs.declared.side.Side.{Side}
@@ -84,9 +84,9 @@ front_proper fits winner ring from side taken sent p sound proper =
     rw same at proper
 
 -- the node at a place of a world's nodes
-pub node_of_world : {E M : Type 0} (charter : Charter E) (nodes : List (Seated E M)) → nodes ≡ nodes_from charter 0 (journals_of nodes) → (i : ℕ) (d : Seated E M) → i < length nodes
-    → get_or nodes i d ≡ node_at (record { charter = charter; journals = journals_of nodes }) i
-node_of_world charter nodes are i d within =
+pub node_of_world : {E M : Type 0} (charter : Charter E) (nodes : List (Seated E M)) (cut : List Bool) → nodes ≡ nodes_from charter 0 (journals_of nodes) → (i : ℕ) (d : Seated E M) → i < length nodes
+    → get_or nodes i d ≡ node_at (record { charter = charter; journals = journals_of nodes; cut = cut }) i
+node_of_world charter nodes cut are i d within =
     let inside : i < length (journals_of nodes) = rw length-journals_of within in
     let at : 0 + i ≡ i = omega arith in
     ap (λ l. get_or l i d) are

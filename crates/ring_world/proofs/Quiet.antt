@@ -18,10 +18,11 @@ use Rattle.ring_node.specs.Ports.{all_leaders}
 use Rattle.ring_node.proofs.Receipts.{algos_of-packets_after}
 use Rattle.ring_world.specs.declared.sort.Sort.{Sort}
 use Rattle.ring_world.specs.declared.sort.Sort.TheVariants.{Message, Announcement}
-use Rattle.ring_world.specs.Quiet.{AllKnow, IsQuiet}
+use Rattle.ring_world.specs.Quiet.{AllKnow, IsEmptied, IsQuiet}
 use Rattle.ring_world.specs.Sorts.{of_sort}
-use Rattle.ring_world.specs.Worlds.{IsSoundWorld, Running, in_flight, pending_below, pending_of, size_of, taken_at}
+use Rattle.ring_world.specs.Worlds.{IsSoundWorld, IsUncut, Running, on_link, pending_below, pending_of, size_of, taken_at}
 use Rattle.ring_world.proofs.Announcements.{algos_of-of_sort, announced_right, decided_knows, taken_from-algo_part, unknown_took_none}
+use Rattle.ring_world.proofs.Cuts.{pending_stands, quiet_emptied}
 use Rattle.ring_world.proofs.Links.{each_side_below, no_length}
 
 -- on each link of a ring, the packets of each sort that were taken are those that were sent
@@ -72,42 +73,51 @@ module _ {S M : Type 0} (t : Table S M) (fits : List ℕ → ℕ → Side → �
       around (length ring) first.position (IsInformed t ring journals) inside (informs_next first.position inside start) (λ j low differ informed. informs_next j low informed) i below
 
 module _ {E S M : Type 0} (t : E → Table S M) (fits : E → List ℕ → ℕ → Side → ℕ → M → Type 0) (winner : E → List ℕ → ℕ) (world : Running E M) where
-  -- in a sound world with nothing in flight, all that was sent was taken
-  quiet_matched : IsSoundWorld t fits winner world → IsQuiet t world → IsMatched (t world.charter.algorithm) world.charter.roster (λ i. get_or world.journals i [])
-  quiet_matched sound quiet = record {
+  -- in a sound world where nothing stands on a link, all that was sent was taken
+  emptied_matched : IsSoundWorld t fits winner world → IsEmptied t world → IsMatched (t world.charter.algorithm) world.charter.roster (λ i. get_or world.journals i [])
+  emptied_matched sound emptied = record {
     each = λ i side sort below.
         ap (of_sort sort)
         (sym (append-nil (taken_at t world i side))
-        ∙ ap (λ (l : List (Packet M)). taken_at t world i side ++ l) (sym (quiet.idle i side below))
+        ∙ ap (λ (l : List (Packet M)). taken_at t world i side ++ l) (sym (emptied.taken i side below))
         ∙ sound.links.taken_first i side below);
   }
 
-  -- Quiet means known: in a sound world with nothing in flight, each node knows the winner.
-  pub quiet_knows : Deciding (t world.charter.algorithm) (fits world.charter.algorithm) → ((me : ℕ) → (t world.charter.algorithm).decided ((t world.charter.algorithm).first me) ≡ None)
-      → IsSoundWorld t fits winner world → IsQuiet t world → AllKnow t winner world
-  quiet_knows deciding undecided sound quiet = record {
+  -- in a sound world where nothing stands on a link, each node knows the winner
+  pub emptied_knows : Deciding (t world.charter.algorithm) (fits world.charter.algorithm) → ((me : ℕ) → (t world.charter.algorithm).decided ((t world.charter.algorithm).first me) ≡ None)
+      → IsSoundWorld t fits winner world → IsEmptied t world → AllKnow t winner world
+  emptied_knows deciding undecided sound emptied = record {
     each = λ i below.
-        let informed = matched_informed (t world.charter.algorithm) (fits world.charter.algorithm) world.charter.roster (λ j. get_or world.journals j []) (quiet_matched sound quiet) deciding undecided sound.is_ring
+        let informed = matched_informed (t world.charter.algorithm) (fits world.charter.algorithm) world.charter.roster (λ j. get_or world.journals j []) (emptied_matched sound emptied) deciding undecided sound.is_ring
         (record { at = λ j low. (sound.faithful j low).fitting }) i below in
         informed.knows ∙ ap (λ (v : ℕ). Some v) ((sound.faithful i below).knows informed.leader informed.knows);
   }
 
+  -- Quiet means known: in a sound world with nothing in flight and no cut link, each node knows the winner.
+  pub quiet_knows : Deciding (t world.charter.algorithm) (fits world.charter.algorithm) → ((me : ℕ) → (t world.charter.algorithm).decided ((t world.charter.algorithm).first me) ≡ None)
+      → IsSoundWorld t fits winner world → IsUncut world → IsQuiet t world → AllKnow t winner world
+  quiet_knows deciding undecided sound uncut quiet = emptied_knows deciding undecided sound (quiet_emptied t world uncut quiet)
+
 module _ {E S M : Type 0} (t : E → Table S M) (world : Running E M) where
-  -- where no packet is in flight into the positions below n, nothing is on their links
-  idle_below : (n : ℕ) → pending_below t world n ≡ 0 → (i : ℕ) (side : Side) → i < n → in_flight t world i side ≡ []
-  idle_below zero none i side below = absurd (omega arith)
-  idle_below (suc n) none i side below =
-      each_side_below (λ j from. in_flight t world j from ≡ []) n (idle_below n (omega arith)) (no_length _ (omega arith)) (no_length _ (omega arith)) i side (omega arith)
+  -- where no packet is in flight or stuck into the positions below n, nothing is on their links
+  none_below : (n : ℕ) → pending_below t world n ≡ 0 → (i : ℕ) (side : Side) → i < n → on_link t world i side ≡ []
+  none_below zero none i side below = absurd (omega arith)
+  none_below (suc n) none i side below =
+      let left = pending_stands t world n Left in
+      let right = pending_stands t world n Right in
+      each_side_below (λ j from. on_link t world j from ≡ []) n (none_below n (omega arith)) (no_length _ (omega (arith, none, left))) (no_length _ (omega (arith, none, right))) i side (omega arith)
 
-  -- a world is quiet where no packet is pending
-  pub none_pending_quiet : pending_of t world ≡ 0 → IsQuiet t world
-  none_pending_quiet none = record { idle = idle_below (size_of world) none }
+  -- nothing stands on a link where no packet is pending
+  pub none_pending_emptied : pending_of t world ≡ 0 → IsEmptied t world
+  none_pending_emptied none = record { taken = none_below (size_of world) none }
 
-  pending_none_below : IsQuiet t world → (n : ℕ) → n ≤ size_of world → pending_below t world n ≡ 0
-  pending_none_below quiet zero within = refl
-  pending_none_below quiet (suc n) within =
-      omega (arith, pending_none_below quiet n (omega arith), ap length (quiet.idle n Left (omega arith)), ap length (quiet.idle n Right (omega arith)))
+  pending_none_below : IsEmptied t world → (n : ℕ) → n ≤ size_of world → pending_below t world n ≡ 0
+  pending_none_below emptied zero within = refl
+  pending_none_below emptied (suc n) within =
+      let left = pending_stands t world n Left ∙ ap length (emptied.taken n Left (omega arith)) in
+      let right = pending_stands t world n Right ∙ ap length (emptied.taken n Right (omega arith)) in
+      omega (arith, pending_none_below emptied n (omega arith), left, right)
 
   -- and only there
-  pub quiet_none_pending : IsQuiet t world → pending_of t world ≡ 0
-  quiet_none_pending quiet = pending_none_below quiet (size_of world) (omega arith)
+  pub emptied_none_pending : IsEmptied t world → pending_of t world ≡ 0
+  emptied_none_pending emptied = pending_none_below emptied (size_of world) (omega arith)

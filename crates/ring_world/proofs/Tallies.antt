@@ -1,6 +1,7 @@
--- What is in flight after a receipt: on the packet's link one packet less, on the links from the
+-- What stands on the links after a receipt: on the packet's link one packet less, on the links from the
 -- receiver what it has sent because of it, and on every other link what was there.
 use Rattle.std.proofs.Common.{◌≡◌, ◌≢◌, ◌+◌, ◌-◌, ◌*◌, ◌^◌, ◌<◌, ◌≤◌, ◌==◌, ℕ, zero, suc, Bool, true, false, cond, nat_lt, List, [], ◌∷◌, ◌++◌, length, drop, Some, None, slice_get, refl, sym, ap, ap₂, ◌∙◌, arith, inl, inr}
+use Rattle.std.specs.Prelude.{not}
 use Rattle.std.proofs.lemmas.Bool.{cases_lt}
 use Rattle.std.proofs.lemmas.Bool.Decides.{nat_tests}
 use Rattle.std.proofs.lemmas.List.{append-nil, length-append, length-drop}
@@ -12,9 +13,10 @@ use Rattle.ring_election.specs.Tables.{Table}
 use Rattle.ring_election.proofs.Rings.{neighbour-below, neighbour-neighbour}
 use Rattle.ring_node.specs.declared.packet.Packet.{Packet}
 use Rattle.ring_node.specs.Nodes.{Seated, sent_of, taken_of}
-use Rattle.ring_world.specs.ReadySets.{IsFirst, bit_of, link_place}
+use Rattle.ring_world.specs.LinkSets.{IsFirst, bit_of}
 use Rattle.ring_world.specs.Tallies.{HasMarked, HasMarkedSent, IsMarked, IsMarkedAll, IsTallied, some_or_none}
-use Rattle.ring_world.specs.Worlds.{IsBefore, IsReady, IsSoundLinks, IsSoundWorld, Running, after_receipt, in_flight, node_at, pending_below, pending_of, sent_into, size_of, taken_at}
+use Rattle.ring_world.specs.Worlds.{IsBefore, IsReady, IsSoundLinks, IsSoundWorld, Running, after_cut, after_receipt, in_flight, is_cut, link_place, node_at, on_link, pending_below, pending_of, sent_into, size_of, taken_at}
+use Rattle.ring_world.proofs.Cuts.{cut_elsewhere, cut_here, cut_pending, cut_sound, mark_of_some, pending_stands, place_below, same_place}
 use Rattle.ring_world.proofs.Deliveries.{links_after, others_after, receiver_sent, same_side-same, taken_by, taken_from_other_side}
 use Rattle.ring_world.proofs.Links.{no_length, same_or_not}
 
@@ -67,7 +69,7 @@ counts_side j i Right = grind (arith, nat_tests)
 flight_is_rest : {M : Type 0} (taken flight sent : List (Packet M)) → taken ++ flight ≡ sent → length taken + length flight ≡ length sent
 flight_is_rest taken flight sent whole = sym (length-append taken flight) ∙ ap length whole
 
-some_length : {A : Type 0} (xs : List A) (x : A) → slice_get xs 0 ≡ Some x → 0 < length xs
+pub some_length : {A : Type 0} (xs : List A) (x : A) → slice_get xs 0 ≡ Some x → 0 < length xs
 some_length [] x h = cc
 some_length (y ∷ xs) x h = omega arith
 
@@ -100,33 +102,33 @@ module _ {E S M : Type 0} (t : E → Table S M) (world : Running E M) (i : ℕ) 
             omega (arith, same, counts_not j i (cond (same_side from side) 1 0) differ)
       ]
 
-  module _ (sound : IsSoundLinks t world) (front : slice_get (in_flight t world i side) 0 ≡ Some p) (inside : i < size_of world) where
+  module _ (sound : IsSoundLinks t world) (front : slice_get (on_link t world i side) 0 ≡ Some p) (inside : i < size_of world) where
     -- what is in flight on a link afterwards
-    flight_after : (j : ℕ) (from : Side) → j < size_of world → length (in_flight t (after_receipt world i side p) j from) + cond (j == i) (cond (same_side from side) 1 0) 0
-        ≡ length (in_flight t world j from) + cond (j == neighbour (size_of world) i (other from)) (more (other from)) 0
+    flight_after : (j : ℕ) (from : Side) → j < size_of world → length (on_link t (after_receipt world i side p) j from) + cond (j == i) (cond (same_side from side) 1 0) 0
+        ≡ length (on_link t world j from) + cond (j == neighbour (size_of world) i (other from)) (more (other from)) 0
     flight_after j from below =
-        let before = flight_is_rest (taken_at t world j from) (in_flight t world j from) (sent_into t world j from) (sound.taken_first j from below) in
+        let before = flight_is_rest (taken_at t world j from) (on_link t world j from) (sent_into t world j from) (sound.taken_first j from below) in
         let new = after_receipt world i side p in
-        let after = flight_is_rest (taken_at t new j from) (in_flight t new j from) (sent_into t new j from) ((links_after t world i within side p sound front inside).taken_first j from below) in
+        let after = flight_is_rest (taken_at t new j from) (on_link t new j from) (sent_into t new j from) ((links_after t world i within side p sound front inside).taken_first j from below) in
         let taken = taken_after j from in
         let sent = sent_after (neighbour (size_of world) j from) (other from) in
         let link = counts_link (size_of world) j i from (more (other from)) below inside in
         omega (arith, before, after, taken, sent, link)
 
     -- what is taken was in flight
-    taken_waits : (j : ℕ) (from : Side) → cond (j == i) (cond (same_side from side) 1 0) 0 ≤ length (in_flight t world j from)
+    taken_waits : (j : ℕ) (from : Side) → cond (j == i) (cond (same_side from side) 1 0) 0 ≤ length (on_link t world j from)
     taken_waits j from =
         elim (same_or_not j i) [
           | inr differ ↦ omega (arith, counts_not j i (cond (same_side from side) 1 0) differ)
           | inl at ↦
-              elim (same_side from side) as (λ b. same_side from side ≡ b → cond (j == i) (cond b 1 0) 0 ≤ length (in_flight t world j from)) [
+              elim (same_side from side) as (λ b. same_side from side ≡ b → cond (j == i) (cond b 1 0) 0 ≤ length (on_link t world j from)) [
                 | false ↦ λ e. omega (arith, counts j i 0 at)
                 | true ↦ λ e. let some = some_length _ p front in rw (at, same_side-same from side e) (omega (arith, counts i i 1 refl, some))
               ] refl
         ]
 
     -- where the receiver has sent more, something is in flight there
-    waits_after : (to : Side) → 0 < more to → 0 < length (in_flight t (after_receipt world i side p) (neighbour (size_of world) i to) (other to))
+    waits_after : (to : Side) → 0 < more to → 0 < length (on_link t (after_receipt world i side p) (neighbour (size_of world) i to) (other to))
     waits_after Left some =
         let n : ℕ = size_of world in
         let j : ℕ = left_of n i in
@@ -145,7 +147,9 @@ module _ {E S M : Type 0} (t : E → Table S M) (world : Running E M) (i : ℕ) 
         let rest = pending_below_after m (omega arith) in
         let left = flight_after m Left (omega arith) in
         let right = flight_after m Right (omega arith) in
-        omega (arith, rest, left, right, counts_side m i side, counts_next m i 1, counts_next m (right_of n i) (more Right), counts_next m (left_of n i) (more Left))
+        let stands = λ (w : Running E M) (from : Side). pending_stands t w m from in
+        let new = after_receipt world i side p in
+        omega (arith, rest, left, right, stands world Left, stands world Right, stands new Left, stands new Right, counts_side m i side, counts_next m i 1, counts_next m (right_of n i) (more Right), counts_next m (left_of n i) (more Left))
 
     -- the number of packets in flight: one less, and what the receiver has sent
     pub pending_after :
@@ -161,7 +165,7 @@ module _ {E S M : Type 0} (t : E → Table S M) (world : Running E M) (i : ℕ) 
 
   -- what is in flight on a link from which the receiver takes nothing, and whose sender sends nothing more
   flight_kept : (j : ℕ) (from : Side) → (j ≡ i → same_side from side ≡ false) → sent_into t (after_receipt world i side p) j from ≡ sent_into t world j from
-      → in_flight t (after_receipt world i side p) j from ≡ in_flight t world j from
+      → on_link t (after_receipt world i side p) j from ≡ on_link t world j from
   flight_kept j from away sent =
       ap₂ (λ (taken sent : List (Packet M)). drop (length taken) sent)
       (elim (same_or_not j i) [
@@ -232,7 +236,8 @@ module _ {E S M : Type 0} (t : E → Table S M) (world : Running E M) (i : ℕ) 
     from_untaken j from below away =
         let old = marked.each j from below in
         let same : sent_into t (after_receipt world i side p) j from ≡ sent_into t world j from → IsMarked t (after_receipt world i side p) third j from =
-        λ sent. let flight = flight_kept j from away sent in stays_left j from (here.kept j from (record { bit = rw flight old.bit; few = rw flight old.few })) in
+        λ sent. let stands = flight_kept j from away sent in
+        stays_left j from (here.kept j from (record { bit = old.bit ∙ ap (λ (l : List (Packet M)). some_or_none (cond (is_cut world j from) [] l)) (sym stands); few = rw stands old.few })) in
         elim (same_or_not (neighbour (size_of world) j from) i) [
           | inr apart ↦ same (sent_by_others j from apart)
           | inl at ↦ from_receiver j from (sym (neighbour-neighbour (size_of world) j from below) ∙ ap (λ k. neighbour (size_of world) k (other from)) at) (λ none. same (sent_no_more j from at none))
@@ -258,28 +263,9 @@ module _ {E S M : Type 0} (t : E → Table S M) (world : Running E M) (i : ℕ) 
 
 -- ---- One link is marked
 
-same_place : (j i : ℕ) (from side : Side) → link_place j from ≡ link_place i side → (j ≡ i) × (from ≡ side)
-same_place j i Left Left e = (omega arith, refl)
-same_place j i Left Right e = absurd (omega arith)
-same_place j i Right Left e = absurd (omega arith)
-same_place j i Right Right e = (omega arith, refl)
-
-place_below : (n i : ℕ) (side : Side) → i < n → link_place i side < 2 * n
-place_below n i Left below = omega arith
-place_below n i Right below = omega arith
-
 place_past : (n i : ℕ) (side : Side) → n ≤ i → 2 * n ≤ link_place i side
 place_past n i Left past = omega arith
 place_past n i Right past = omega arith
-
--- a list that has a length has something
-pub some_by_length : {A : Type 0} (xs : List A) → cond (nat_lt 0 (length xs)) 1 0 ≡ some_or_none xs
-some_by_length [] = grind (arith, nat_tests)
-some_by_length (x ∷ xs) = grind (arith, nat_tests)
-
-one_of_some : {A : Type 0} (xs : List A) → 0 < length xs → some_or_none xs ≡ 1
-one_of_some [] h = absurd (omega arith)
-one_of_some (x ∷ xs) h = refl
 
 -- where one bit is put as its link is, the link is marked and the other marks stay
 pub one_marked : {E S M : Type 0} (t : E → Table S M) (world : Running E M) (old new : List ℕ) (i : ℕ) (side : Side) → i < size_of world → IsMarked t world new i side
@@ -295,25 +281,30 @@ one_marked t world old new i side inside marked others = record {
   beyond = λ place past. let below = place_below (size_of world) i side inside in others place (omega arith);
 }
 
--- what is in flight on a link from a node is among what it has sent there
+-- a link that is marked stays so where no bit changes
+pub marked_still : {E S M : Type 0} (t : E → Table S M) (world : Running E M) (words : List ℕ) (i : ℕ) (side : Side) → IsMarked t world words i side → HasMarked t world words i side words
+marked_still t world words i side marked = record { marked = marked; kept = λ j from before. before; beyond = λ place past. refl }
+
+-- what stands on a link from a node is among what it has sent there
 flight_within : {E S M : Type 0} (t : E → Table S M) (world : Running E M) (i : ℕ) (to : Side) → i < size_of world
-    → length (in_flight t world (neighbour (size_of world) i to) (other to)) ≤ length (sent_of t (node_at world i) to)
+    → length (on_link t world (neighbour (size_of world) i to) (other to)) ≤ length (sent_of t (node_at world i) to)
 flight_within t world i Left inside = rw (neighbour-neighbour (size_of world) i Left inside)
     (let rest = length-drop (length (taken_at t world (neighbour (size_of world) i Left) Right)) (sent_of t (node_at world i) Left) in omega (arith, rest))
 flight_within t world i Right inside = rw (neighbour-neighbour (size_of world) i Right inside)
     (let rest = length-drop (length (taken_at t world (neighbour (size_of world) i Right) Left)) (sent_of t (node_at world i) Right) in omega (arith, rest))
 
--- where the bit of a link with something in flight is put, the link is marked
+-- where the bit of a link on which something stands is put unless it is cut, the link is marked
 pub one_put : {E S M : Type 0} (t : E → Table S M) (world : Running E M) (old new : List ℕ) (i : ℕ) (to : Side) → i < size_of world
-    → 0 < length (in_flight t world (neighbour (size_of world) i to) (other to))
+    → 0 < length (on_link t world (neighbour (size_of world) i to) (other to))
     → length (sent_of t (node_at world i) to) < 2 ^ 64
-    → bit_of new (link_place (neighbour (size_of world) i to) (other to)) ≡ 1
+    → bit_of new (link_place (neighbour (size_of world) i to) (other to)) ≡ cond (not (is_cut world (neighbour (size_of world) i to) (other to))) 1 0
     → ((place : ℕ) → place ≢ link_place (neighbour (size_of world) i to) (other to) → bit_of new place ≡ bit_of old place)
     → HasMarked t world old (neighbour (size_of world) i to) (other to) new
 one_put t world old new i to inside waits few put others =
-    let flight = in_flight t world (neighbour (size_of world) i to) (other to) in
+    let stands = on_link t world (neighbour (size_of world) i to) (other to) in
+    let cut = is_cut world (neighbour (size_of world) i to) (other to) in
     one_marked t world old new (neighbour (size_of world) i to) (other to) (neighbour-below (size_of world) i to inside)
-    (record { bit = put ∙ sym (one_of_some flight waits); few = let within = flight_within t world i to inside in omega (arith, within, few) }) others
+    (record { bit = put ∙ mark_of_some cut stands waits; few = let within = flight_within t world i to inside in omega (arith, within, few) }) others
 
 -- ---- What the marks tell
 
@@ -360,12 +351,13 @@ module _ {E S M : Type 0} (t : E → Table S M) (world : Running E M) (words : L
 pub pending_few : {E S M : Type 0} (t : E → Table S M) (world : Running E M) (words : List ℕ) → IsMarkedAll t world words → (n : ℕ) → n ≤ size_of world → pending_below t world n ≤ 36893488147419103232 * n
 pending_few t world words marked zero low = omega arith
 pending_few t world words marked (suc n) low =
-    omega (arith, pending_few t world words marked n (omega arith), (marked.each n Left (omega arith)).few, (marked.each n Right (omega arith)).few)
+    omega
+    (arith, pending_few t world words marked n (omega arith), pending_stands t world n Left, pending_stands t world n Right, (marked.each n Left (omega arith)).few, (marked.each n Right (omega arith)).few)
 
 -- ---- A world after a receipt
 
 module _ {E S M : Type 0} (t : E → Table S M) (fits : E → List ℕ → ℕ → Side → ℕ → M → Type 0) (winner : E → List ℕ → ℕ) (world : Running E M) (pending : ℕ) (words : List ℕ)
-    (tallied : IsTallied t world fits winner pending words) (i : ℕ) (inside : i < size_of world) (side : Side) (p : Packet M) (front : slice_get (in_flight t world i side) 0 ≡ Some p)
+    (tallied : IsTallied t world fits winner pending words) (i : ℕ) (inside : i < size_of world) (side : Side) (p : Packet M) (front : slice_get (on_link t world i side) 0 ≡ Some p)
     (new : Running E M) (moved : new ≡ after_receipt world i side p) where
   place_within : i < length world.journals
   place_within = rw tallied.sound.count inside
@@ -376,7 +368,7 @@ module _ {E S M : Type 0} (t : E → Table S M) (fits : E → List ℕ → ℕ �
 
   -- and where it has sent more, something is in flight there
   pub sent_waits : (to : Side) (before : ℕ) → before ≡ length (sent_of t (node_at world i) to) → before < length (sent_of t (node_at new i) to)
-      → 0 < length (in_flight t new (neighbour (size_of new) i to) (other to))
+      → 0 < length (on_link t new (neighbour (size_of new) i to) (other to))
   sent_waits to before is less =
       let grown = more_sent_by t world i place_within side p to in
       rw moved (waits_after t world i place_within side p tallied.sound.links front inside to (omega (arith, grown, is, rw moved at less)))
@@ -412,3 +404,38 @@ module _ {E S M : Type 0} (t : E → Table S M) (fits : E → List ℕ → ℕ �
           (marks_after t world i place_within side p words first second third lefts rights tallied.marked (rw moved at here) (rw moved at there) (rw moved at beyond)
           (more_is Left left lefts left_is lefts_are) (more_is Right right rights right_is rights_are) inside);
     }
+
+-- ---- A world after a cut
+
+-- where the bit of a link is cleared that is cut, the links are marked
+cut_marks : {E S M : Type 0} (t : E → Table S M) (world : Running E M) (words new : List ℕ) (i : ℕ) (side : Side) → i < size_of world → length world.cut ≡ 2 * size_of world → IsMarkedAll t world words
+    → bit_of new (link_place i side) ≡ 0
+    → ((place : ℕ) → place ≢ link_place i side → bit_of new place ≡ bit_of words place)
+    → IsMarkedAll t (after_cut world i side) new
+cut_marks {M = M} t world words new i side inside each_link marked cleared others = record {
+  each = λ j from below.
+      let old = marked.each j from below in
+      elim (same_or_not (link_place j from) (link_place i side)) [
+        | inl here ↦
+            let link = same_place j i from side here in
+            let cut : is_cut (after_cut world i side) j from ≡ true = rw (link.0, link.1) (cut_here world i side each_link inside) in
+            record { bit = ap (bit_of new) here ∙ cleared ∙ ap (λ (b : Bool). some_or_none (cond b [] (on_link t world j from))) (sym cut); few = old.few }
+        | inr differ ↦ record {
+          bit = others (link_place j from) differ ∙ old.bit ∙ ap (λ (b : Bool). some_or_none (cond b [] (on_link t world j from))) (sym (cut_elsewhere world i side j from differ));
+          few = old.few;
+        }
+      ];
+  beyond = λ place past. let below = place_below (size_of world) i side inside in others place (omega arith) ∙ marked.beyond place past;
+}
+
+-- what is kept is kept where a link was cut and its bit cleared
+pub tally_cut : {E S M : Type 0} (t : E → Table S M) (fits : E → List ℕ → ℕ → Side → ℕ → M → Type 0) (winner : E → List ℕ → ℕ) (world : Running E M) (pending : ℕ) (words new : List ℕ) (i : ℕ) (side : Side)
+    → IsTallied t world fits winner pending words → i < size_of world
+    → bit_of new (link_place i side) ≡ 0
+    → ((place : ℕ) → place ≢ link_place i side → bit_of new place ≡ bit_of words place)
+    → (after : Running E M) → after ≡ after_cut world i side → IsTallied t after fits winner pending new
+tally_cut t fits winner world pending words new i side tallied inside cleared others after is = rw is (record {
+  sound = cut_sound t world i side fits winner tallied.sound;
+  counted = tallied.counted ∙ sym (cut_pending t world i side (size_of world));
+  marked = cut_marks t world words new i side inside tallied.sound.each_link tallied.marked cleared others;
+})

@@ -19,7 +19,7 @@ use Rattle.ring_node.specs.Ports.{all_leaders}
 use Rattle.ring_node.proofs.Receipts.{algos_of-append, algos_of-packets_after}
 use Rattle.ring_world.specs.declared.sort.Sort.TheVariants.{Announcement}
 use Rattle.ring_world.specs.Sorts.{of_sort}
-use Rattle.ring_world.specs.Worlds.{IsSoundWorld, Running, announced_in, announcements_in, announcements_of, delivered_of, in_flight, most_deliveries, node_at, receipts_in, sent_into, size_of, taken_at}
+use Rattle.ring_world.specs.Worlds.{IsSoundWorld, Running, announced_in, announcements_in, announcements_of, delivered_of, on_link, most_deliveries, node_at, receipts_in, sent_into, size_of, taken_at}
 use Rattle.ring_world.proofs.Announcements.{announced_left, announced_right, of_sort-append, taken_from-algo_part}
 use Rattle.ring_world.proofs.Links.{receipts_in-take}
 
@@ -56,9 +56,9 @@ module _ {E S M : Type 0} (t : E → Table S M) (fits : E → List ℕ → ℕ �
     taken = λ i from sender below there.
         let next : ℕ = neighbour (size_of world) i from in
         let journal : List (Side × Packet M) = get_or world.journals next [] in (
-          algos_of (in_flight t world i from),
-          ap (λ (l : List M). l ++ algos_of (in_flight t world i from)) (taken_from-algo_part from (get_or world.journals i []))
-              ∙ sym (algos_of-append (taken_at t world i from) (in_flight t world i from))
+          algos_of (on_link t world i from),
+          ap (λ (l : List M). l ++ algos_of (on_link t world i from)) (taken_from-algo_part from (get_or world.journals i []))
+              ∙ sym (algos_of-append (taken_at t world i from) (on_link t world i from))
               ∙ ap algos_of (sound.links.taken_first i from below)
               ∙ ap (λ (me : ℕ). algos_of (packets_after (t world.charter.algorithm) me (other from) journal)) (get_or_from_slice_get world.charter.roster next sender 0 there)
               ∙ algos_of-packets_after (t world.charter.algorithm) sender (other from) journal,
@@ -68,9 +68,9 @@ module _ {E S M : Type 0} (t : E → Table S M) (fits : E → List ℕ → ℕ �
   -- no more announcements are taken from a link than were sent there
   taken_announcements : (i : ℕ) (side : Side) → i < size_of world → length (of_sort Announcement (taken_at t world i side)) ≤ length (of_sort Announcement (sent_into t world i side))
   taken_announcements i side below =
-      let whole : of_sort Announcement (taken_at t world i side) ++ of_sort Announcement (in_flight t world i side) ≡ of_sort Announcement (sent_into t world i side) =
-      sym (of_sort-append Announcement (taken_at t world i side) (in_flight t world i side)) ∙ ap (of_sort Announcement) (sound.links.taken_first i side below) in
-      omega (arith, ap length whole, length-append (of_sort Announcement (taken_at t world i side)) (of_sort Announcement (in_flight t world i side)))
+      let whole : of_sort Announcement (taken_at t world i side) ++ of_sort Announcement (on_link t world i side) ≡ of_sort Announcement (sent_into t world i side) =
+      sym (of_sort-append Announcement (taken_at t world i side) (on_link t world i side)) ∙ ap (of_sort Announcement) (sound.links.taken_first i side below) in
+      omega (arith, ap length whole, length-append (of_sort Announcement (taken_at t world i side)) (of_sort Announcement (on_link t world i side)))
 
   -- a position has taken at most one announcement
   one_announcement : (i : ℕ) → i < size_of world → announced_in (get_or world.journals i []) ≤ 1

@@ -1,6 +1,6 @@
 pub mod Places
 pub mod Quiet
-pub mod ReadySets
+pub mod LinkSets
 pub mod Settlements
 pub mod Sorts
 pub mod Tallies

@@ -1,11 +1,12 @@
--- What a world keeps beside its nodes: how many packets are in flight, and on which links.
+-- What a world keeps beside its nodes and its cuts: how many packets are in flight or stuck, and on which
+-- links something is in flight.
 use Rattle.std.specs.Prelude.{◌≡◌, ◌*◌, ◌^◌, ◌<◌, ◌≤◌, ◌⊎◌, ℕ, List, [], ◌∷◌, length}
 use Rattle.ring_id.specs.declared.side.Side.{Side}
 use Rattle.ring_id.specs.Sides.{other}
 use Rattle.ring_roster.specs.Ring.{neighbour}
 use Rattle.ring_election.specs.Tables.{Table}
-use Rattle.ring_world.specs.ReadySets.{bit_of, link_place}
-use Rattle.ring_world.specs.Worlds.{IsSoundWorld, Running, in_flight, pending_of, size_of}
+use Rattle.ring_world.specs.LinkSets.{bit_of}
+use Rattle.ring_world.specs.Worlds.{IsSoundWorld, Running, in_flight, link_place, on_link, pending_of, size_of}
 
 -- 1 where there is something, else 0
 abbrev pub some_or_none : {A : Type 0} → List A → ℕ
@@ -16,7 +17,7 @@ module _ {E S M : Type 0} (t : E → Table S M) (world : Running E M) where
   -- a link's bit is set exactly where something is in flight on it
   pub record IsMarked (words : List ℕ) (i : ℕ) (side : Side) : Type 0 where
     pub bit : bit_of words (link_place i side) ≡ some_or_none (in_flight t world i side)
-    pub few : length (in_flight t world i side) < 2 ^ 64
+    pub few : length (on_link t world i side) < 2 ^ 64
 
   -- each link of the ring is marked, and no other bit is set
   pub record IsMarkedAll (words : List ℕ) : Type 0 where
@@ -33,8 +34,8 @@ module _ {E S M : Type 0} (t : E → Table S M) (world : Running E M) where
   abbrev pub HasMarkedSent : List ℕ → ℕ → Side → ℕ → List ℕ → Type 0
   HasMarkedSent old i to more new = ((more ≡ 0) × (new ≡ old)) ⊎ HasMarked old (neighbour (size_of world) i to) (other to) new
 
-  -- what the type of a world keeps: it is sound, the number is what is in flight, and the bits are
-  -- the links on which something is
+  -- what the type of a world keeps: it is sound, the number is what is in flight or stuck, and the bits
+  -- are the links that aren't cut and have something on them
   pub record IsTallied (fits : E → List ℕ → ℕ → Side → ℕ → M → Type 0) (winner : E → List ℕ → ℕ) (pending : ℕ) (words : List ℕ) : Type 0 where
     pub sound : IsSoundWorld t fits winner world
     pub counted : pending ≡ pending_of t world

@@ -1,6 +1,6 @@
--- Worlds: the journals of all nodes of a term, and what is in flight between them. What is in flight
--- is said of whole journals; no queue, count or bit is in these definitions.
-use Rattle.std.specs.Prelude.{◌≡◌, ◌+◌, ◌<◌, ◌⊎◌, ◌&&◌, ℕ, zero, suc, Bool, not, nat_lt, List, [], ◌∷◌, ◌++◌, length, drop, Option, Some, None, slice_set, slice_index_or}
+-- Worlds: the journals of all nodes of a term, which links between them are cut, and what is in flight.
+-- What is in flight is said of whole journals; no queue and no count is in these definitions.
+use Rattle.std.specs.Prelude.{◌≡◌, ◌+◌, ◌*◌, ◌<◌, ◌⊎◌, ◌&&◌, ℕ, zero, suc, Bool, true, false, cond, not, nat_lt, List, [], ◌∷◌, ◌++◌, length, drop, replicate, Option, Some, None, Result, Ok, Err, slice_set, slice_index_or}
 use Rattle.ring_id.specs.declared.refusal.Refusal.{Refusal}
 use Rattle.ring_id.specs.declared.refusal.Refusal.TheVariants as refused
 use Rattle.ring_id.specs.declared.side.Side.{Side}
@@ -17,10 +17,18 @@ use Rattle.ring_node.specs.Reports.{Told}
 use Rattle.ring_world.specs.declared.delivery.Delivery.{Delivery}
 use Rattle.ring_world.specs.declared.delivery.Delivery.TheVariants.{Moved, Idle, Refused}
 
--- a term that runs: its charter, and the journal of each position of its ring
+-- The place of a link in the order of links. A link is named by its receiver, that position and the side
+-- from which it takes: the position counts first, and left comes before right.
+abbrev pub link_place : ℕ → Side → ℕ
+link_place i Left = 2 * i
+link_place i Right = 2 * i + 1
+
+-- a term that runs: its charter, the journal of each position of its ring, and for each link in the order
+-- of links whether it is cut
 pub record Running (E M : Type 0) : Type 0 where
   pub charter : Charter E
   pub journals : List (List (Side × Packet M))
+  pub cut : List Bool
 
 -- the length of its ring
 abbrev pub size_of : {E M : Type 0} → Running E M → ℕ
@@ -48,6 +56,31 @@ nodes_of world = nodes_from world.charter 0 world.journals
 abbrev pub after_receipt : {E M : Type 0} → Running E M → ℕ → Side → Packet M → Running E M
 after_receipt world i side packet = record world { journals = slice_set world.journals i ((receiving (node_at world i) side packet).journal) }
 
+-- no link of a ring of this length is cut
+abbrev pub no_cuts : ℕ → List Bool
+no_cuts n = replicate (2 * n) false
+
+-- whether a link is cut
+abbrev pub is_cut : {E M : Type 0} → Running E M → ℕ → Side → Bool
+is_cut world i side = slice_index_or world.cut (link_place i side) false
+
+-- the same world with one link more that is cut
+abbrev pub after_cut : {E M : Type 0} → Running E M → ℕ → Side → Running E M
+after_cut world i side = record world { cut = slice_set world.cut (link_place i side) true }
+
+-- no link of the ring is cut
+pub record IsUncut {E M : Type 0} (world : Running E M) : Type 0 where
+  pub uncut : (i : ℕ) (side : Side) → i < size_of world → is_cut world i side ≡ false
+
+-- nothing arrives from the right under an algorithm that isn't two-way
+abbrev pub link_refusal : Bool → Side → Option Refusal
+link_refusal two_way side = first_of (same_side side Right && not two_way) refused.OneWay None
+
+-- what `cut` answers, and the world after it
+abbrev pub Cuts : {E M : Type 0} → Bool → Running E M → ℕ → Side → Result (Unit {0}) Refusal → Running E M → Type 0
+Cuts two_way old i side (Ok done) new = (link_refusal two_way side ≡ None) × (new ≡ after_cut old i side)
+Cuts two_way old i side (Err refusal) new = (link_refusal two_way side ≡ Some refusal) × (new ≡ old)
+
 -- how many packets were received in all
 abbrev pub receipts_in : {M : Type 0} → List (List (Side × Packet M)) → ℕ
 receipts_in [] = 0
@@ -70,16 +103,11 @@ announcements_in (journal ∷ journals) = announced_in journal + announcements_i
 abbrev pub announcements_of : {E M : Type 0} → Running E M → ℕ
 announcements_of world = announcements_in world.journals
 
--- nothing arrives from the right under an algorithm that isn't two-way
-abbrev pub link_refusal : Bool → Side → Option Refusal
-link_refusal two_way side = first_of (same_side side Right && not two_way) refused.OneWay None
-
 -- the most packets that can be received: the messages that the algorithm's bound allows on such a
 -- ring, and one announcement for each position
 abbrev pub most_deliveries : {E M : Type 0} → (E → ℕ → ℕ) → Running E M → ℕ
 most_deliveries bound world = bound world.charter.algorithm (size_of world) + size_of world
 
--- a link is named by its receiver: that position, and the side from which it takes
 module _ {E S M : Type 0} (t : E → Table S M) where
   -- what was sent on a link
   abbrev pub sent_into : Running E M → ℕ → Side → List (Packet M)
@@ -89,34 +117,47 @@ module _ {E S M : Type 0} (t : E → Table S M) where
   abbrev pub taken_at : Running E M → ℕ → Side → List (Packet M)
   taken_at world i side = taken_of (node_at world i) side
 
-  -- what is in flight on it: what was sent, without as many packets from the front as were taken
-  abbrev pub in_flight : Running E M → ℕ → Side → List (Packet M)
-  in_flight world i side = drop (length (taken_at world i side)) (sent_into world i side)
+  -- what stands on it: what was sent, without as many packets from the front as were taken
+  abbrev pub on_link : Running E M → ℕ → Side → List (Packet M)
+  on_link world i side = drop (length (taken_at world i side)) (sent_into world i side)
 
-  -- how many packets are in flight on the links into the positions below n
+  -- what is in flight on it, and so can move: what stands there, if it isn't cut
+  abbrev pub in_flight : Running E M → ℕ → Side → List (Packet M)
+  in_flight world i side = cond (is_cut world i side) [] (on_link world i side)
+
+  -- what is stuck on it: what stands there, if it is cut
+  abbrev pub stuck_on : Running E M → ℕ → Side → List (Packet M)
+  stuck_on world i side = cond (is_cut world i side) (on_link world i side) []
+
+  -- how many packets are in flight on a link or stuck there
+  abbrev pub pending_on : Running E M → ℕ → Side → ℕ
+  pending_on world i side = length (in_flight world i side) + length (stuck_on world i side)
+
+  -- how many they are on the links into the positions below n
   abbrev pub pending_below : Running E M → ℕ → ℕ
   pending_below world zero = 0
-  pending_below world (suc n) = pending_below world n + (length (in_flight world n Left) + length (in_flight world n Right))
+  pending_below world (suc n) = pending_below world n + (pending_on world n Left + pending_on world n Right)
 
-  -- how many packets are in flight in all
+  -- how many packets are in flight or stuck in all
   abbrev pub pending_of : Running E M → ℕ
   pending_of world = pending_below world (size_of world)
 
   -- each link's receiver took a first part of what was sent there
   pub record IsSoundLinks (world : Running E M) : Type 0 where
-    pub taken_first : (i : ℕ) (side : Side) → i < size_of world → taken_at world i side ++ in_flight world i side ≡ sent_into world i side
+    pub taken_first : (i : ℕ) (side : Side) → i < size_of world → taken_at world i side ++ on_link world i side ≡ sent_into world i side
 
   -- At every moment the journals are a sound family that fits, and what a node knows is the winner.
   pub record IsSoundWorld (fits : E → List ℕ → ℕ → Side → ℕ → M → Type 0) (winner : E → List ℕ → ℕ) (world : Running E M) : Type 0 where
     pub is_ring : IsRing world.charter.roster
     pub count : length world.journals ≡ size_of world
+    pub each_link : length world.cut ≡ 2 * size_of world
     pub links : IsSoundLinks world
     pub faithful : (i : ℕ) → i < size_of world → IsFaithful t fits winner (node_at world i)
 
   -- what the type of a world keeps of its nodes: they are the charter's, in order, in a sound world
-  pub record IsWorld (fits : E → List ℕ → ℕ → Side → ℕ → M → Type 0) (winner : E → List ℕ → ℕ) (charter : Charter E) (nodes : List (Seated E M)) : Type 0 where
+  pub record IsWorld (fits : E → List ℕ → ℕ → Side → ℕ → M → Type 0) (winner : E → List ℕ → ℕ) (charter : Charter E) (nodes : List (Seated E M)) (cut : List Bool) : Type 0 where
     pub nodes_are : nodes ≡ nodes_from charter 0 (journals_of nodes)
-    pub sound : IsSoundWorld fits winner (record { charter = charter; journals = journals_of nodes })
+    pub sound : IsSoundWorld fits winner (record { charter = charter; journals = journals_of nodes; cut = cut })
 
   -- the first packet in flight on a link is taken, and no other journal changes
   pub record HasMoved (old : Running E M) (i : ℕ) (side : Side) (report : Option (Told E)) (new : Running E M) : Type 0 where

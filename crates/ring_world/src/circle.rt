@@ -1,14 +1,15 @@
-ghost use Rattle.std.specs.Prelude.{◌≡◌, ◌+◌, ◌<◌, ◌≤◌, ◌&&◌, not, [], IfOk, IfSome, OnErr, OnOk, length, replicate, slice_get};
+ghost use Rattle.std.specs.Prelude.{◌≡◌, ◌+◌, ◌<◌, ◌≤◌, ◌&&◌, false, not, [], IfOk, IfSome, OnErr, OnOk, length, replicate, slice_get};
 ghost use Rattle.ring_id.specs.declared.side.Side.TheVariants.{Right};
 ghost use Rattle.ring_id.specs.Sides.{other, same_side};
 ghost use Rattle.ring_roster.specs.Ring.{neighbour};
 ghost use Rattle.ring_node.specs.Envelopes.{IsProper};
 ghost use Rattle.ring_node.specs.Nodes.{next_index, sent_of, told_of};
+ghost use Rattle.ring_world.specs.LinkSets.{bit_of};
 ghost use Rattle.ring_world.specs.Tallies.{HasMarked, HasMarkedSent};
-ghost use Rattle.ring_world.specs.Worlds.{IsSoundWorld, after_receipt, in_flight, node_at, nodes_of};
+ghost use Rattle.ring_world.specs.Worlds.{IsSoundWorld, after_cut, after_receipt, is_cut, link_place, no_cuts, node_at, nodes_of, on_link};
 
+use crate::link_set::{LinkSet, place_of};
 use crate::owners::Owners;
-use crate::ready_set::{ReadySet, place_of};
 use ring_election::RingElection;
 use ring_id::{NoMemory, Side};
 use ring_node::{Charter, Node, Packet, Report};
@@ -16,29 +17,32 @@ use std::alloc::Global;
 use std::marker::Model;
 use std::sync::Arc;
 
-/// The nodes of one term in the order of their ring, with nothing beside them.
+/// The nodes of one term in the order of their ring, and which links between them are cut.
 ///
-/// What is in flight between them follows from what each has sent and taken.
+/// What is in flight between them, and what is stuck, follows from what each has sent and taken.
 #[derive(Drop)]
 pub struct Circle<E: RingElection> {
     owners: Owners<E>,
     nodes: Vec<Node<E>>,
+    cut: LinkSet,
 }
 
 impl<E: RingElection> Model for Circle<E> {
+    ghost use Rattle.std.specs.Prelude.{◌*◌, length};
+    ghost use Rattle.ring_world.specs.LinkSets.{bits_from};
     ghost use Rattle.ring_world.specs.Worlds.{IsWorld, Running, journals_of};
 
     ghost Value = { Running E E.Msg };
 
-    ghost view = { λ a. record { charter = a.owners; journals = journals_of a.nodes.items } };
+    ghost view = { λ a. record { charter = a.owners; journals = journals_of a.nodes.items; cut = bits_from a.cut.words 0 (2 * length a.owners.roster) } };
 
-    ghost invariant = { λ a. IsWorld E.table E.fits E.winner a.owners a.nodes.items };
+    ghost invariant = { λ a. IsWorld E.table E.fits E.winner a.owners a.nodes.items (bits_from a.cut.words 0 (2 * length a.owners.roster)) };
 }
 
 impl<E: RingElection> Circle<E> {
-    /// The nodes of this charter, which have started. Refused for want of memory alone.
+    /// The nodes of this charter, which have started, and no link is cut. Refused for want of memory alone.
     pub fn begin(alloc: Global, charter: Arc<Charter<E>>) -> Result<Circle<E>, NoMemory>
-        ensures { IfOk result (λ circle. circle ≡ record { charter = charter.value; journals = replicate (length charter.value.roster) [] }) }
+        ensures { IfOk result (λ circle. circle ≡ record { charter = charter.value; journals = replicate (length charter.value.roster) []; cut = no_cuts (length charter.value.roster) }) }
     {
         let size = charter.roster().len();
         let Ok(mut nodes) = Vec::with_capacity(alloc, size) else {
@@ -53,6 +57,7 @@ impl<E: RingElection> Circle<E> {
         Ok(Circle {
             owners: Owners::of(charter),
             nodes,
+            cut: LinkSet::empty(),
         })
     }
 
@@ -111,7 +116,25 @@ impl<E: RingElection> Circle<E> {
         }
     }
 
-    /// Gives the first packet in flight on a link to its receiver.
+    /// Cuts the link into a position from a side.
+    pub fn cut(&mut self, position: usize, side: Side)
+        requires { position < length self.old.charter.roster }
+        ensures cut { self.new ≡ after_cut self.old position side }
+        ensures sound { IsSoundWorld E.table E.fits E.winner self.new }
+        ensures inside { position < 256 }
+    {
+        self.cut.put(place_of(position, side), true);
+    }
+
+    /// Whether a link is cut.
+    pub fn is_cut(&self, position: usize, side: Side) -> bool
+        requires { position < length self.now.charter.roster }
+        ensures { result ≡ is_cut self.now position side }
+    {
+        self.cut.has(place_of(position, side))
+    }
+
+    /// Gives the first packet that stands on a link to its receiver.
     pub fn hand_over(
         &mut self,
         position: usize,
@@ -119,7 +142,7 @@ impl<E: RingElection> Circle<E> {
         packet: Packet<E::Msg>,
     ) -> Result<Option<Report<E>>, NoMemory>
         requires inside { position < length self.old.charter.roster }
-        requires front { slice_get (in_flight E.table self.old position side) 0 ≡ Some packet }
+        requires front { slice_get (on_link E.table self.old position side) 0 ≡ Some packet }
         requires proper { IsProper (E.fits self.old.charter.algorithm) (E.winner self.old.charter.algorithm) self.old.charter.roster (neighbour (length self.old.charter.roster) position side) (other side) (next_index (node_at self.old position) side packet) packet }
         ensures journals { OnOk result (self.new ≡ after_receipt self.old position side packet) }
         ensures report { IfOk result (λ report. report ≡ told_of E.table (node_at self.old position) (node_at self.new position)) }
@@ -135,20 +158,20 @@ impl<E: RingElection> Circle<E> {
         Ok(node.report(copy))
     }
 
-    /// The first packet in flight on a link, which is proper there.
+    /// The first packet that stands on a link, which is proper there.
     pub fn front(&self, position: usize, side: Side) -> Option<Packet<E::Msg>>
         requires { position < length self.now.charter.roster }
-        ensures value { result ≡ slice_get (in_flight E.table self.now position side) 0 }
+        ensures value { result ≡ slice_get (on_link E.table self.now position side) 0 }
         ensures proper { IfSome result (λ packet. IsProper (E.fits self.now.charter.algorithm) (E.winner self.now.charter.algorithm) self.now.charter.roster (neighbour (length self.now.charter.roster) position side) (other side) (next_index (node_at self.now position) side packet) packet) }
     {
         let sender = self.node(self.neighbour(position, side));
         sender.packet(side.other(), self.node(position).taken(side))
     }
 
-    /// How many packets are in flight on a link.
+    /// How many packets stand on a link.
     pub fn waiting(&self, position: usize, side: Side) -> usize
         requires { position < length self.now.charter.roster }
-        ensures value { result ≡ length (in_flight E.table self.now position side) }
+        ensures value { result ≡ length (on_link E.table self.now position side) }
         ensures inside { position < 256 }
     {
         let sender = self.node(self.neighbour(position, side));
@@ -163,29 +186,44 @@ impl<E: RingElection> Circle<E> {
         self.node(position).sent(to)
     }
 
-    /// Marks in a set whether something is in flight on a link. No other link's mark changes.
-    pub fn mark(&self, ready: &mut ReadySet, position: usize, side: Side)
-        requires { position < length self.now.charter.roster }
+    /// Marks in a set whether something stands on a link that isn't cut. No other link's mark changes.
+    pub fn mark(&self, ready: &mut LinkSet, position: usize, side: Side)
+        requires inside { position < length self.now.charter.roster }
+        requires uncut { is_cut self.now position side ≡ false }
         ensures { HasMarked E.table self.now ready.old.words position side ready.new.words }
     {
         let here = self.waiting(position, side) > 0;
         ready.put(place_of(position, side), here);
     }
 
+    /// Takes the mark of a link that isn't cut out of a set, where nothing stands on the link any more.
+    /// No other link's mark changes.
+    pub fn unmark_emptied(&self, ready: &mut LinkSet, position: usize, side: Side)
+        requires inside { position < length self.now.charter.roster }
+        requires uncut { is_cut self.now position side ≡ false }
+        requires marked { bit_of ready.old.words (link_place position side) ≡ 1 }
+        ensures { HasMarked E.table self.now ready.old.words position side ready.new.words }
+    {
+        if self.waiting(position, side) == 0 {
+            ready.put(place_of(position, side), false);
+        }
+    }
+
     /// How many packets the node at a position has sent to a side since it had sent so many before.
-    /// Where there are any, something is in flight on their link, and it is marked in a set; where
-    /// there are none no mark changes.
-    pub fn mark_sent(&self, ready: &mut ReadySet, position: usize, to: Side, before: usize) -> usize
+    /// Where there are any, something stands on their link, and it is marked in a set unless it is cut;
+    /// where there are none no mark changes.
+    pub fn mark_sent(&self, ready: &mut LinkSet, position: usize, to: Side, before: usize) -> usize
         requires inside { position < length self.now.charter.roster }
         requires grown { before ≤ length (sent_of E.table (node_at self.now position) to) }
-        requires waits { before < length (sent_of E.table (node_at self.now position) to) → 0 < length (in_flight E.table self.now (neighbour (length self.now.charter.roster) position to) (other to)) }
+        requires waits { before < length (sent_of E.table (node_at self.now position) to) → 0 < length (on_link E.table self.now (neighbour (length self.now.charter.roster) position to) (other to)) }
         ensures more { before + result ≡ length (sent_of E.table (node_at self.now position) to) }
         ensures marked { HasMarkedSent E.table self.now ready.old.words position to result ready.new.words }
     {
         let more = self.sent(position, to) - before;
         if more > 0 {
             let receiver = self.neighbour(position, to);
-            ready.put(place_of(receiver, to.other()), true);
+            let cut = self.is_cut(receiver, to.other());
+            ready.put(place_of(receiver, to.other()), !cut);
         }
         more
     }

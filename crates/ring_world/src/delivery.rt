@@ -7,7 +7,7 @@ use ring_node::Report;
 pub enum Delivery<E: RingElection> {
     /// The front packet was taken; the receiver's report, where it now knows the leader first.
     Moved(Option<Report<E>>),
-    /// Nothing is in flight on this link.
+    /// Nothing is in flight on this link, or it is cut.
     Idle,
     /// Refused, and nothing has changed.
     Refused(Refusal),

@@ -1,14 +1,14 @@
-ghost use Rattle.std.specs.Prelude.{◌≡◌, ◌<◌, ◌≤◌, ◌↔◌, [], IfNone, IfOk, OnErr, OnOk, length, replicate, slice_get};
+ghost use Rattle.std.specs.Prelude.{◌≡◌, ◌<◌, ◌≤◌, ◌↔◌, true, [], IfNone, IfOk, OnErr, OnOk, length, replicate, slice_get};
 ghost use Rattle.ring_id.specs.Sides.{other};
 ghost use Rattle.ring_roster.specs.Ring.{neighbour};
 ghost use Rattle.ring_node.specs.Envelopes.{IsProper};
 ghost use Rattle.ring_node.specs.Nodes.{next_index, told_of};
-ghost use Rattle.ring_world.specs.Quiet.{AllKnow, IsQuiet};
-ghost use Rattle.ring_world.specs.Worlds.{Delivers, IsReady, IsSoundWorld, after_receipt, announcements_of, delivered_of, in_flight, most_deliveries, node_at, nodes_of, pending_of};
+ghost use Rattle.ring_world.specs.Quiet.{AllKnow, IsEmptied};
+ghost use Rattle.ring_world.specs.Worlds.{Cuts, Delivers, IsReady, IsSoundWorld, IsUncut, after_receipt, announcements_of, delivered_of, in_flight, is_cut, most_deliveries, no_cuts, node_at, nodes_of, pending_of};
 
 use crate::circle::Circle;
 use crate::delivery::Delivery;
-use crate::ready_set::{ReadySet, link_at};
+use crate::link_set::{LinkSet, link_at, place_of};
 use ring_election::RingElection;
 use ring_id::{NoMemory, Refusal, Side};
 use ring_node::{Charter, Node, Packet, Report};
@@ -16,12 +16,13 @@ use std::alloc::Global;
 use std::marker::Model;
 use std::sync::Arc;
 
-/// All nodes of one term, with how many packets are in flight and on which links.
+/// All nodes of one term, with which links are cut, how many packets are in flight or stuck, and on
+/// which links something is in flight.
 #[derive(Drop)]
 pub struct World<E: RingElection> {
     circle: Circle<E>,
     pending: u128,
-    ready: ReadySet,
+    ready: LinkSet,
 }
 
 impl<E: RingElection> Model for World<E> {
@@ -36,13 +37,14 @@ impl<E: RingElection> Model for World<E> {
 }
 
 impl<E: RingElection> World<E> {
-    /// The world of this charter in which every node has started. Refused for want of memory alone.
+    /// The world of this charter in which every node has started, and no link is cut. Refused for want of
+    /// memory alone.
     pub fn begin(alloc: Global, charter: Arc<Charter<E>>) -> Result<World<E>, NoMemory>
-        ensures started { IfOk result (λ world. world ≡ record { charter = charter.value; journals = replicate (length charter.value.roster) [] }) }
+        ensures started { IfOk result (λ world. world ≡ record { charter = charter.value; journals = replicate (length charter.value.roster) []; cut = no_cuts (length charter.value.roster) }) }
         ensures sound { IfOk result (λ world. IsSoundWorld E.table E.fits E.winner world) }
     {
         let circle = Circle::begin(alloc, charter)?;
-        let mut ready = ReadySet::empty();
+        let mut ready = LinkSet::empty();
         let mut pending = 0;
         for position in 0..circle.size() {
             circle.mark(&mut ready, position, Side::Left);
@@ -73,10 +75,35 @@ impl<E: RingElection> World<E> {
         self.circle.nodes()
     }
 
+    /// Cuts the link into a position from a side: nothing is in flight there from now on, and what stands
+    /// there is stuck. Cutting it again changes nothing. Refused `OneWay` where the algorithm sends
+    /// nothing that arrives from there; nothing has changed then. Takes no memory, and constant time.
+    pub fn cut(&mut self, position: usize, side: Side) -> Result<(), Refusal>
+        requires { position < length self.old.charter.roster }
+        ensures cuts { Cuts (E.is_two_way self.old.charter.algorithm) self.old position side result self.new }
+        ensures again { is_cut self.old position side ≡ true → self.new ≡ self.old }
+        ensures sound { IsSoundWorld E.table E.fits E.winner self.new }
+    {
+        if self.circle.is_closed(side) {
+            return Err(Refusal::OneWay);
+        }
+        self.circle.cut(position, side);
+        self.ready.put(place_of(position, side), false);
+        Ok(())
+    }
+
+    /// Whether the link into a position from a side was cut in this world. Takes no memory.
+    pub fn is_cut(&self, position: usize, side: Side) -> bool
+        requires { position < length self.now.charter.roster }
+        ensures { result ≡ is_cut self.now position side }
+    {
+        self.circle.is_cut(position, side)
+    }
+
     /// Delivers the front packet of the link into a position from a side. Refused `OneWay` where the
-    /// algorithm sends nothing that arrives from there; `Idle` where nothing is in flight on the link;
-    /// refused `NoMemory` where a growth was. Nothing has changed then. A world takes no more
-    /// packets than the algorithm's bound and the length of its ring together (Lynch, Distributed
+    /// algorithm sends nothing that arrives from there; `Idle` where nothing is in flight on the link,
+    /// as on a link that is cut; refused `NoMemory` where a growth was. Nothing has changed then. A world
+    /// takes no more packets than the algorithm's bound and the length of its ring together (Lynch, Distributed
     /// Algorithms, 2.6: communication complexity).
     pub fn deliver(&mut self, position: usize, side: Side) -> Delivery<E>
         requires { position < length self.old.charter.roster }
@@ -87,6 +114,9 @@ impl<E: RingElection> World<E> {
         if self.circle.is_closed(side) {
             return Delivery::Refused(Refusal::OneWay);
         }
+        if self.circle.is_cut(position, side) {
+            return Delivery::Idle;
+        }
         let Some(packet) = self.circle.front(position, side) else {
             return Delivery::Idle;
         };
@@ -96,11 +126,11 @@ impl<E: RingElection> World<E> {
         }
     }
 
-    /// How many packets were sent and not yet taken. Where there are none, every node knows the
-    /// leader (Lynch, Distributed Algorithms, 3.1 and 15.1).
+    /// How many packets were sent and not yet taken, be they in flight or stuck on links that are cut.
+    /// Where there are none, every node knows the leader (Lynch, Distributed Algorithms, 3.1 and 15.1).
     pub fn pending(&self) -> u128
         ensures value { result ≡ pending_of E.table self.now }
-        ensures idle { (result ≡ 0) ↔ IsQuiet E.table self.now }
+        ensures emptied { (result ≡ 0) ↔ IsEmptied E.table self.now }
         ensures quiet { result ≡ 0 → AllKnow E.table E.winner self.now }
     {
         self.pending
@@ -121,12 +151,13 @@ impl<E: RingElection> World<E> {
         delivered
     }
 
-    /// The first link with something in flight: the least position that receives, left before right.
-    /// Where there is none, every node knows the leader.
+    /// The first link with something in flight: the least position that receives, left before right. A
+    /// link that is cut is never ready. Where none is ready and no link is cut, every node knows the
+    /// leader.
     pub fn ready(&self) -> Option<(usize, Side)>
         ensures first { IsReady E.table self.now result }
         ensures sound { IsSoundWorld E.table E.fits E.winner self.now }
-        ensures quiet { IfNone result (AllKnow E.table E.winner self.now) }
+        ensures quiet { IfNone result (IsUncut self.now → AllKnow E.table E.winner self.now) }
     {
         let Some(place) = self.ready.first() else {
             return None;
@@ -135,8 +166,8 @@ impl<E: RingElection> World<E> {
     }
 
     /// Gives the first packet in flight on a link to its receiver, and counts and marks what is in
-    /// flight then: the packet's link has one packet less, and on the links from the receiver stands
-    /// what it has sent because of it.
+    /// flight or stuck then: the packet's link has one packet less, and on the links from the receiver
+    /// stands what it has sent because of it.
     fn hand_over(
         &mut self,
         position: usize,
@@ -154,7 +185,7 @@ impl<E: RingElection> World<E> {
         let left_before = self.circle.sent(position, Side::Left);
         let right_before = self.circle.sent(position, Side::Right);
         let report = self.circle.hand_over(position, side, packet)?;
-        self.circle.mark(&mut self.ready, position, side);
+        self.circle.unmark_emptied(&mut self.ready, position, side);
         let left = self
             .circle
             .mark_sent(&mut self.ready, position, Side::Left, left_before);

@@ -43,6 +43,12 @@ fn shown(alloc: Global, event: &Event<Any>) -> Result<String, AllocError> {
         Event::Deliver(group, node, Side::Right) => {
             format!(in alloc; "deliver {} {} right", name(group), node.get())
         }
+        Event::Cut(group, node, Side::Left) => {
+            format!(in alloc; "cut {} {} left", name(group), node.get())
+        }
+        Event::Cut(group, node, Side::Right) => {
+            format!(in alloc; "cut {} {} right", name(group), node.get())
+        }
         Event::Pending(group) => format!(in alloc; "pending {}", name(group)),
         Event::Drain(group, count) => format!(in alloc; "drain {} {}", name(group), count),
     }
@@ -98,6 +104,8 @@ fn lines_of_a_schedule(rt: HostRuntime) -> Result<(), Fail> {
     for line in [
         b"deliver a 7 left".as_slice(),
         b"deliver a 4294967295 right".as_slice(),
+        b"cut a 7 left".as_slice(),
+        b"cut a 4294967295 right".as_slice(),
         b"pending a".as_slice(),
         b"drain a 0".as_slice(),
         b"drain a 1000000000".as_slice(),
@@ -162,6 +170,8 @@ fn lines_that_spell_nothing(rt: HostRuntime) {
         b"start".as_slice(),
         b"deliver a 7 up".as_slice(),
         b"deliver a 7 left left".as_slice(),
+        b"cut a 7".as_slice(),
+        b"cut a 7 both".as_slice(),
         b"drain a 00".as_slice(),
         b"drain a 1000000001".as_slice(),
         b"drain a".as_slice(),

@@ -1,5 +1,5 @@
 -- The delivery is made at the member's seat.
-use Rattle.std.proofs.Common.{rules, refl, inl, inr}
+use Rattle.std.proofs.Common.{rules, true, refl, inl, inr}
 use Rattle.ring_terms.specs.Object.{names}
 use Rattle.ring_mux.specs.Views.{placed}
 use Rattle.ring_mux.proofs.Carrying.{seat_inside}
@@ -98,7 +98,7 @@ returns-clause-worlds g c =
     ]
 
 pub returns-in-Err-clause-object : goal.returns-in-Err-clause-object
-returns-in-Err-clause-object g c = (refl, refused_as_who g.E.RingElection.is_two_way c.args.node c.args.side c.in-Err.refusal c.args.group c.args.self.now.object c.in-Err.ensures)
+returns-in-Err-clause-object g c = (refl, refused_as_who g.E.RingElection.is_two_way c.args.node c.args.side c.in-Err.refusal true c.args.group c.args.self.now.object c.in-Err.ensures)
 
 pub returns-in-Err-clause-worlds : goal.returns-in-Err-clause-worlds
 returns-in-Err-clause-worlds g c = (refl, λ memory. absurd (seat_grows_nothing c.args.group c.args.self.now.object c.args.node c.in-Err.refusal c.in-Err.ensures memory))

@@ -1,11 +1,12 @@
 -- The drain's numbers are those of its deliveries and of its world; where nothing is left the term is known.
-use Rattle.std.proofs.Common.{rules, refl, ap, ◌∙◌, inl, inr}
+use Rattle.std.proofs.Common.{rules, refl, ap, ◌∙◌}
 use Rattle.ring_world.specs.Worlds.{pending_of}
 use Rattle.ring_terms.specs.Object.{names}
 use Rattle.ring_mux.specs.Views.{placed}
 use Rattle.ring_mux.proofs.Carrying.{same_found, written_found}
+use Rattle.ring_mux.proofs.Drains.{some_pending}
 use Rattle.ring_mux.proofs.Keeping.{none_known}
-use Rattle.ring_mux.proofs.Leavings.{leaves_nothing}
+use Rattle.ring_mux.proofs.Leavings.{leaves_quiet}
 use Rattle.ring_mux.proofs.Places.{kept_written, names_kept, place_inside, slot_filled, view_written, world_read}
 use Rattle.ring_mux.proofs.mux.Mux.drain.Goals as goal
 
@@ -44,12 +45,7 @@ returns-clause-object g c =
         reply_is = refl;
         within = made.0.within;
         moves = made.0.object;
-        ended = λ h.
-            elim (made.0.ended h) [
-              | inl all ↦ inl all
-              | inr quiet ↦ inr (c.pending.ensures.value ∙ quiet c.carry_many-done.new.world found)
-            ];
-        stopped = λ h. let stopped = made.0.stopped h in (stopped.0, rw c.pending.ensures.value (stopped.1 c.carry_many-done.new.world found));
+        stopped = λ h. let stopped = made.0.stopped h in (stopped.0, rw c.pending.ensures.value (some_pending g.E.RingElection.table c.carry_many-done.new.world (stopped.1 c.carry_many-done.new.world found)));
         known = none_known g.E.RingElection.table g.E.RingElection.fits g.E.RingElection.winner g.met.E.RingElection.deciding (λ a. (g.met.E.RingElection.lawful a).start_undecided) _ _ made.1 c.args.group c.pending.result made.0.runs
             (λ w at. c.pending.ensures.value ∙ ap (pending_of g.E.RingElection.table) (same_found _ _ _ found at));
       }),
@@ -72,11 +68,11 @@ returns-clause-bounded g c =
     let worlds = placed (names c.self.inside.book) c.self.inside.worlds.items in
     let read = world_read g.E.RingElection.table c.self.inside.book c.self.inside.worlds.items c.self.invariant.held.held c.args.group c.in-Ok.place at.0 at.1 c.index_mut.result.now c.in-Some.world c.index_mut.ensures.value c.in-Some.is in
     let made = c.carry_many-done.ensures c.args.group worlds c.self.invariant.held read.1 at.1 in
-    let found = written_found c.args.group worlds c.in-Some.world c.carry_many-done.new.world read.1 in
-    rw (← c.self.view_is)
-    (leaves_nothing g.E.RingElection.table c.args.group g.E.RingElection.fits g.E.RingElection.winner g.E.RingElection.bound g.met.E.RingElection.bounded g.E.RingElection.is_greatest c.args.count
-    c.carry_many-done.result.0 c.pending.result c.carry_many-done.result.1 _ _ c.self.invariant.held.sound made.1.sound made.0
-    (λ w at. c.pending.ensures.value ∙ ap (pending_of g.E.RingElection.table) (same_found _ _ _ found at)))
+    let view = view_written c.self.inside.book c.carry_many-done.new.book (names_kept c.args.group _ c.self.inside.book c.carry_many-done.new.book made.0.object) c.self.inside.worlds.items c.args.group c.in-Ok.place at.0 c.in-Some.world
+    c.carry_many-done.new.world read.0 in
+    rw (← c.self.view_is, view)
+    (leaves_quiet g.E.RingElection.table c.args.group g.E.RingElection.fits g.E.RingElection.winner g.E.RingElection.bound g.met.E.RingElection.bounded g.E.RingElection.is_greatest c.args.count
+    c.carry_many-done.result.0 c.pending.result c.carry_many-done.result.1 _ _ c.self.invariant.held.sound made.1.sound made.0)
 
 pub returns-clause-informed : goal.returns-clause-informed
 returns-clause-informed g c = (invariant_of-self-2 g c).held.held

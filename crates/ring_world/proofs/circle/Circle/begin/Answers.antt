@@ -1,9 +1,10 @@
 -- Each node has started, and so the world is sound.
-use Rattle.std.proofs.Common.{◌≡◌, ◌++◌, ◌∷◌, List, [], length, ap, ◌∙◌, inl, inr, arith}
+use Rattle.std.proofs.Common.{◌≡◌, ◌++◌, ◌∷◌, ◌*◌, List, Bool, [], length, ap, ap₂, ◌∙◌, inl, inr, arith}
 use Rattle.ring_node.specs.declared.packet.Packet.{Packet}
 use Rattle.ring_id.specs.declared.side.Side.{Side}
 use Rattle.ring_node.specs.Nodes.{Seated}
 use Rattle.ring_world.proofs.Beginnings.{started_journals, started_more, started_world}
+use Rattle.ring_world.proofs.Cuts.{length-bits_from, no_bits}
 use Rattle.ring_world.proofs.Links.{same_or_not}
 use Rattle.ring_world.proofs.circle.Circle.begin.Goals as goal
 
@@ -31,12 +32,13 @@ invariant_of-result g c =
     let ring = rw (c.roster.ensures, c.deref.ensures) at c.len-size.ensures.ring in
     let size : c.loop-position.position ≡ length c.args.charter.value.roster = omega (arith, len, c.loop-position-test.false, c.loop-position.auto.position-end) in
     rw c.of.ensures
-    (started_world _ _ _ c.args.charter.value ring (rw size at c.loop-position.invariant.faithful) c.loop-position.nodes.items (rw size at c.loop-position.invariant.nodes))
+    (started_world _ _ _ c.args.charter.value ring (rw size at c.loop-position.invariant.faithful) _ (length-bits_from _ 0 _) c.loop-position.nodes.items (rw size at c.loop-position.invariant.nodes))
 
 pub returns : goal.returns
 returns g c =
     let len = rw (c.roster.ensures, c.deref.ensures) at c.len-size.ensures.value in
     let size : c.loop-position.position ≡ length c.args.charter.value.roster = omega (arith, len, c.loop-position-test.false, c.loop-position.auto.position-end) in
     rw c.of.ensures
-    (ap (λ (l : List (List (Side × Packet g.row.E-Msg.Denot))). record { charter = c.args.charter.value; journals = l })
-    (started_journals c.args.charter.value (length c.args.charter.value.roster) c.loop-position.nodes.items (rw size at c.loop-position.invariant.nodes)))
+    (ap₂ (λ (l : List (List (Side × Packet g.row.E-Msg.Denot))) (flags : List Bool). record { charter = c.args.charter.value; journals = l; cut = flags })
+    (started_journals c.args.charter.value (length c.args.charter.value.roster) c.loop-position.nodes.items (rw size at c.loop-position.invariant.nodes))
+    (no_bits _ 0 (2 * length c.args.charter.value.roster) c.empty.ensures))

@@ -1,5 +1,6 @@
 -- The nodes stand in the order of their positions.
-use Rattle.std.proofs.Common.{◌<◌, length, ◌∙◌, arith}
+use Rattle.std.proofs.Common.{◌*◌, ◌<◌, length, ◌∙◌, arith}
+use Rattle.ring_world.specs.LinkSets.{bits_from}
 use Rattle.ring_world.proofs.Links.{length-journals_of, node_of_world}
 use Rattle.ring_world.proofs.circle.Circle.node.Goals as goal
 
@@ -15,4 +16,4 @@ returns-clause-node g c =
     let within = rw (← c.self.view_is) at c.requires in
     let inside : c.args.position < length nodes.items = omega (arith, within, c.self.invariant.sound.count, length-journals_of nodes.items) in
     rw (← c.self.view_is)
-    (c.index.ensures ∙ node_of_world c.self.inside.owners nodes.items c.self.invariant.nodes_are c.args.position c.index.result.now inside)
+    (c.index.ensures ∙ node_of_world c.self.inside.owners nodes.items (bits_from c.self.inside.cut.words 0 (2 * length c.self.inside.owners.roster)) c.self.invariant.nodes_are c.args.position c.index.result.now inside)

@@ -1,7 +1,8 @@
 -- The links into one position more are marked and counted.
 use Rattle.std.proofs.Common.{arith, add-one, ◌∙◌}
-use Rattle.ring_id.specs.declared.side.Side.TheVariants.{Left}
+use Rattle.ring_id.specs.declared.side.Side.TheVariants.{Left, Right}
 use Rattle.ring_world.specs.Tallies.{IsMarked}
+use Rattle.ring_world.proofs.Cuts.{none_cut, pending_stands}
 use Rattle.ring_world.proofs.Links.{each_side_below}
 use Rattle.ring_world.proofs.world.World.begin.Goals as goal
 
@@ -10,6 +11,8 @@ loop-position-preserved g c =
     let before = c.loop-position.invariant in
     let left = c.mark.ensures in
     let right = c.mark-in-loop-position.ensures in
+    let left_stands = pending_stands g.E.RingElection.table c.in_ok-circle.circle c.loop-position.position Left in
+    let right_stands = pending_stands g.E.RingElection.table c.in_ok-circle.circle c.loop-position.position Right in
     record {
       marked =
           each_side_below (λ i side. IsMarked g.E.RingElection.table c.in_ok-circle.circle c.mark-in-loop-position.new.ready.words i side) c.loop-position.position
@@ -17,6 +20,6 @@ loop-position-preserved g c =
           (right.kept c.loop-position.position Left left.marked)
           right.marked;
       beyond = λ place past. right.beyond place past ∙ left.beyond place past ∙ before.beyond place past;
-      counted = rw add-one (omega (arith, before.counted, c.waiting-left.ensures.value, c.waiting-right.ensures.value));
+      counted = rw add-one (omega (arith, left_stands, right_stands, before.counted, c.waiting-left.ensures.value, c.waiting-right.ensures.value));
       few = omega (arith, before.few, c.waiting-left.type_inv, c.waiting-right.type_inv);
     }

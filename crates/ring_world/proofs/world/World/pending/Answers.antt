@@ -1,20 +1,20 @@
--- Where no packet is pending the world is quiet, and so every node knows.
+-- Where no packet is pending nothing stands on a link, and so every node knows.
 use Rattle.std.proofs.Common.{sym, ◌∙◌}
-use Rattle.ring_world.proofs.Quiet.{none_pending_quiet, quiet_knows, quiet_none_pending}
+use Rattle.ring_world.proofs.Quiet.{emptied_knows, emptied_none_pending, none_pending_emptied}
 use Rattle.ring_world.proofs.world.World.pending.Goals as goal
 
-pub returns-clause-idle : goal.returns-clause-idle
-returns-clause-idle g c =
+pub returns-clause-emptied : goal.returns-clause-emptied
+returns-clause-emptied g c =
     let kept = rw c.self.view_is at c.self.invariant in
     let world = c.args.self.now in
-    (λ none. none_pending_quiet g.E.RingElection.table world (sym kept.counted ∙ none), λ quiet. kept.counted ∙ quiet_none_pending g.E.RingElection.table world quiet)
+    (λ none. none_pending_emptied g.E.RingElection.table world (sym kept.counted ∙ none), λ emptied. kept.counted ∙ emptied_none_pending g.E.RingElection.table world emptied)
 
 pub returns-clause-quiet : goal.returns-clause-quiet
 returns-clause-quiet g c = λ none.
     let kept = rw c.self.view_is at c.self.invariant in
     let world = c.args.self.now in
-    quiet_knows g.E.RingElection.table g.E.RingElection.fits g.E.RingElection.winner world
+    emptied_knows g.E.RingElection.table g.E.RingElection.fits g.E.RingElection.winner world
     (g.met.E.RingElection.deciding world.charter.algorithm)
     (g.met.E.RingElection.lawful world.charter.algorithm).start_undecided
     kept.sound
-    ((returns-clause-idle g c).0 none)
+    ((returns-clause-emptied g c).0 none)

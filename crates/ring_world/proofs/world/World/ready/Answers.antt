@@ -1,6 +1,7 @@
--- The first bit is the first link's; where there is none the world is quiet, and so every node knows.
+-- The first bit is the first link's; where there is none the world is quiet, and so every node knows if
+-- no link is cut.
 use Rattle.std.proofs.Common.{ℕ, Some, sym, subst}
-use Rattle.ring_world.specs.ReadySets.{IsFirst}
+use Rattle.ring_world.specs.LinkSets.{IsFirst}
 use Rattle.ring_world.proofs.Quiet.{quiet_knows}
 use Rattle.ring_world.proofs.Tallies.{first_link, no_link}
 use Rattle.ring_world.proofs.world.World.ready.Goals as goal
@@ -20,10 +21,11 @@ returns-in_default g c =
     record {
       first = idle;
       sound = kept.sound;
-      quiet =
+      quiet = λ uncut.
           quiet_knows g.E.RingElection.table g.E.RingElection.fits g.E.RingElection.winner world
           (g.met.E.RingElection.deciding world.charter.algorithm)
           (g.met.E.RingElection.lawful world.charter.algorithm).start_undecided
           kept.sound
+          uncut
           (record { idle = idle });
     }

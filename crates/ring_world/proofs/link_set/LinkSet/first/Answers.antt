@@ -1,7 +1,7 @@
 -- The first bit of the first word that isn't 0 is the first.
 use Rattle.std.proofs.Common.{◌<◌, ◌^◌, ◌≡◌, refl, length, get_or, arith, rules}
 use Rattle.ring_world.proofs.Bits.{first_bit, no_bit}
-use Rattle.ring_world.proofs.ready_set.ReadySet.first.Goals as goal
+use Rattle.ring_world.proofs.link_set.LinkSet.first.Goals as goal
 
 pub returns-then-word-ne0 : goal.returns-then-word-ne0
 returns-then-word-ne0 c =

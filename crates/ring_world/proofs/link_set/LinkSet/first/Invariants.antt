@@ -1,5 +1,5 @@
 use Rattle.std.proofs.Common.{◌≡◌, ◌<◌, ℕ, get_or}
-use Rattle.ring_world.proofs.ready_set.ReadySet.first.Given as goal
+use Rattle.ring_world.proofs.link_set.LinkSet.first.Given as goal
 
 -- the words that were passed are 0
 abbrev pub invariant-loop-index : goal.invariant-loop-index

@@ -1,7 +1,7 @@
 -- One bit is set or cleared.
 use Rattle.std.proofs.Common.{w64}
 use Rattle.std.proofs.lemmas.Nat.Bits.{bit_at_clear_other, bit_at_clear_same, bit_at_set_other, bit_at_set_same}
-use Rattle.ring_world.proofs.ready_set.with_bit.Goals as goal
+use Rattle.ring_world.proofs.link_set.with_bit.Goals as goal
 
 pub returns-then-here-clause-here : goal.returns-then-here-clause-here
 returns-then-here-clause-here c = rw c.if-here.true (bit_at_set_same w64 c.args.word c.args.place c.requires)

@@ -1,7 +1,7 @@
 -- One word is written, and only one of its bits changes.
 use Rattle.std.proofs.Common.{◌<◌, ◌/◌, length, rules}
 use Rattle.ring_world.proofs.Bits.{bit_of-set_other, bit_of-set_same}
-use Rattle.ring_world.proofs.ready_set.ReadySet.put.Goals as goal
+use Rattle.ring_world.proofs.link_set.LinkSet.put.Goals as goal
 
 pub returns-clause-here : goal.returns-clause-here
 returns-clause-here c =

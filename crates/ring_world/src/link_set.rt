@@ -1,6 +1,7 @@
-ghost use Rattle.std.specs.Prelude.{◌≡◌, ◌≢◌, ◌<◌, ℕ, cond};
+ghost use Rattle.std.specs.Prelude.{◌≡◌, ◌≢◌, ◌<◌, ◌==◌, ℕ, cond};
 ghost use Rattle.std.specs.Int.{bit_at};
-ghost use Rattle.ring_world.specs.ReadySets.{IsFirst, bit_of, link_place};
+ghost use Rattle.ring_world.specs.LinkSets.{IsFirst, bit_of};
+ghost use Rattle.ring_world.specs.Worlds.{link_place};
 
 use ring_id::Side;
 
@@ -9,16 +10,16 @@ use ring_id::Side;
 /// A link's bit stands at twice its receiver's position, or one after it for the right side. So the
 /// order of places is the order of links: the least receiver first, left before right.
 #[derive(Clone, Copy, Debug)]
-pub struct ReadySet {
+pub struct LinkSet {
     words: [u64; 8],
 }
 
-impl ReadySet {
+impl LinkSet {
     /// The set without links.
-    pub fn empty() -> ReadySet
+    pub fn empty() -> LinkSet
         ensures { (place : ℕ) → bit_of result.words place ≡ 0 }
     {
-        ReadySet { words: [0; 8] }
+        LinkSet { words: [0; 8] }
     }
 
     /// Puts the link at a place into the set, or takes it out.
@@ -28,6 +29,14 @@ impl ReadySet {
         ensures others { (other : ℕ) → other ≢ place → bit_of self.new.words other ≡ bit_of self.old.words other }
     {
         self.words[place / 64] = with_bit(self.words[place / 64], place % 64, here);
+    }
+
+    /// Whether the link at a place is in the set.
+    pub fn has(&self, place: usize) -> bool
+        requires { place < 512 }
+        ensures { result ≡ (bit_of self.now.words place == 1) }
+    {
+        self.words[place / 64] >> (place % 64) & 1 == 1
     }
 
     /// The place of the first link in the set.
