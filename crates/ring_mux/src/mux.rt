@@ -215,7 +215,7 @@ impl<E: RingElection> Mux<E> {
     }
 
     /// Cuts the link into a member's position from a side, in a group's running term.
-    fn cut(&mut self, group: GroupName, node: NodeId, side: Side) -> Reply
+    fn cut(&mut self, group: GroupName, node: NodeNo, side: Side) -> Reply
         ensures object { Step E.is_two_way E.is_greatest self.old.object (Event.Cut group node side) result self.new.object }
         ensures worlds { StepOfWorlds E.table E.is_two_way E.is_greatest self.old (Event.Cut group node side) result self.new }
     {
