@@ -4,6 +4,7 @@ use crate::rings::{identity, name};
 use ring_chang::Chang;
 use ring_election::RingElection;
 use ring_hirschberg::Hirschberg;
+use ring_id::{Refusal, Side};
 use ring_lelann::LeLann;
 use ring_mux::{Command, Event, Mux, Reply};
 use ring_peterson::Peterson;
@@ -19,6 +20,9 @@ enum Said {
     Leads(u16, u32),
     Undecided(u16),
     Drained(u32, u128),
+    Pending(u128),
+    Idle,
+    Refused(Refusal),
     Other,
 }
 
@@ -33,6 +37,9 @@ fn shown(reply: &Reply) -> Said {
             left,
             starved: false,
         } => Said::Drained(*done, *left),
+        Reply::Pending(left) => Said::Pending(*left),
+        Reply::Idle => Said::Idle,
+        Reply::Refused(refusal) => Said::Refused(*refusal),
         _ => Said::Other,
     }
 }
@@ -55,6 +62,14 @@ fn who<E: RingElection>(number: u32) -> Result<Event<E>, Fail> {
 
 fn drain<E: RingElection>(count: u32) -> Result<Event<E>, Fail> {
     Ok(Event::Drain(name()?, count))
+}
+
+fn cut<E: RingElection>(number: u32, side: Side) -> Result<Event<E>, Fail> {
+    Ok(Event::Cut(name()?, identity(number)?, side))
+}
+
+fn deliver<E: RingElection>(number: u32, side: Side) -> Result<Event<E>, Fail> {
+    Ok(Event::Deliver(name()?, identity(number)?, side))
 }
 
 /// Runs a list of events, which is answered like this.
@@ -160,4 +175,44 @@ fn rings_of_one_elect_their_member(rt: HostRuntime) -> Result<(), Fail> {
     elects(&rt, rt.alloc(), Chang, &[7], 2, 7)?;
     elects(&rt, rt.alloc(), Hirschberg, &[7], 3, 7)?;
     elects(&rt, rt.alloc(), Peterson, &[7], 3, 7)
+}
+
+#[test]
+fn a_cut_link_lasts_as_long_as_its_term(rt: HostRuntime) -> Result<(), Fail> {
+    let mut mux = started(&rt, rt.alloc(), Chang, &[3, 1, 2])?;
+    let events = [
+        cut(2, Side::Left)?,
+        cut(2, Side::Left)?,
+        deliver(2, Side::Left)?,
+        drain(100)?,
+        Event::Pending(name()?),
+        who(3)?,
+        cut(1, Side::Right)?,
+        cut(9, Side::Left)?,
+        start()?,
+        drain(100)?,
+        who(3)?,
+    ];
+    let replies = [
+        Said::Done,
+        Said::Done,
+        Said::Idle,
+        Said::Drained(2, 2),
+        Said::Pending(2),
+        Said::Undecided(1),
+        Said::Refused(Refusal::OneWay),
+        Said::Refused(Refusal::NotInTerm),
+        Said::Started(2),
+        Said::Drained(8, 0),
+        Said::Leads(2, 3),
+    ];
+    answers(&rt, rt.alloc(), &mut mux, &events, &replies)
+}
+
+#[test]
+fn hirschberg_with_one_cut_link_is_undecided(rt: HostRuntime) -> Result<(), Fail> {
+    let mut mux = started(&rt, rt.alloc(), Hirschberg, &[5, 9])?;
+    let events = [cut(5, Side::Left)?, drain(100)?, who(9)?];
+    let replies = [Said::Done, Said::Drained(4, 1), Said::Undecided(1)];
+    answers(&rt, rt.alloc(), &mut mux, &events, &replies)
 }
