@@ -6,8 +6,8 @@ use Rattle.std.specs.Map.{set_value}
 use Rattle.ring_id.specs.declared.side.Side.{Side}
 use Rattle.ring_election.specs.Laws.{Deciding}
 use Rattle.ring_election.specs.Tables.{Table}
-use Rattle.ring_world.specs.Quiet.{AllKnow, IsQuiet}
-use Rattle.ring_world.specs.Worlds.{IsSoundWorld, IsUncut, Running, pending_of, size_of}
+use Rattle.ring_world.specs.Quiet.{AllKnow}
+use Rattle.ring_world.specs.Worlds.{IsSoundWorld, Running, pending_of, size_of}
 use Rattle.ring_world.proofs.Quiet.{emptied_knows, none_pending_emptied, quiet_knows}
 use Rattle.ring_terms.specs.Commands.{running_refusal}
 use Rattle.ring_terms.specs.Object.{GroupView, Object, OfGroup, TermView, last_term}

@@ -2,7 +2,7 @@
 
 use crate::rings::{name, number};
 use ring_election::RingElection;
-use ring_id::{NodeId, Refusal};
+use ring_id::{NodeId, Refusal, Side};
 use ring_mux::{Command, Event, Mux, Reply};
 use std::alloc::Global;
 use std::process::Abort;
@@ -16,6 +16,8 @@ pub enum Said {
     Leads(u16, NodeId),
     Undecided(u16),
     Drained(u32, u128),
+    Pending(u128),
+    Idle,
     Refused(Refusal),
     Other,
 }
@@ -32,6 +34,8 @@ pub fn shown(reply: &Reply) -> Said {
             left,
             starved: false,
         } => Said::Drained(*done, *left),
+        Reply::Pending(left) => Said::Pending(*left),
+        Reply::Idle => Said::Idle,
         Reply::Refused(refusal) => Said::Refused(*refusal),
         _ => Said::Other,
     }
@@ -65,6 +69,21 @@ pub fn who<E: RingElection>(node: u32) -> Result<Event<E>, Fail> {
 /// At most so many deliveries.
 pub fn drain<E: RingElection>(count: u32) -> Result<Event<E>, Fail> {
     Ok(Event::Drain(name()?, count))
+}
+
+/// How many packets are in flight or stuck.
+pub fn pending<E: RingElection>() -> Result<Event<E>, Fail> {
+    Ok(Event::Pending(name()?))
+}
+
+/// The link into the member with this number is cut, from a side.
+pub fn cut<E: RingElection>(node: u32, side: Side) -> Result<Event<E>, Fail> {
+    Ok(Event::Cut(name()?, number(node)?, side))
+}
+
+/// One delivery at the member with this number, from a side.
+pub fn deliver<E: RingElection>(node: u32, side: Side) -> Result<Event<E>, Fail> {
+    Ok(Event::Deliver(name()?, number(node)?, side))
 }
 
 /// Runs a list of events, which is answered like this.

@@ -1,10 +1,13 @@
 //! Groups by lists of events: what drains are answered, and whom every member names then.
 
-use crate::events::{Said, answers, create, drain, join, shown, start, who};
+use crate::events::{
+    Said, answers, create, cut, deliver, drain, join, pending, shown, start, who,
+};
 use crate::rings::identity;
 use ring_chang::Chang;
 use ring_election::RingElection;
 use ring_hirschberg::Hirschberg;
+use ring_id::{Refusal, Side};
 use ring_lelann::LeLann;
 use ring_mux::Mux;
 use ring_peterson::Peterson;
@@ -99,4 +102,44 @@ fn rings_of_one_elect_their_member(rt: HostRuntime) -> Result<(), Fail> {
     elects(&rt, rt.alloc(), Chang, &[7], 2, 7)?;
     elects(&rt, rt.alloc(), Hirschberg, &[7], 3, 7)?;
     elects(&rt, rt.alloc(), Peterson, &[7], 3, 7)
+}
+
+#[test]
+fn a_cut_link_lasts_as_long_as_its_term(rt: HostRuntime) -> Result<(), Fail> {
+    let mut mux = started(&rt, rt.alloc(), Chang, &[3, 1, 2])?;
+    let events = [
+        cut(2, Side::Left)?,
+        cut(2, Side::Left)?,
+        deliver(2, Side::Left)?,
+        drain(100)?,
+        pending()?,
+        who(3)?,
+        cut(1, Side::Right)?,
+        cut(9, Side::Left)?,
+        start()?,
+        drain(100)?,
+        who(3)?,
+    ];
+    let replies = [
+        Said::Done,
+        Said::Done,
+        Said::Idle,
+        Said::Drained(2, 2),
+        Said::Pending(2),
+        Said::Undecided(1),
+        Said::Refused(Refusal::OneWay),
+        Said::Refused(Refusal::NotInTerm),
+        Said::Started(2),
+        Said::Drained(8, 0),
+        Said::Leads(2, identity(3)?),
+    ];
+    answers(&rt, rt.alloc(), &mut mux, &events, &replies)
+}
+
+#[test]
+fn hirschberg_with_one_cut_link_is_undecided(rt: HostRuntime) -> Result<(), Fail> {
+    let mut mux = started(&rt, rt.alloc(), Hirschberg, &[5, 9])?;
+    let events = [cut(5, Side::Left)?, drain(100)?, who(9)?];
+    let replies = [Said::Done, Said::Drained(4, 1), Said::Undecided(1)];
+    answers(&rt, rt.alloc(), &mut mux, &events, &replies)
 }

@@ -1,8 +1,9 @@
-//! A world of the election of Chang and Roberts on 3, 1, 2, by its calls alone.
+//! A world of the election of Chang and Roberts on 3, 1, 2, by its calls alone, and links that are cut.
 
 use crate::drain;
-use crate::worlds::{Did, begun, deliver};
+use crate::worlds::{Did, begun, cut, deliver};
 use ring_chang::Chang;
+use ring_hirschberg::Hirschberg;
 use ring_id::{Refusal, Side};
 use std::test::Fail;
 
@@ -34,5 +35,37 @@ fn eight_deliveries_leave_nothing(rt: HostRuntime) -> Result<(), Fail> {
     assert_eq!(rt; drain(&mut world, 100)?, 1);
     assert_eq!(rt; (world.pending(), world.delivered()), (0, 8));
     assert_eq!(rt; world.ready(), None);
+    Ok(())
+}
+
+#[test]
+fn a_cut_link_keeps_what_stands_there(rt: HostRuntime) -> Result<(), Fail> {
+    let mut world = begun(rt.alloc(), Chang, &[3, 1, 2])?;
+    assert_eq!(rt; cut(&mut world, 2, Side::Left)?, (Ok(()), true));
+    assert_eq!(rt; deliver(&mut world, 2, Side::Left)?, Did::Idle);
+    assert_eq!(rt; (world.pending(), world.delivered()), (3, 0));
+    assert_eq!(rt; drain(&mut world, 100)?, 2);
+    assert_eq!(rt; (world.pending(), world.delivered()), (2, 2));
+    assert_eq!(rt; world.ready(), None);
+    assert_eq!(rt; cut(&mut world, 2, Side::Left)?, (Ok(()), true));
+    assert_eq!(rt; (world.pending(), world.delivered()), (2, 2));
+    Ok(())
+}
+
+#[test]
+fn a_link_on_which_nothing_comes_is_not_cut(rt: HostRuntime) -> Result<(), Fail> {
+    let mut world = begun(rt.alloc(), Chang, &[3, 1, 2])?;
+    let refused = Err(Refusal::OneWay);
+    assert_eq!(rt; cut(&mut world, 1, Side::Right)?, (refused, false));
+    assert_eq!(rt; drain(&mut world, 100)?, 8);
+    Ok(())
+}
+
+#[test]
+fn one_of_two_links_is_cut(rt: HostRuntime) -> Result<(), Fail> {
+    let mut world = begun(rt.alloc(), Hirschberg, &[5, 9])?;
+    assert_eq!(rt; cut(&mut world, 0, Side::Left)?, (Ok(()), true));
+    assert_eq!(rt; drain(&mut world, 100)?, 4);
+    assert_eq!(rt; world.pending(), 1);
     Ok(())
 }

@@ -47,6 +47,22 @@ pub fn deliver<E: RingElection>(
     })
 }
 
+/// Cuts the link into this position from a side, and whether it is cut then.
+pub fn cut<E: RingElection>(
+    world: &mut World<E>,
+    position: usize,
+    side: Side,
+) -> Result<(Result<(), Refusal>, bool), Fail> {
+    if position >= world.charter().roster().len() {
+        return Err("no such position".into());
+    }
+    let done = world.cut(position, side);
+    if position >= world.charter().roster().len() {
+        return Err("the ring is shorter now".into());
+    }
+    Ok((done, world.is_cut(position, side)))
+}
+
 /// The number of the leader that the node at this position knows, if it knows one.
 pub fn known<E: RingElection>(world: &World<E>, position: usize) -> Option<u32> {
     let leader = world.nodes().get(position)?.known()?;

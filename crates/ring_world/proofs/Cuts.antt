@@ -105,12 +105,6 @@ pub none_flies : {A : Type 0} (cut : Bool) (xs : List A) → cut ≡ true → co
 none_flies true xs cut = refl
 none_flies false xs cut = cc
 
--- where no link is cut
-pub none_cut : (n k : ℕ) → get_or (replicate n false) k false ≡ false
-none_cut zero k = refl
-none_cut (suc n) zero = refl
-none_cut (suc n) (suc k) = none_cut n k
-
 -- the mark of a link that isn't cut
 pub mark_by_length : {A : Type 0} (cut : Bool) (xs : List A) → cut ≡ false → cond (nat_lt 0 (length xs)) 1 0 ≡ some_or_none (cond cut [] xs)
 mark_by_length true xs uncut = cc

@@ -1,5 +1,5 @@
 -- Where nothing stands on the link its bit is cleared, else it stays set.
-use Rattle.std.proofs.Common.{◌≡◌, ◌<◌, ℕ, Bool, cond, length, sym, ap, ◌∙◌, arith}
+use Rattle.std.proofs.Common.{◌≡◌, ◌<◌, length, sym, ap, ◌∙◌, arith}
 use Rattle.ring_world.specs.LinkSets.{bit_of}
 use Rattle.ring_world.specs.Worlds.{is_cut, link_place, on_link}
 use Rattle.ring_world.proofs.Cuts.{mark_emptied, mark_standing}
