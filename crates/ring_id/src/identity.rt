@@ -118,6 +118,14 @@ impl NodeId {
     }
 }
 
+/// Whether the first of two identities is the greater one: it weighs more, or as much and its number
+/// is greater. This is the order of ranks, by which `>` compares identities everywhere.
+pub fn is_greater(a: NodeId, b: NodeId) -> bool
+    ensures { IsTrue result ↔ (b < a) }
+{
+    a > b
+}
+
 /// Whether two lists hold the same identities in the same order. Takes no memory.
 pub fn same_ids(a: &[NodeId], b: &[NodeId]) -> bool
     ensures { IsTrue result ↔ (a.now ≡ b.now) }
@@ -139,6 +147,9 @@ mod tests {
         let next = NodeId::weighted(2, 9).ok_or("no identity is 0")?;
         assert!(rt; light < heavy);
         assert!(rt; heavy < next);
+        assert!(rt; is_greater(heavy, light));
+        assert!(rt; !is_greater(heavy, next));
+        assert!(rt; !is_greater(heavy, heavy));
         assert!(rt; heavy != NodeId::new(1).ok_or("no identity is 0")?);
         assert_eq!(rt; NodeId::weighted(0, 9), None);
         assert_eq!(rt; heavy.weight(), 9);

@@ -12,7 +12,7 @@ mod side;
 mod term;
 
 pub use group_name::GroupName;
-pub use identity::{NodeId, NodeNo, same_ids};
+pub use identity::{NodeId, NodeNo, is_greater, same_ids};
 pub use refusal::{NoMemory, Refusal};
 pub use side::Side;
 pub use term::TermNo;
