@@ -7,13 +7,13 @@ fn each_thing_is_told_once(rt: HostRuntime) {
     for (text, started, leader) in [
         ("1:-", true, None),
         ("1:-", false, None),
-        ("1:7", false, Some("7")),
+        ("1:7", false, NodeId::new(7)),
         ("1:7", false, None),
         ("2:-", true, None),
         ("1:7", false, None),
-        ("3:4294967295", true, Some("4294967295")),
+        ("3:4294967295", true, NodeId::new(4294967295)),
         ("2:5", false, None),
-        ("4:7/65535", true, Some("7/65535")),
+        ("4:7/65535", true, NodeId::weighted(7, 65535)),
         ("4:7/65535", false, None),
         ("1000:-", true, None),
     ] {
