@@ -31,6 +31,7 @@ fn each_thing_is_told_once(rt: HostRuntime) {
         "x:1",
         "1:x",
         "65536:1",
+        "1:0",
         "1:7/",
         "1:/7",
         "1:7/x",
