@@ -1,11 +1,13 @@
 //! What a watch has told of a group's terms, and what is new in a reply.
 ghost use Rattle.std.specs.Prelude.{◌≡◌, ◌<◌, ◌↔◌, IsTrue, max};
 
-/// A term in a reply to `terms`: its number, and its leader if it is known, as the reply spells it.
+use ring_id::NodeId;
+
+/// A term in a reply to `terms`: its number, and its leader if it is known.
 #[derive(Clone, Copy, Debug, PartialEq, Eq)]
-pub struct Term<'a> {
+pub struct Term {
     pub number: u16,
-    pub leader: Option<&'a str>,
+    pub leader: Option<NodeId>,
 }
 
 /// The number in the word of an identity: what stands before its weight, if it has one.
@@ -14,7 +16,7 @@ pub fn number_in(word: &str) -> &str {
 }
 
 /// The term that `T:N`, `T:N/V` or `T:-` is.
-pub fn read_term(text: &str) -> Option<Term<'_>> {
+pub fn read_term(text: &str) -> Option<Term> {
     let (number, leader) = text.split_once(':')?;
     let number = number.parse().ok()?;
     if leader == "-" {
@@ -23,30 +25,25 @@ pub fn read_term(text: &str) -> Option<Term<'_>> {
             leader: None,
         });
     }
-    if !is_identity(leader) {
-        return None;
-    }
     Some(Term {
         number,
-        leader: Some(leader),
+        leader: Some(read_identity(leader)?),
     })
 }
 
-// Whether this is a number, or a number and a weight.
-fn is_identity(word: &str) -> bool {
-    match word.split_once('/') {
-        Some((number, weight)) => number.parse::<u32>().is_ok() && weight.parse::<u16>().is_ok(),
-        None => word.parse::<u32>().is_ok(),
-    }
+// The identity that is a number, or a number and a weight.
+fn read_identity(word: &str) -> Option<NodeId> {
+    let (number, weight) = word.split_once('/').unwrap_or((word, "0"));
+    NodeId::weighted(number.parse().ok()?, weight.parse().ok()?)
 }
 
 /// What is new in a term.
 #[derive(Clone, Copy, Debug, PartialEq, Eq)]
-pub struct News<'a> {
+pub struct News {
     /// It has started.
     pub started: bool,
     /// Its leader has become known.
-    pub leader: Option<&'a str>,
+    pub leader: Option<NodeId>,
 }
 
 /// The last term that was told, and whether its leader was.
@@ -66,7 +63,7 @@ impl Told {
     }
 
     /// What is new in this term, which counts as told from now on. An earlier one has nothing new.
-    pub fn take<'a>(&mut self, term: Term<'a>) -> News<'a>
+    pub fn take(&mut self, term: Term) -> News
         ensures started { IsTrue result.started ↔ self.old.term < term.number }
         ensures last { self.new.term ≡ max self.old.term term.number }
     {

@@ -6,6 +6,7 @@ use crate::client::Client;
 use crate::fault::Fault;
 use crate::reply::Reply;
 use crate::told::{News, Told, number_in, read_term};
+use ring_id::NodeId;
 use std::alloc::Global;
 use std::io::{Read, Write};
 use std::thread;
@@ -153,14 +154,24 @@ impl Watcher {
 }
 
 // Prints what is new in a term.
-fn print_news(rt: &impl Print, term: u16, news: News<'_>) -> Result<(), Fault> {
+fn print_news(rt: &impl Print, term: u16, news: News) -> Result<(), Fault> {
     if news.started && println!(rt; "term {term} started").is_err() {
         return Err(Fault::Write);
     }
-    if let Some(leader) = news.leader
-        && println!(rt; "term {term} leader {leader}").is_err()
-    {
-        return Err(Fault::Write);
+    match news.leader {
+        Some(leader) => print_leader(rt, term, leader),
+        None => Ok(()),
     }
-    Ok(())
+}
+
+// Prints who leads a term, with its weight where it has one.
+fn print_leader(rt: &impl Print, term: u16, leader: NodeId) -> Result<(), Fault> {
+    let printed = match leader.weight() {
+        0 => println!(rt; "term {term} leader {}", leader.get()),
+        weight => println!(rt; "term {term} leader {}/{weight}", leader.get()),
+    };
+    match printed {
+        Ok(()) => Ok(()),
+        Err(_) => Err(Fault::Write),
+    }
 }
