@@ -1,82 +1,63 @@
 -- Sending: what waits in the outbox goes to the owners' passes, one envelope at a time.
-use Rattle.std.proofs.Common.{◌≡◌, ◌+◌, ◌<◌, ℕ, zero, suc, true, false, Bool, cond, List, [], ◌∷◌, ◌++◌, length, Option, Some, None, slice_get, set, refl, sym, ap, ◌∙◌, subst, inl, inr, ◌⊎◌, append_assoc, eq-eqb}
+use Rattle.std.proofs.Common.{◌≡◌, ◌+◌, ℕ, zero, suc, List, [], ◌∷◌, ◌++◌, Some, slice_get, set, refl, sym, ap, ◌∙◌, subst, inl, inr, append_assoc, eq-eqb}
 use Rattle.std.specs.Prelude.{◌==◌, if◌then◌else◌}
 use Rattle.std.proofs.lemmas.List.{append-nil, length-set}
 use Rattle.std.proofs.lemmas.Bool.{cases_eq, ne_eqb}
 use Rattle.ring_inbox.specs.Values.{SenderLog}
 use Rattle.ring_node.specs.Envelopes.{Sent}
 use Rattle.ring_workers.specs.declared.item.Item.{Item}
-use Rattle.ring_workers.specs.declared.item.Item.TheVariants.{Begin, Packet, Stop}
-use Rattle.ring_workers.specs.Lists.{IsOneOf}
+use Rattle.ring_workers.specs.declared.item.Item.TheVariants.{Packet}
 use Rattle.ring_workers.specs.Owners.{owner_of, receiver_of}
-use Rattle.ring_workers.specs.Sends.{IsPosted, Sends, Stored, packets_in}
-use Rattle.ring_workers.proofs.Among.{among_append, among_cons, among_first, among_left, among_right}
+use Rattle.ring_workers.specs.Sends.{Sends, Stored, packets_to}
 
 -- a pass that stored these items more
 abbrev storing : {T : Type 0} → SenderLog T → List T → SenderLog T
 storing pass items = record pass { stored = pass.stored ++ items }
 
--- the envelopes among two lists of items
-pub packets_in-append : {E S M : Type 0} (xs ys : List (Item E M S)) → packets_in (xs ++ ys) ≡ packets_in xs ++ packets_in ys
-packets_in-append [] ys = refl
-packets_in-append (Begin c ∷ xs) ys = packets_in-append xs ys
-packets_in-append (Packet e ∷ xs) ys = ap (λ l. e ∷ l) (packets_in-append xs ys)
-packets_in-append (Stop ∷ xs) ys = packets_in-append xs ys
-
--- an envelope that waits, or was stored, does so after more was sent
-pub posted_on : {E S M : Type 0} (workers : ℕ) (first second : ℕ → List (Item E M S)) (mid after : List (Sent E M)) (e : Sent E M)
-    → IsPosted workers first mid e
-    → ((e : Sent E M) → IsOneOf mid e → IsPosted workers second after e)
-    → IsPosted workers (λ v. first v ++ second v) after e
-posted_on workers first second mid after e posted kept =
-    let owner : ℕ = owner_of workers (receiver_of e) in
-    rw (packets_in-append (first owner) (second owner))
-    (elim (among_append mid (packets_in (first owner)) e posted) [
-      | inl waits ↦
-          elim (among_append after (packets_in (second owner)) e (kept e waits)) [
-            | inl still ↦ among_left after _ e still
-            | inr stored ↦ among_right after _ e (among_right (packets_in (first owner)) _ e stored)
-          ]
-      | inr stored ↦ among_right after _ e (among_left (packets_in (first owner)) _ e stored)
-    ])
+-- of two lists, the packets that go to a worker
+pub packets_to-append : {E S M : Type 0} (workers number : ℕ) (xs ys : List (Sent E M))
+    → packets_to {S = S} workers number (xs ++ ys) ≡ packets_to workers number xs ++ packets_to workers number ys
+packets_to-append workers number [] ys = refl
+packets_to-append {E} {S} {M} workers number (e ∷ xs) ys =
+    elim (cases_eq (owner_of workers (receiver_of e)) number) [
+      | inl same ↦ rw (eq-eqb (owner_of workers (receiver_of e)) number same) (ap (λ (l : List (Item E M S)). Packet e ∷ l) (packets_to-append workers number xs ys))
+      | inr differ ↦ rw (ne_eqb (owner_of workers (receiver_of e)) number differ) (packets_to-append workers number xs ys)
+    ]
 
 -- what passes stored, and then stored more
-pub stored_on : {E S M : Type 0} (old mid new : List (SenderLog (Item E M S))) (first second : ℕ → List (Item E M S))
-    → Stored old mid first → Stored mid new second → Stored old new (λ v. first v ++ second v)
-stored_on old mid new first second a b = record {
+pub stored_on : {E S M : Type 0} (workers : ℕ) (first second : List (Sent E M)) (old mid new : List (SenderLog (Item E M S)))
+    → Stored workers first old mid → Stored workers second mid new → Stored workers (first ++ second) old new
+stored_on {E} {S} {M} workers first second old mid new a b = record {
   count = b.count ∙ a.count;
   each = λ v pass there.
-      b.each v (record pass { stored = pass.stored ++ first v }) (a.each v pass there)
-      ∙ ap (λ (l : List _). Some (record pass { stored = l })) (append_assoc pass.stored (first v) (second v));
+      b.each v (record pass { stored = pass.stored ++ packets_to workers v first }) (a.each v pass there)
+      ∙ ap (λ (l : List (Item E M S)). Some (record pass { stored = l }))
+      (append_assoc pass.stored (packets_to workers v first) (packets_to workers v second) ∙ ap (λ (l : List (Item E M S)). pass.stored ++ l) (sym (packets_to-append workers v first second)));
 }
 
 -- passes that stored nothing
-pub stored_none : {E S M : Type 0} (passes : List (SenderLog (Item E M S))) → Stored passes passes (λ _. [])
-stored_none passes = record {
+pub stored_none : {E S M : Type 0} (workers : ℕ) (passes : List (SenderLog (Item E M S))) → Stored workers [] passes passes
+stored_none workers passes = record {
   count = refl;
   each = λ v pass there. there ∙ ap (λ (l : List _). Some (record pass { stored = l })) (sym (append-nil pass.stored));
 }
 
 -- nothing is sent
 pub sends_none : {E S M : Type 0} (workers : ℕ) (waiting : List (Sent E M)) (passes : List (SenderLog (Item E M S))) → Sends workers waiting waiting passes passes
-sends_none workers waiting passes = record {
-  stored = λ _. [];
-  passes = stored_none passes;
-  kept = λ e waits. among_left waiting [] e waits;
-}
+sends_none workers waiting passes = record { sent = []; front = refl; passes = stored_none workers passes }
 
 -- two lots are sent
 pub sends_on : {E S M : Type 0} (workers : ℕ) (waiting mid after : List (Sent E M)) (old between new : List (SenderLog (Item E M S)))
     → Sends workers waiting mid old between → Sends workers mid after between new → Sends workers waiting after old new
-sends_on workers waiting mid after old between new a b = record {
-  stored = λ v. a.stored v ++ b.stored v;
-  passes = stored_on old between new a.stored b.stored a.passes b.passes;
-  kept = λ e waits. posted_on workers a.stored b.stored mid after e (a.kept e waits) b.kept;
+sends_on {E} {S} {M} workers waiting mid after old between new a b = record {
+  sent = a.sent ++ b.sent;
+  front = a.front ∙ ap (λ (l : List (Sent E M)). a.sent ++ l) b.front ∙ sym (append_assoc a.sent b.sent after);
+  passes = stored_on workers a.sent b.sent old between new a.passes b.passes;
 }
 
 -- the item, at one place
 at_place : {T : Type 0} → ℕ → T → ℕ → List T
-at_place place item v = cond (place == v) (item ∷ []) []
+at_place place item v = if place == v then item ∷ [] else []
 
 at_own : {T : Type 0} (place : ℕ) (item : T) → at_place place item place ≡ item ∷ []
 unfolding at_place
@@ -121,17 +102,14 @@ set_at_place {T} xs place pass item here v other there =
 pub sends_front : {E S M : Type 0} (workers : ℕ) (e : Sent E M) (rest : List (Sent E M)) (passes : List (SenderLog (Item E M S))) (pass : SenderLog (Item E M S))
     → slice_get passes (owner_of workers (receiver_of e)) ≡ Some pass
     → Sends workers (e ∷ rest) rest passes (set passes (owner_of workers (receiver_of e)) (record pass { stored = pass.stored ++ Packet e ∷ [] }))
+unfolding at_place
 sends_front {E} {S} {M} workers e rest passes pass there = record {
-  stored = at_place (owner_of workers (receiver_of e)) (Packet e);
+  sent = e ∷ [];
+  front = refl;
   passes = record {
     count = length-set passes _ _;
     each = set_at_place passes (owner_of workers (receiver_of e)) pass (Packet e) there;
   };
-  kept = λ d waits. elim (among_cons e rest d waits) [
-    | inl same ↦ subst (λ x. IsPosted {S = S} workers (at_place (owner_of workers (receiver_of e)) (Packet e)) rest x) same
-        (rw (at_own {T = Item E M S} (owner_of workers (receiver_of e)) (Packet e)) (among_right rest (e ∷ []) e (among_first e [])))
-    | inr waits ↦ among_left rest _ d waits
-  ];
 }
 
 -- to write what stands there changes nothing

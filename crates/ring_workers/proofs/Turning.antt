@@ -1,5 +1,5 @@
 -- One turn of a worker, and a sending, continue its run.
-use Rattle.std.proofs.Common.{◌≡◌, ◌+◌, ◌<◌, ◌≤◌, ℕ, zero, suc, List, [], ◌∷◌, ◌++◌, length, map, Option, Some, None, slice_get, refl, sym, ap, ◌∙◌, subst, inl, inr, ◌⊎◌, append_assoc, arith}
+use Rattle.std.proofs.Common.{◌≡◌, ◌+◌, ◌<◌, ◌≤◌, ℕ, List, [], ◌∷◌, ◌++◌, map, Option, Some, None, refl, sym, ap, ◌∙◌, subst, inl, inr, append_assoc, arith}
 use Rattle.std.specs.Prelude.{option_to_list}
 use Rattle.std.proofs.lemmas.List.{append-nil, map-append}
 use Rattle.ring_election.specs.Tables.{Table}
@@ -12,13 +12,12 @@ use Rattle.ring_workers.specs.declared.item.Item.TheVariants.{Begin, Packet, Sto
 use Rattle.ring_workers.specs.Holdings.{AllSeated, Holding, IsOlder, Steps, charters_of, nodes_of}
 use Rattle.ring_workers.specs.Lists.{IsOneOf}
 use Rattle.ring_workers.specs.Runs.{AllDone, IsDone, IsHandled, OneTerm, Ran, StepsFor, Turns, charter_of}
-use Rattle.ring_workers.specs.Sends.{IsPosted, Sends, Stored, packets_in}
-use Rattle.ring_workers.specs.Owners.{owner_of, receiver_of}
+use Rattle.ring_workers.specs.Sends.{Sends}
 use Rattle.ring_workers.specs.Goings.{Grows, HasReceived, IsSent}
 use Rattle.ring_workers.specs.Seatings.{HasNodeAt}
 use Rattle.ring_workers.proofs.Among.{among_append, among_last, among_left, among_map, among_none, among_one, among_right}
 use Rattle.ring_workers.proofs.Growing.{received_later, seated_later}
-use Rattle.ring_workers.proofs.Running.{posted_on, stored_none, stored_on}
+use Rattle.ring_workers.proofs.Running.{stored_none, stored_on}
 
 -- the items that were taken, without their senders' numbers
 abbrev items_in : {E S M : Type 0} → List (ℕ × Item E M S) → List (Item E M S)
@@ -35,8 +34,8 @@ ran_none {E} {S} {M} t number workers from passes holding number_is workers_is e
   took = ap (λ (l : List (ℕ × Item E M S)). record from { taken = l }) (sym (append-nil from.taken));
   handled = [];
   rest = refl;
-  stored = λ _. [];
-  passes = stored_none passes;
+  sent = [];
+  passes = stored_none workers passes;
   posted = λ node there e sent. absurd (among_none (let h : IsOneOf (nodes_of holding) node = there in rw empty at h));
   done = record { each = λ _ item c there _ _. absurd (among_none there) };
   source = λ c there. absurd (among_none (let h : IsOneOf (charters_of holding) c = there in rw empty at h));
@@ -47,35 +46,26 @@ pub ran_send : {E S M : Type 0} (t : E → Table S M) (number workers : ℕ) (fr
     (holding : Holding E M) (outbox after : List (Sent E M)) (dropped : ℕ) (held : Option (Item E M S))
     → Ran t number workers from to old mid holding outbox dropped held → Sends workers outbox after mid new
     → Ran t number workers from to old new holding after dropped held
-ran_send t number workers from to old mid new holding outbox after dropped held ran sends = record {
+ran_send {E} {S} {M} t number workers from to old mid new holding outbox after dropped held ran sends = record {
   number_is = ran.number_is;
   workers_is = ran.workers_is;
   taken = ran.taken;
   took = ran.took;
   handled = ran.handled;
   rest = ran.rest;
-  stored = λ v. ran.stored v ++ sends.stored v;
-  passes = stored_on old mid new ran.stored sends.stored ran.passes sends.passes;
-  posted = λ node there e sent. posted_on workers ran.stored sends.stored outbox after e (ran.posted node there e sent) sends.kept;
+  sent = ran.sent ++ sends.sent;
+  passes = stored_on workers ran.sent sends.sent old mid new ran.passes sends.passes;
+  posted = λ node there e sent.
+      subst (λ (l : List (Sent E M)). IsOneOf l e) (ap (λ (l : List (Sent E M)). ran.sent ++ l) sends.front ∙ sym (append_assoc ran.sent sends.sent after))
+      (ran.posted node there e sent);
   done = ran.done;
   source = ran.source;
 }
 
--- an envelope waits, or was stored, when more waits
-posted_more : {E S M : Type 0} (workers : ℕ) (stored : ℕ → List (Item E M S)) (outbox more : List (Sent E M)) (e : Sent E M)
-    → IsPosted workers stored outbox e → IsPosted workers stored (outbox ++ more) e
-posted_more workers stored outbox more e posted =
-    let at : List _ = packets_in (stored (owner_of workers (receiver_of e))) in
-    elim (among_append outbox at e posted) [
-      | inl waits ↦ among_left (outbox ++ more) at e (among_left outbox more e waits)
-      | inr there ↦ among_right (outbox ++ more) at e there
-    ]
-
--- what is newly sent waits
-posted_new : {E S M : Type 0} (workers : ℕ) (stored : ℕ → List (Item E M S)) (outbox more : List (Sent E M)) (e : Sent E M)
-    → IsOneOf more e → IsPosted workers stored (outbox ++ more) e
-posted_new workers stored outbox more e there =
-    among_left (outbox ++ more) (packets_in (stored (owner_of workers (receiver_of e)))) e (among_right outbox more e there)
+-- an envelope that was stored or waits does so when more waits
+posted_more : {E M : Type 0} (sent outbox more : List (Sent E M)) (e : Sent E M) → IsOneOf (sent ++ outbox) e → IsOneOf (sent ++ (outbox ++ more)) e
+posted_more {E} {M} sent outbox more e posted =
+    subst (λ (l : List (Sent E M)). IsOneOf l e) (append_assoc sent outbox more) (among_left (sent ++ outbox) more e posted)
 
 -- of fewer items, too, those of a group are of one term
 one_term_before : {E S M : Type 0} (items more : List (Item E M S)) (c : Charter E) → OneTerm (items ++ more) c → OneTerm items c
@@ -128,12 +118,12 @@ module _ {E S M : Type 0} (t : E → Table S M) (number workers : ℕ) (from to 
       comes ∙ ap (λ (r : ReceiverLog (Item E M S)). record r { taken = r.taken ++ (sender, item) ∷ [] }) ran.took
       ∙ ap (λ (l : List (ℕ × Item E M S)). record from { taken = l }) (append_assoc from.taken ran.taken ((sender, item) ∷ []))
 
-  posted_after : (node : Seated E M) → IsOneOf (nodes_of new) node → (e : Sent E M) → IsSent t node e → IsPosted workers ran.stored after e
+  posted_after : (node : Seated E M) → IsOneOf (nodes_of new) node → (e : Sent E M) → IsSent t node e → IsOneOf (ran.sent ++ after) e
   posted_after node there e sends =
       rw steps.behind
       (elim (steps.posted node there e sends) [
-        | inl earlier ↦ posted_more workers ran.stored outbox steps.more e (ran.posted earlier.0 earlier.1 e earlier.2)
-        | inr waits ↦ posted_new workers ran.stored outbox steps.more e waits
+        | inl earlier ↦ posted_more ran.sent outbox steps.more e (ran.posted earlier.0 earlier.1 e earlier.2)
+        | inr waits ↦ among_right ran.sent (outbox ++ steps.more) e (among_right outbox steps.more e waits)
       ])
 
   among_items : (x : Item E M S) → IsOneOf (items_in ran.taken) x → IsOneOf items x
@@ -193,7 +183,7 @@ module _ {E S M : Type 0} (t : E → Table S M) (number workers : ℕ) (from to 
     took = took_more;
     handled = ran.handled;
     rest = items_more ran.taken sender item ∙ ap (λ l. l ++ item ∷ []) (ran.rest ∙ append-nil ran.handled);
-    stored = ran.stored;
+    sent = ran.sent;
     passes = ran.passes;
     posted = posted_after;
     done = record { each = done_before };
@@ -210,7 +200,7 @@ module _ {E S M : Type 0} (t : E → Table S M) (number workers : ℕ) (from to 
     took = took_more;
     handled = ran.handled ++ item ∷ [];
     rest = items_more ran.taken sender item ∙ ap (λ l. l ++ item ∷ []) (ran.rest ∙ append-nil ran.handled) ∙ sym (append-nil (ran.handled ++ item ∷ []));
-    stored = ran.stored;
+    sent = ran.sent;
     passes = ran.passes;
     posted = posted_after;
     done = done_after handled;
@@ -235,7 +225,7 @@ ran_stop {E} {S} {M} t number workers from to next passes sent holding outbox be
           ∙ ap (λ (l : List (ℕ × Item E M S)). record from { taken = l }) (append_assoc from.taken ran.taken more);
       handled = handled;
       rest = items_more ran.taken sender item ∙ ap (λ l. l ++ item ∷ []) (ran.rest ∙ append-nil ran.handled) ∙ rest;
-      stored = ran.stored;
+      sent = ran.sent;
       passes = ran.passes;
       posted = ran.posted;
       done = record {

@@ -13,7 +13,7 @@ use Rattle.ring_workers.specs.declared.run.Next.TheVariants as next
 use Rattle.ring_workers.specs.Goings.{HasReceived, IsSent}
 use Rattle.ring_workers.specs.Holdings.{AllSeated, Holding, IsOlder, Steps, charters_of, nodes_of}
 use Rattle.ring_workers.specs.Lists.{IsOneOf}
-use Rattle.ring_workers.specs.Sends.{IsPosted, Stored}
+use Rattle.ring_workers.specs.Sends.{Stored}
 
 module _ {E M S : Type 0} where
   -- the charter that an item is of, if it is of one
@@ -68,8 +68,9 @@ module _ {E M S : Type 0} where
       pub end : (held ≡ Some item) ⊎ ((held ≡ None) × IsHandled old new dropped item)
 
     -- What a worker of this number has done since its receiver's pass was `from` and its senders' passes were `old`:
-    -- what it took, handled and has in hand; each packet that a node of it has sent waits or was stored; what was
-    -- handled is done; and it holds charters of groups and terms of items alone.
+    -- what it took, handled and has in hand; what its passes stored, which is packets alone, each by the pass to its
+    -- receiver's owner; each packet that a node of it has sent was stored so or waits; what was handled is done; and it
+    -- holds charters of groups and terms of items alone.
     pub record Ran (number workers : ℕ) (from to : ReceiverLog (Item E M S)) (old new : List (SenderLog (Item E M S)))
         (holding : Holding E M) (outbox : List (Sent E M)) (dropped : ℕ) (held : Option (Item E M S)) : Type 0 where
       pub number_is : holding.number ≡ number
@@ -78,9 +79,9 @@ module _ {E M S : Type 0} where
       pub took : to ≡ record from { taken = from.taken ++ taken }
       pub handled : List (Item E M S)
       pub rest : map (λ pair. pair.1) taken ≡ handled ++ option_to_list held
-      pub stored : ℕ → List (Item E M S)
-      pub passes : Stored old new stored
-      pub posted : (node : Seated E M) → IsOneOf (nodes_of holding) node → (e : Sent E M) → IsSent t node e → IsPosted workers stored outbox e
+      pub sent : List (Sent E M)
+      pub passes : Stored workers sent old new
+      pub posted : (node : Seated E M) → IsOneOf (nodes_of holding) node → (e : Sent E M) → IsSent t node e → IsOneOf (sent ++ outbox) e
       pub done : AllDone number workers (nodes_of holding) dropped (map (λ pair. pair.1) taken) handled
       pub source : (c : Charter E) → IsOneOf (charters_of holding) c →
           (item : Item E M S) × (d : Charter E) × IsOneOf (map (λ pair. pair.1) taken) item × (charter_of item ≡ Some d) × (d.group ≡ c.group) × (d.term ≡ c.term)

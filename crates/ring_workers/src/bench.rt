@@ -123,6 +123,8 @@ impl<E: RingElection> Bench<E> {
         ensures outbox { result.outbox ≡ self.outbox }
         ensures dropped { result.dropped ≡ self.dropped }
         ensures held { result.held ≡ held }
+        ensures unfiled { result.unfiled ≡ self.unfiled }
+        ensures why { result.why ≡ why }
         ensures owned { AllOwned self.nodes.number self.nodes.workers (nodes_of self.nodes) }
         ensures apart { NoTwoAlike (nodes_of self.nodes) }
     {

@@ -46,11 +46,11 @@ struct Door<L> {
 ///
 /// As many threads as there may be sessions accept one client after another, so a further client waits until
 /// a session has ended. Each thread has a seat of the table for its sessions. A session that comes when the
-/// seat is spent gets one of those that are kept for that. Sessions are numbered from 1 in the order of their accepts, and from 1 again
-/// after 4294967295. A session's fault ends that session alone. A failed accept, as for want of
-/// descriptors or memory, is told on standard error the first time, and is tried again after 100 ms. So
-/// it returns only where it could not begin: where memory was refused, a write failed or a thread could
-/// not be started.
+/// seat is spent gets one of those that are kept for that. Sessions are numbered from 1 in the order of their
+/// accepts, and from 1 again after 4294967295. A session's fault ends that session alone. A failed accept, as
+/// for want of descriptors or memory, is told on standard error the first time, and is tried again after
+/// 100 ms. So it returns only where it could not begin: where memory was refused, a write failed or a thread
+/// could not be started.
 pub fn run_loop<R, L, O>(
     rt: &R,
     listener: L,

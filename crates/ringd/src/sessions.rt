@@ -1,5 +1,5 @@
 //! The service that the program runs, and its sessions over sockets.
-ghost use Rattle.std.specs.Prelude.{◌≡◌, ◌<◌, ◌≤◌, ◌*◌, ◌+◌, ◌^◌, All, IfErr, IfOk, vec_len};
+ghost use Rattle.std.specs.Prelude.{◌≡◌, ◌<◌, ◌≤◌, ◌*◌, ◌+◌, ◌^◌, ◌↔◌, All, IfErr, IfOk, IsTrue, vec_len};
 ghost use Rattle.ringd.specs.Faults.{IsOfStart};
 ghost use Rattle.ringd.specs.declared.fault.ProgramFault.TheVariants.{NoMemory};
 
@@ -108,7 +108,9 @@ pub trait Serving: Drop {
 }
 
 impl Serving for Guest<'_> {
-    fn is_spent(&self) -> bool {
+    fn is_spent(&self) -> bool
+        ensures { IsTrue result ↔ (self.now.seat.left ≡ 0) }
+    {
         self.seat.is_spent()
     }
 

@@ -1,9 +1,11 @@
-use super::{Door, Limits, run_loop};
+use super::{Door, Limits, run_loop, with_turns};
 use crate::config::Config;
 use crate::fault::ProgramFault;
+use crate::sessions::Serving;
 use ring_lines::DripOut;
 use std::io;
 use std::net::{Ipv4Addr, Net, OpenListener, SocketAddr, TcpStream};
+use std::sync::{Mutex, Wait};
 use std::test::Fail;
 
 // A listener whose accept fails.
@@ -64,6 +66,42 @@ fn a_door_numbers_its_guests(rt: HostRuntime) -> Result<(), Fail> {
         let _client = rt.connect(address)?;
         door.last = last;
         assert!(rt; matches!(door.admit(&rt), Some((number, _)) if number == wanted));
+    }
+    Ok(())
+}
+
+// A guest with a number, whose seat is spent or not. It serves nobody.
+#[derive(Drop)]
+struct Idler {
+    number: u32,
+    is_spent: bool,
+}
+
+impl Serving for Idler {
+    fn is_spent(&self) -> bool {
+        self.is_spent
+    }
+
+    fn serve<R: Wait>(&mut self, _rt: &R, _session: u32, _stream: &TcpStream, _places: bool) {}
+}
+
+#[test]
+fn a_spent_guest_gives_way_to_a_spare_one(rt: HostRuntime) -> Result<(), Fail> {
+    let mut idlers = Vec::new(rt.alloc());
+    let fresh = Idler {
+        number: 2,
+        is_spent: false,
+    };
+    if let Err(fresh) = idlers.push(fresh) {
+        idlers.push(fresh.value)?;
+    }
+    let spare = Mutex::new(idlers);
+    for (is_spent, wanted) in [(false, 1), (true, 2), (true, 1)] {
+        let idler = Idler {
+            number: 1,
+            is_spent,
+        };
+        assert_eq!(rt; with_turns(&rt, idler, &spare).number, wanted);
     }
     Ok(())
 }
