@@ -1,56 +1,39 @@
 //! A node of the election of Chang and Roberts on 3, 1, 2, receipt by receipt.
 
-use crate::rings::{charter, identity, seated};
+use crate::nodes::{counts, offer, seated, shown};
+use crate::rings::{charter, identity, share};
 use ring_chang::Chang;
 use ring_id::Side;
 use ring_node::{Envelope, Node, Packet, TakeFault};
 use std::alloc::Global;
 use std::process::Abort;
-use std::sync::Arc;
 use std::test::Fail;
 
 /// The envelope of what a node has sent to the right at this place.
 fn sent(node: &Node<Chang>, place: usize) -> Result<Envelope<Chang>, Fail> {
-    let copy = Arc::try_clone(node.charter())?;
-    let envelope = node.envelope(copy, Side::Right, place);
+    let envelope = node.envelope(share(node.charter())?, Side::Right, place);
     Ok(envelope.ok_or("nothing was sent there")?)
-}
-
-/// The number of an envelope's message, and its index.
-fn shown(envelope: &Envelope<Chang>) -> Option<(u32, usize)> {
-    match envelope.packet() {
-        Packet::Algo(id) => Some((id.get(), envelope.index())),
-        Packet::Leader(_) => None,
-    }
-}
-
-/// How many packets a node has taken from the left, and sent to the right.
-fn counts(node: &Node<Chang>) -> (usize, usize) {
-    (node.taken(Side::Left), node.sent(Side::Right))
 }
 
 /// Takes an envelope; whether there was a report.
 fn told(node: &mut Node<Chang>, envelope: Envelope<Chang>) -> Result<bool, Fail> {
-    match node.take(envelope) {
+    match offer(node, envelope)? {
         Ok(report) => Ok(report.is_some()),
         Err((fault, _)) => Err(fault.into()),
     }
 }
 
-/// Offers an envelope that is not taken: it comes back, and the node stays as it was.
+/// Offers an envelope that is not taken, for this fault.
 fn refused(
     rt: &impl Abort,
     node: &mut Node<Chang>,
     envelope: Envelope<Chang>,
     why: TakeFault,
 ) -> Result<(), Fail> {
-    let (before, offered) = (counts(node), shown(&envelope));
-    let Err((fault, back)) = node.take(envelope) else {
+    let Err((fault, _)) = offer(node, envelope)? else {
         return Err("it was taken".into());
     };
     assert_eq!(rt; fault, why);
-    assert_eq!(rt; counts(node), before);
-    assert_eq!(rt; shown(&back), offered);
     Ok(())
 }
 

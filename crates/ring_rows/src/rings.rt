@@ -1,11 +1,12 @@
-//! The rings of the rows: charters, and nodes on them.
+//! The rings of the rows, and their charters.
+ghost use Rattle.std.specs.Prelude.{◌≡◌, IfOk};
 
-use ring_chang::Chang;
+use crate::memory::{add, insist};
 use ring_election::RingElection;
-use ring_id::{GroupName, NodeId, TermNo};
-use ring_node::{Charter, Node};
+use ring_id::{GroupName, NoMemory, NodeId, TermNo};
+use ring_node::Charter;
 use ring_roster::Roster;
-use std::alloc::Global;
+use std::alloc::{AllocError, Global};
 use std::sync::Arc;
 use std::test::Fail;
 
@@ -23,9 +24,9 @@ pub fn name() -> Result<GroupName, Fail> {
 pub fn ring(alloc: Global, numbers: &[u32]) -> Result<Roster, Fail> {
     let mut members = Vec::new(alloc);
     for number in numbers {
-        members.push(identity(*number)?)?;
+        add(&mut members, identity(*number)?)?;
     }
-    Ok(Roster::from_members(alloc, &members)?)
+    Ok(insist(|| Roster::from_members(alloc, &members))?)
 }
 
 /// The charter of this term of a group on the ring of these numbers.
@@ -36,18 +37,19 @@ pub fn charter<E: RingElection>(
     numbers: &[u32],
 ) -> Result<Arc<Charter<E>>, Fail> {
     let term = TermNo::new(term).ok_or("terms go from 1 to 1000")?;
-    let roster = ring(alloc, numbers)?;
-    Ok(Charter::new(alloc, name()?, term, algorithm, roster)?)
+    let group = name()?;
+    match Charter::new(alloc, group, term, algorithm, ring(alloc, numbers)?) {
+        Ok(charter) => Ok(charter),
+        Err(NoMemory) => Ok(Charter::new(alloc, group, term, algorithm, ring(alloc, numbers)?)?),
+    }
 }
 
-/// The node at this position, which has received nothing.
-pub fn seated(
-    alloc: Global,
-    charter: &Arc<Charter<Chang>>,
-    position: usize,
-) -> Result<Node<Chang>, Fail> {
-    if position >= charter.roster().len() {
-        return Err("no such position".into());
+/// One more holder of a charter.
+pub fn share<E: RingElection>(charter: &Arc<Charter<E>>) -> Result<Arc<Charter<E>>, AllocError>
+    ensures { IfOk result (λ copy. copy.value ≡ charter.now.value) }
+{
+    match Arc::try_clone(charter) {
+        Ok(copy) => Ok(copy),
+        Err(_) => Arc::try_clone(charter),
     }
-    Ok(Node::seat(alloc, Arc::try_clone(charter)?, position)?)
 }

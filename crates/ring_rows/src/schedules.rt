@@ -46,9 +46,15 @@ fn write_link(text: &mut String, sender: &Node<Any>, receiver: &Node<Any>) -> Re
     Ok(())
 }
 
+/// How many bytes such a text has at most.
+const ROOM: usize = 64;
+
 /// What is in flight in a world.
 fn in_flight(alloc: Global, world: &World<Any>) -> Result<String, Fail> {
-    let mut text = String::new(alloc);
+    let mut text = match String::with_capacity(alloc, ROOM) {
+        Ok(text) => text,
+        Err(_) => String::with_capacity(alloc, ROOM)?,
+    };
     let mut sender = world.nodes().last().ok_or("no nodes")?;
     for receiver in world.nodes() {
         text.push_str(if text.is_empty() { "[" } else { " [" })?;

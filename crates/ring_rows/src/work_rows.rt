@@ -1,8 +1,8 @@
 //! How much work a ring takes: every ring becomes quiet, with a leader that all know, within the
 //! bound on messages of its algorithm and one announcement for each position.
 
-use crate::drain;
-use crate::worlds::{begun, known};
+use crate::memory::add;
+use crate::worlds::{begun, drained, known};
 use ring_any::Any;
 use ring_world::World;
 use std::alloc::Global;
@@ -13,7 +13,7 @@ use std::test::Fail;
 fn scattered(alloc: Global, size: u16) -> Result<Vec<u32>, Fail> {
     let mut numbers = Vec::new(alloc);
     for place in 0..size {
-        numbers.push((place as u32 + 1) * 83 % 257)?;
+        add(&mut numbers, (place as u32 + 1) * 83 % 257)?;
     }
     Ok(numbers)
 }
@@ -38,7 +38,7 @@ fn messages(
     leader: u32,
 ) -> Result<u128, Fail> {
     let mut world = begun(alloc, kind, &scattered(alloc, size)?)?;
-    drain(&mut world, u32::MAX)?;
+    drained(&mut world, u32::MAX)?;
     assert_eq!(rt; world.pending(), 0);
     assert!(rt; all_know(&world, leader), "{kind:?} on {size}");
     let messages = world.delivered().checked_sub(size as u128);
@@ -108,7 +108,7 @@ fn peterson_takes_at_most_its_rounds(rt: HostRuntime) -> Result<(), Fail> {
 #[test]
 fn peterson_takes_its_bound_on_4_1_3_2(rt: HostRuntime) -> Result<(), Fail> {
     let mut world = begun(rt.alloc(), Any::Peterson, &[4, 1, 3, 2])?;
-    assert_eq!(rt; drain(&mut world, 100)?, 24 + 4);
+    assert_eq!(rt; drained(&mut world, 100)?, 24 + 4);
     assert!(rt; all_know(&world, 2));
     Ok(())
 }

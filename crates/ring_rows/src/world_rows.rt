@@ -1,7 +1,6 @@
 //! A world of the election of Chang and Roberts on 3, 1, 2, by its calls alone.
 
-use crate::drain;
-use crate::worlds::{Did, begun, deliver};
+use crate::worlds::{Did, begun, deliver, drained};
 use ring_chang::Chang;
 use ring_id::{Refusal, Side};
 use std::test::Fail;
@@ -29,9 +28,9 @@ fn nothing_comes_from_the_right(rt: HostRuntime) -> Result<(), Fail> {
 #[test]
 fn eight_deliveries_leave_nothing(rt: HostRuntime) -> Result<(), Fail> {
     let mut world = begun(rt.alloc(), Chang, &[3, 1, 2])?;
-    assert_eq!(rt; drain(&mut world, 7)?, 7);
+    assert_eq!(rt; drained(&mut world, 7)?, 7);
     assert_eq!(rt; (world.pending(), world.delivered()), (1, 7));
-    assert_eq!(rt; drain(&mut world, 100)?, 1);
+    assert_eq!(rt; drained(&mut world, 100)?, 1);
     assert_eq!(rt; (world.pending(), world.delivered()), (0, 8));
     assert_eq!(rt; world.ready(), None);
     Ok(())
