@@ -18,6 +18,3 @@ mod view;
 
 pub use lock::TurnLock;
 pub use seat::Seat;
-
-#[cfg(test)]
-mod tests;

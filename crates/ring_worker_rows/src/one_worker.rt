@@ -236,11 +236,12 @@ fn a_worker_without_senders_ends_closed(rt: HostRuntime) -> Result<(), Fail> {
 #[test]
 fn a_refused_report_stays_with_the_worker(rt: HostRuntime) -> Result<(), Fail> {
     let alloc = rt.alloc();
-    for (refusal, why, unfiled) in [
-        (Refusal::NoMemory, Why::Stopped, 3),
-        (Refusal::SeatSpent, Why::Spent, 1),
+    for (numbers, refusal, why, unfiled) in [
+        ([3, 1, 2].as_slice(), Refusal::NoMemory, Why::Stopped, 3),
+        (&[3, 1, 2], Refusal::SeatSpent, Why::Spent, 1),
+        (&[7], Refusal::SeatSpent, Why::Spent, 1),
     ] {
-        let charter = ring(alloc, 1, &[3, 1, 2])?;
+        let charter = ring(alloc, 1, numbers)?;
         let mut items = Vec::new(alloc);
         items.push(begin(&charter)?)?;
         let handed = ran(&rt, alloc, items, ITEMS, Filed::Refused(refusal))?;

@@ -8,4 +8,3 @@ mod Telling
 mod Numbers
 mod Adding
 mod Wholes
-mod Sharing

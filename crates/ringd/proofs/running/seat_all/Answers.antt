@@ -3,7 +3,7 @@ use Rattle.ring_any.proofs.any.Any.TheSendSync as any_crosses
 use Rattle.ring_service.proofs.front.Front.TheSendSync as front_crosses
 use Rattle.ring_turn.proofs.lock.TurnLock.TheSendSync as lock_crosses
 use Rattle.ring_turn.proofs.seat.Seat.TheSendSync as seat_crosses
-use Rattle.ringd.proofs.Sharing.{table_sync}
+use Rattle.ring_turn.proofs.Sharing.{table_sync}
 use Rattle.ringd.proofs.running.seat_all.Goals as goal
 
 -- guests may go to threads

@@ -1,4 +1,4 @@
-use Rattle.ringd.proofs.Sharing.{table_sync}
+use Rattle.ring_turn.proofs.Sharing.{table_sync}
 use Rattle.ringd.proofs.sessions.front.Goals as goal
 
 -- the table may be shared among threads

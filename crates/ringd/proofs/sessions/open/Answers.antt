@@ -2,7 +2,7 @@ use Rattle.std.proofs.Common.{◌≡◌, ◌+◌, ◌∙◌, ℕ, All, ap, sym, 
 use Rattle.std.proofs.lemmas.List.Elements.{All-drop, All-take}
 use Rattle.std.proofs.lemmas.List.FromFn.{length-map-range_with_len}
 use Rattle.ring_turn.proofs.Returning.{all_are_of_lock}
-use Rattle.ringd.proofs.Sharing.{table_sync}
+use Rattle.ring_turn.proofs.Sharing.{table_sync}
 use Rattle.ringd.proofs.sessions.open.Goals as goal
 
 -- there are as many seats as were asked for

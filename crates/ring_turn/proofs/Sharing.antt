@@ -1,4 +1,4 @@
--- The program's table may be shared among threads, as it is lent to them.
+-- A lock over the algorithms of this repository may be shared among threads, as programs and tests share it.
 use denote.Param.Send.{IsSync}
 use Rattle.std.below.core.specs.contracts.clone.Clone+copy.TheImpl as copy
 use Rattle.ring_any.specs.contracts.any.Any as any
