@@ -42,7 +42,7 @@ impl Recorder {
         self.world.charter().group()
     }
 
-    /// How many packets are in flight.
+    /// How many packets are in flight or stuck.
     pub fn pending(&self) -> u128 {
         self.world.pending()
     }
@@ -52,6 +52,17 @@ impl Recorder {
         match self.world.charter().roster().position(node) {
             Some(position) => self.deliver(alloc, position, side),
             None => Ok(()),
+        }
+    }
+
+    /// Cuts the link to a member from a side.
+    pub fn cut(&mut self, node: NodeId, side: Side) {
+        let roster = self.world.charter().roster();
+        let Some(position) = roster.position(node) else {
+            return;
+        };
+        if position < roster.len() {
+            let _ = self.world.cut(position, side);
         }
     }
 
@@ -89,7 +100,7 @@ impl Recorder {
         Ok(())
     }
 
-    // The arrow of the packet in flight to a position from a side that has so many before it.
+    // The arrow of the packet that stands on the link to a position from a side with so many before it.
     fn front(
         &self,
         alloc: Global,
@@ -166,7 +177,7 @@ impl Recorder {
         })
     }
 
-    // The arrows of all that is in flight, by the links' receivers.
+    // The arrows of all that is in flight or stuck, by the links' receivers.
     fn flying(&self, alloc: Global) -> Result<Vec<Arrow>, AllocError> {
         let mut flying = Vec::new(alloc);
         for position in 0..self.world.nodes().len() {
@@ -176,7 +187,7 @@ impl Recorder {
         Ok(flying)
     }
 
-    // The arrows of what is in flight on one link.
+    // The arrows of what stands on one link.
     fn fly(
         &self,
         alloc: Global,

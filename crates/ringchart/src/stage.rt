@@ -54,7 +54,7 @@ impl Stage {
             .ok_or(Fault::Lost(line.place))
     }
 
-    // Does in the worlds what the event did; whether the same is in flight then.
+    // Does in the worlds what the event did; whether as much is in flight or stuck then.
     fn follow(&mut self, event: Event<Any>, reply: &Reply) -> Result<bool, Fault> {
         if was_starved(reply) {
             return Err(Fault::NoMemory);
@@ -67,6 +67,10 @@ impl Stage {
             },
             Event::Drain(group, _) => match reply {
                 Reply::Drained { done, .. } => self.drain(group, *done),
+                _ => Ok(true),
+            },
+            Event::Cut(group, node, side) => match reply {
+                Reply::Done => self.cut(group, node, side),
                 _ => Ok(true),
             },
             Event::Pending(_) => Ok(true),
@@ -93,6 +97,15 @@ impl Stage {
         self.agrees(group)
     }
 
+    // A cut in a group's last term.
+    fn cut(&mut self, group: GroupName, node: NodeId, side: Side) -> Result<bool, Fault> {
+        let Some(recorder) = running(&mut self.terms, group) else {
+            return Ok(false);
+        };
+        recorder.cut(node, side);
+        self.agrees(group)
+    }
+
     // So many deliveries in a group's last term.
     fn drain(&mut self, group: GroupName, count: u32) -> Result<bool, Fault> {
         let Some(recorder) = running(&mut self.terms, group) else {
@@ -112,7 +125,7 @@ impl Stage {
         self.agrees(group)
     }
 
-    // Whether as much is in flight in the group's world here as in the mux.
+    // Whether as much is in flight or stuck in the group's world here as in the mux.
     fn agrees(&mut self, group: GroupName) -> Result<bool, Fault> {
         let Some(recorder) = running(&mut self.terms, group) else {
             return Ok(false);

@@ -165,11 +165,18 @@ fn two_sessions<R: Threads + Wait + Clock + Copy + Send + Drop + 'static>(
         other: _,
     } = open_service(rt, alloc, 1, 64)?;
     let first = session(rt, alloc, front(&service), &mut one, 1, FIRST);
-    let second = session(rt, alloc, front(&service), &mut one, 2, b"join a 5\ngroups");
+    let second = session(
+        rt,
+        alloc,
+        front(&service),
+        &mut one,
+        2,
+        b"join a 5\ncut a 5 left\ngroups",
+    );
     let closing = close(rt, service);
     let whole = closing.handed.len() == 1 && closing.waiting.is_empty();
     let told = has_told(&first, b"ok\nok\nterm 1\nmembers 5\nno bad-line\n")
-        && has_told(&second, b"no member\ngroups a\n");
+        && has_told(&second, b"no member\nno bad-line\ngroups a\n");
     Some(told && whole && calls(&table_of(closing)?) == 6)
 }
 

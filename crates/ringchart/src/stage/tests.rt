@@ -47,3 +47,24 @@ fn faults_name_their_line(rt: HostRuntime) {
     assert!(rt; matches!(played, Err(Fault::Otherwise(3, _))));
     assert!(rt; matches!(play(rt.alloc(), "create a chang\n"), Err(Fault::NoTerm)));
 }
+
+// A link is cut, and what is sent there afterwards stays on it.
+const CUT: &str = "create a chang\njoin a 3\njoin a 1\njoin a 2\nstart a => term 1\n\
+cut a 2 left => ok\ndrain a 100 => drained 2 left 2\n";
+
+#[test]
+fn what_is_stuck_is_on_its_way(rt: HostRuntime) -> Result<(), Fail> {
+    let tales = play(rt.alloc(), CUT)?;
+    let [tale] = tales.as_slice() else {
+        assert!(rt; false, "{} terms", tales.len());
+        return Ok(());
+    };
+    assert_eq!(rt; tale.steps.len(), 2);
+    let flying: Vec<(usize, usize, u64)> = tale
+        .flying
+        .iter()
+        .map(|arrow| (arrow.from, arrow.to, arrow.sent))
+        .collect(rt.alloc())?;
+    assert_eq!(rt; flying.as_slice(), [(1, 2, 0), (1, 2, 2)].as_slice());
+    Ok(())
+}
