@@ -135,6 +135,7 @@ short-event (Client (Terms g)) p = omega (arith, p.short)
 short-event (Client Groups) p = omega arith
 short-event (Deliver g n s) p =
     omega (arith, length-append g (32 ∷ (decimal n ++ 32 ∷ side_word s)), length-append (decimal n) (32 ∷ side_word s), p.0.short, short-number n p.1.1, short-side s)
+short-event (Cut g n s) p =
     omega (arith, length-append g (32 ∷ (decimal n ++ 32 ∷ side_word s)), length-append (decimal n) (32 ∷ side_word s), p.0.short, short-number n p.1.1, short-side s)
 short-event (Pending g) p = omega (arith, p.short)
 short-event (Drain g k) p = omega (arith, length-append g (32 ∷ decimal k), p.0.short, short-number k (omega arith))
