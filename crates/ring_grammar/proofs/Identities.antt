@@ -70,30 +70,30 @@ one_part : (text part : List ℕ) → parts_at 47 text ≡ part ∷ [] → text 
 one_part text part same = sym (join_with_byte-slice_split 47 text) ∙ ap (join_with_byte 47) same
 
 -- a word that isn't cut has no weight
-uncut : (word : List ℕ) (number weight : ℕ) → number < 2 ^ 32 → weight < 2 ^ 16 → parts_at 47 word ≡ word ∷ [] → word ≡ decimal number ++ weight_text weight → word ≡ decimal number
-uncut word number zero short light parts same = same ∙ append-nil (decimal number)
-uncut word number (suc weight) short light parts same =
-    let cut = rw (eqb-suc-zero weight) at (sym parts ∙ ap (parts_at 47) same ∙ parts-word number (suc weight) short light) in
+uncut_is_number : (word : List ℕ) (number weight : ℕ) → number < 2 ^ 32 → weight < 2 ^ 16 → parts_at 47 word ≡ word ∷ [] → word ≡ decimal number ++ weight_text weight → word ≡ decimal number
+uncut_is_number word number zero short light parts same = same ∙ append-nil (decimal number)
+uncut_is_number word number (suc weight) short light parts same =
+    let parted = rw (eqb-suc-zero weight) at (sym parts ∙ ap (parts_at 47) same ∙ parts-word number (suc weight) short light) in
     cc
 
 -- What stands before and behind the slash of an identity's word.
-record IsCut (front rest : List ℕ) (number weight : ℕ) : Type 0 where
+record IsParted (front rest : List ℕ) (number weight : ℕ) : Type 0 where
   number_is : front ≡ decimal number
   weight_is : rest ≡ decimal weight
   some : 0 < weight
 
 -- a word that is cut has a weight
-cut : (word front rest : List ℕ) (number weight : ℕ) → number < 2 ^ 32 → weight < 2 ^ 16 → parts_at 47 word ≡ front ∷ parts_at 47 rest → word ≡ decimal number ++ weight_text weight → IsCut front rest number weight
-cut word front rest number zero short light parts same =
-    let cut = sym parts ∙ ap (parts_at 47) same ∙ parts-word number zero short light in
+cut_is_number_and_weight : (word front rest : List ℕ) (number weight : ℕ) → number < 2 ^ 32 → weight < 2 ^ 16 → parts_at 47 word ≡ front ∷ parts_at 47 rest → word ≡ decimal number ++ weight_text weight → IsParted front rest number weight
+cut_is_number_and_weight word front rest number zero short light parts same =
+    let parted = sym parts ∙ ap (parts_at 47) same ∙ parts-word number zero short light in
     absurd (some_part rest cc)
-cut word front rest number (suc weight) short light parts same =
-    let cut = rw (eqb-suc-zero weight) at (sym parts ∙ ap (parts_at 47) same ∙ parts-word number (suc weight) short light) in
+cut_is_number_and_weight word front rest number (suc weight) short light parts same =
+    let parted = rw (eqb-suc-zero weight) at (sym parts ∙ ap (parts_at 47) same ∙ parts-word number (suc weight) short light) in
     record { number_is = cc; weight_is = one_part rest (decimal (suc weight)) cc; some = omega arith }
 
 -- the word of a number and a weight
-joined : (word front rest : List ℕ) (n w : ℕ) → parts_at 47 word ≡ front ∷ parts_at 47 rest → n < 2 ^ 32 → front ≡ decimal n → IsWeight w → rest ≡ decimal w → word ≡ decimal n ++ weight_text w
-joined word front rest n w parts short front_is legal rest_is =
+word_of_parts : (word front rest : List ℕ) (n w : ℕ) → parts_at 47 word ≡ front ∷ parts_at 47 rest → n < 2 ^ 32 → front ≡ decimal n → IsWeight w → rest ≡ decimal w → word ≡ decimal n ++ weight_text w
+word_of_parts word front rest n w parts short front_is legal rest_is =
     let some : (w == 0) ≡ false = ne_eqb w 0 (λ none. absurd (omega (arith, legal.0))) in
     let two : parts_at 47 word ≡ decimal n ∷ decimal w ∷ [] = rw (parts, front_is, rest_is, parts-number w (omega (arith, legal.1))) refl in
     rw some (sym (join_with_byte-slice_split 47 word) ∙ ap (join_with_byte 47) two)
@@ -101,23 +101,23 @@ joined word front rest n w parts short front_is legal rest_is =
 -- a word that isn't cut and whose number isn't read is no identity's
 pub unread_uncut : (word : List ℕ) → parts_at 47 word ≡ word ∷ [] → Reads decimal IsShortNumber word None → Reads node_word IsNode word None
 unread_uncut word parts unread = λ rank legal same.
-    unread (number_of rank) legal.0.1 (uncut word (number_of rank) (weight_of rank) legal.0.1 legal.1 parts same)
+    unread (number_of rank) legal.0.1 (uncut_is_number word (number_of rank) (weight_of rank) legal.0.1 legal.1 parts same)
 
 -- a word whose front isn't read as a number is no identity's
 pub unread_front : (word front rest : List ℕ) → parts_at 47 word ≡ front ∷ parts_at 47 rest → Reads decimal IsShortNumber front None → Reads node_word IsNode word None
 unread_front word front rest parts unread = λ rank legal same.
-    unread (number_of rank) legal.0.1 (cut word front rest (number_of rank) (weight_of rank) legal.0.1 legal.1 parts same).number_is
+    unread (number_of rank) legal.0.1 (cut_is_number_and_weight word front rest (number_of rank) (weight_of rank) legal.0.1 legal.1 parts same).number_is
 
 -- a word whose rest isn't read as a weight is no identity's
 pub unread_rest : (word front rest : List ℕ) → parts_at 47 word ≡ front ∷ parts_at 47 rest → Reads decimal IsWeight rest None → Reads node_word IsNode word None
 unread_rest word front rest parts unread = λ rank legal same.
-    let found = cut word front rest (number_of rank) (weight_of rank) legal.0.1 legal.1 parts same in
+    let found = cut_is_number_and_weight word front rest (number_of rank) (weight_of rank) legal.0.1 legal.1 parts same in
     unread (weight_of rank) (found.some, legal.1) found.weight_is
 
 -- the identity of a number that was read, where the word isn't cut
 pub reads_uncut : (word : List ℕ) (n : ℕ) (node : Option ℕ) → parts_at 47 word ≡ word ∷ [] → Reads decimal IsShortNumber word (Some n) → IsSome node ↔ (0 < n) → IfSome node (λ id. id ≡ n) → Reads node_word IsNode word node
 reads_uncut word n None parts read there value = λ rank legal same.
-    let number = printed_of_one word n (number_of rank) read.0 legal.0.1 read.1 (uncut word (number_of rank) (weight_of rank) legal.0.1 legal.1 parts same) in
+    let number = printed_of_one word n (number_of rank) read.0 legal.0.1 read.1 (uncut_is_number word (number_of rank) (weight_of rank) legal.0.1 legal.1 parts same) in
     let some = there.1 (omega (arith, legal.0.0)) in
     cc
 reads_uncut word n (Some id) parts read there value =
@@ -129,7 +129,7 @@ reads_uncut word n (Some id) parts read there value =
 -- the identity of a number and a weight that were read
 pub reads_cut : (word front rest : List ℕ) (n w : ℕ) (node : Option ℕ) → parts_at 47 word ≡ front ∷ parts_at 47 rest → Reads decimal IsShortNumber front (Some n) → Reads decimal IsWeight rest (Some w) → IsSome node ↔ (0 < n) → IfSome node (λ id. id ≡ rank_of w n) → Reads node_word IsNode word node
 reads_cut word front rest n w None parts read_front read_rest there value = λ rank legal same.
-    let found = cut word front rest (number_of rank) (weight_of rank) legal.0.1 legal.1 parts same in
+    let found = cut_is_number_and_weight word front rest (number_of rank) (weight_of rank) legal.0.1 legal.1 parts same in
     let number = printed_of_one front n (number_of rank) read_front.0 legal.0.1 read_front.1 found.number_is in
     let some = there.1 (omega (arith, legal.0.0)) in
     cc
@@ -137,4 +137,4 @@ reads_cut word front rest n w (Some id) parts read_front read_rest there value =
     let number : number_of (rank_of w n) ≡ n = omega (arith, read_front.0) in
     let weight : weight_of (rank_of w n) ≡ w = omega (arith, read_front.0) in
     let positive = there.0 refl in
-    rw (value, number, weight) (((positive, read_front.0), read_rest.0.1), joined word front rest n w parts read_front.0 read_front.1 read_rest.0 read_rest.1)
+    rw (value, number, weight) (((positive, read_front.0), read_rest.0.1), word_of_parts word front rest n w parts read_front.0 read_front.1 read_rest.0 read_rest.1)

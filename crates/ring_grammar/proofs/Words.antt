@@ -44,7 +44,7 @@ too_many_words event line text1 text2 text3 text4 word1 word2 word3 word4 cut1 c
     let five : 4 < length (words_in line) = omega (arith, one_word_more line word1 text1 cut1, one_word_more text1 word2 text2 cut2, one_word_more text2 word3 text3 cut3, one_word_more text3 word4 text4 cut4, length-slice_split (λ b. b == 32) text4) in
     absurd (omega (arith, ap length same, (one_to_four_words event).1))
 
--- the words of a kind, a side and an identity have no space
+-- the words of a kind, a side, a weight, an identity and a number have no space
 plain-kind : (kind : Any) → is_plain (word_of kind) ≡ true
 plain-kind LeLann = refl
 plain-kind Chang = refl

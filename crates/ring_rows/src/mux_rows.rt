@@ -1,8 +1,6 @@
 //! Groups by lists of events: what drains are answered, and whom every member names then.
 
-use crate::events::{
-    Said, answers, create, cut, deliver, drain, join, pending, shown, start, who,
-};
+use crate::events::{Said, answers, create, cut, deliver, drain, join, pending, shown, start, who};
 use crate::rings::identity;
 use ring_chang::Chang;
 use ring_election::RingElection;

@@ -121,7 +121,9 @@ impl Tale {
 fn width(member: NodeId) -> usize {
     match member.weight() {
         0 => digits(member.get()),
-        weight => digits(member.get()) + 1 + digits(u32::from(weight)),
+        weight => digits(member.get())
+            .saturating_add(digits(u32::from(weight)))
+            .saturating_add(1),
     }
 }
 
