@@ -60,8 +60,21 @@ def owner_of(line, module, types):
     return [*module, named[1]] if named else []
 
 
+def head_of(lines, at):
+    """The last line of the head of the function at a line: where its body begins, or where it ends without one."""
+    depth = 0
+    for it in range(at, len(lines)):
+        is_clause = lines[it].lstrip().startswith(("requires", "ensures", "ghost"))
+        if re.search(r"(^| )\{(\}| .*\})?$", lines[it]) and not is_clause:
+            return it
+        depth += lines[it].count("{") - lines[it].count("}")
+        if depth == 0 and lines[it].endswith(";"):
+            return it
+    return at
+
+
 def functions_in(file, text, types):
-    """The functions of a source file, without those of its modules, such as tests."""
+    """The functions of a source file that have a body, without those of its modules, such as tests."""
     lines, found, owner, module = text.split("\n"), [], [], module_of(file)
     for at, line in enumerate(lines):
         if line[:1].strip() and line[0] not in "})":
@@ -69,8 +82,9 @@ def functions_in(file, text, types):
         head = FN.match(line)
         if not head or len(head[1]) != (4 if owner else 0):
             continue
-        body = next((it for it in range(at, len(lines)) if re.search(r"(^| )\{(\}| .*\})?$", lines[it])
-                     and not lines[it].lstrip().startswith(("requires", "ensures", "ghost"))), at)
+        body = head_of(lines, at)
+        if lines[body].endswith(";"):
+            continue
         ends = (f"{head[1]}}}",)
         last = body if lines[body].endswith("}") else next(
             (it for it in range(body, len(lines)) if lines[it].startswith(ends)), at)
