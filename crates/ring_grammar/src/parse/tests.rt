@@ -84,6 +84,14 @@ fn client_commands(rt: HostRuntime) -> Result<(), Fail> {
     Ok(())
 }
 
+// The identity in a line that joins.
+fn joining(line: &[u8]) -> Option<NodeId> {
+    match parse_command(line)? {
+        Command::Join(_, node) => Some(node),
+        _ => None,
+    }
+}
+
 #[test]
 fn a_weight_is_read_with_its_number(rt: HostRuntime) -> Result<(), Fail> {
     for (line, number, weight) in [
@@ -93,8 +101,7 @@ fn a_weight_is_read_with_its_number(rt: HostRuntime) -> Result<(), Fail> {
         (b"join a 4294967295/65535".as_slice(), 4294967295, 65535),
     ] {
         let wanted = NodeId::weighted(number, weight).ok_or("no identity")?;
-        let command = parse_command(line);
-        assert!(rt; matches!(command, Some(Command::Join(_, node)) if node == wanted));
+        assert_eq!(rt; joining(line), Some(wanted));
     }
     Ok(())
 }
