@@ -51,11 +51,6 @@ pub fn join<E: RingElection>(node: NodeId) -> Result<Event<E>, Fail> {
     Ok(Event::Client(Command::Join(name()?, node)))
 }
 
-/// The member with this number leaves.
-pub fn leave<E: RingElection>(node: u32) -> Result<Event<E>, Fail> {
-    Ok(Event::Client(Command::Leave(name()?, number(node)?)))
-}
-
 /// A term is started.
 pub fn start<E: RingElection>() -> Result<Event<E>, Fail> {
     Ok(Event::Client(Command::Start(name()?)))

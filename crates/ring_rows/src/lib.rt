@@ -2,7 +2,7 @@
 //!
 //! All but `drain`, which rows call to bring a world to rest, is tests. A module of rows is one
 //! subject: a node, a world, the scans that a world is spared, its worked schedules, the settlement of
-//! nodes, groups at once, weights, reports, replays over memory, and how much work rings take.
+//! nodes, groups at once, reports, replays over memory, and how much work rings take.
 #![tactic(auto)]
 
 mod drains;
@@ -24,8 +24,6 @@ mod scan_rows;
 mod schedules;
 #[cfg(test)]
 mod settle_rows;
-#[cfg(test)]
-mod weight_rows;
 #[cfg(test)]
 mod work_rows;
 #[cfg(test)]
