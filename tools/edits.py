@@ -4,6 +4,7 @@ import os
 import pathlib
 import shutil
 import subprocess
+import sys
 
 TOP = pathlib.Path(__file__).resolve().parents[1]
 PARTS = ("src", "specs", "proofs")
@@ -80,7 +81,9 @@ def kit():
     found = shutil.which("rt")
     if found:
         return pathlib.Path(found).resolve().parents[1]
-    return pathlib.Path(os.environ.get("RATTLE_KIT", "/opt/rattle"))
+    if "RATTLE_KIT" not in os.environ:
+        sys.exit("there is no rt in PATH, and $RATTLE_KIT names no kit")
+    return pathlib.Path(os.environ["RATTLE_KIT"])
 
 
 def libraries():
