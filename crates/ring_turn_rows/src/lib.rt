@@ -5,4 +5,8 @@
 #[cfg(test)]
 mod benches;
 #[cfg(test)]
+mod grounds;
+#[cfg(test)]
 mod seat_rows;
+#[cfg(test)]
+mod session_rows;
