@@ -10,3 +10,5 @@ mod grounds;
 mod seat_rows;
 #[cfg(test)]
 mod session_rows;
+#[cfg(test)]
+mod thread_rows;
