@@ -5,6 +5,8 @@
 #[cfg(test)]
 mod benches;
 #[cfg(test)]
+mod election_rows;
+#[cfg(test)]
 mod grounds;
 #[cfg(test)]
 mod seat_rows;
