@@ -5,13 +5,14 @@ use ring_any::Any;
 use ring_lines::{FromRead, Intake, LineFault, Outlet, ToWrite};
 use ring_mux::Command;
 use ring_node::Report;
-use ring_service::{Access, Answer, Closing, Filed, LockedTable, Service, Table, Waiting};
+use ring_service::{Access, Answer, Closing, Filed, Front, LockedTable, Service, Table, Waiting};
 use ring_turn::TurnLock;
 use ring_workers::{Gate, Handed, Pass};
 use std::alloc::Global;
 use std::collections::VecDeque;
 use std::marker::Model;
 use std::sync::{Arc, Wait};
+use std::thread;
 use std::thread::Threads;
 use std::time::Clock;
 
@@ -123,6 +124,38 @@ where
         }
     }
 
+    /// Two sessions over memory, the first by the first caller's seat and the second by the other's, in two
+    /// threads: what was written in each. None at a fault.
+    pub fn two_sessions<R: Threads + Wait + Sync>(
+        self,
+        rt: &R,
+        alloc: Global,
+        low: &[u8],
+        high: &[u8],
+    ) -> (Ground<A>, Option<Vec<u8>>, Option<Vec<u8>>) {
+        let Ground {
+            service,
+            one,
+            other,
+        } = self;
+        let front = service.front();
+        let ((one, first), (other, second)) = thread::join(
+            rt,
+            || -> (A::Seat, Option<Vec<u8>>)
+                requires { A.has_seat front.now one }
+            { session_by(rt, alloc, front, one, 1, low) },
+            || -> (A::Seat, Option<Vec<u8>>)
+                requires { A.has_seat front.now other }
+            { session_by(rt, alloc, front, other, 2, high) },
+        );
+        let ground = Ground {
+            service,
+            one,
+            other,
+        };
+        (ground, first, second)
+    }
+
     /// Ends the service: what it leaves, with the first caller's seat.
     pub fn end<R: Threads + Wait>(self, rt: &R) -> Ended<A> {
         let Ground {
@@ -140,6 +173,33 @@ where
             handed,
             waiting,
         }
+    }
+}
+
+// One session over memory by a seat: the seat, and what was written. None at a fault.
+fn session_by<R: Wait, A: Access<Any> + Drop>(
+    rt: &R,
+    alloc: Global,
+    front: &Front<A>,
+    seat: A::Seat,
+    number: u32,
+    lines: &[u8],
+) -> (A::Seat, Option<Vec<u8>>)
+    requires { A.has_seat front.now seat }
+    ensures { A.has_seat front.now result.0 }
+{
+    let mut seat = seat;
+    let mut writer = ToWrite(Vec::new(alloc));
+    match front.serve(
+        rt,
+        &mut seat,
+        number,
+        &mut FromRead(lines),
+        &mut writer,
+        1000,
+    ) {
+        Ok(_) => (seat, Some(writer.0)),
+        Err(_) => (seat, None),
     }
 }
 
