@@ -11,7 +11,7 @@ CALL = re.compile(r"(?:(\.)|(\w+)::)?\b([a-z_]\w*)\b")
 
 
 class Function:
-    """A function by its path below the crate, its lines in its file, from 0, and its body's text."""
+    """A function by its path below the crate, its lines in its file, from 0 and with its attributes, and its body's text."""
 
     def __init__(self, file, path, first, body, last, text):
         self.file, self.path = file, path
@@ -89,7 +89,10 @@ def functions_in(file, text, types):
         last = body if lines[body].endswith("}") else next(
             (it for it in range(body, len(lines)) if lines[it].startswith(ends)), at)
         path = "::".join([*(owner or module), head[2]])
-        found.append(Function(file, path, at, body, last, "\n".join(lines[body : last + 1])))
+        first = at
+        while lines[first - 1].lstrip().startswith("#["):
+            first -= 1
+        found.append(Function(file, path, first, body, last, "\n".join(lines[body : last + 1])))
     return found
 
 
