@@ -8,7 +8,7 @@ use std::alloc::Global;
 use std::test::Fail;
 
 /// What a row asks of the group.
-#[derive(Clone, Copy, Debug)]
+#[derive(Clone, Copy)]
 pub enum Ask {
     Create,
     Join(u32),
@@ -98,22 +98,24 @@ fn with(done: u32, said: Said) -> Said {
     }
 }
 
+/// What is left of a drain that has made so many deliveries; any other event as it is.
+fn rest<E: RingElection>(event: Event<E>, done: u32) -> Event<E> {
+    match event {
+        Event::Drain(group, count) => Event::Drain(group, count.saturating_sub(done)),
+        event => event,
+    }
+}
+
 /// What an event is told. It is asked once more where it was refused memory; a drain makes what is left of its
 /// deliveries then.
 pub fn told<E: RingElection>(alloc: Global, mux: &mut Mux<E>, event: Event<E>) -> Said {
-    match (mux.step(alloc, event), event) {
-        (
-            Reply::Drained {
-                done,
-                starved: true,
-                ..
-            },
-            Event::Drain(group, count),
-        ) => {
-            let rest = Event::Drain(group, count.saturating_sub(done));
-            with(done, shown(&mux.step(alloc, rest)))
-        }
-        (Reply::Refused(Refusal::NoMemory), event) => shown(&mux.step(alloc, event)),
-        (reply, _) => shown(&reply),
+    match mux.step(alloc, event) {
+        Reply::Refused(Refusal::NoMemory) => shown(&mux.step(alloc, event)),
+        Reply::Drained {
+            done,
+            starved: true,
+            ..
+        } => with(done, shown(&mux.step(alloc, rest(event, done)))),
+        reply => shown(&reply),
     }
 }

@@ -104,21 +104,26 @@ fn notes(
     leaders_are(rt, alloc, book, leaders)
 }
 
+/// The report of a term that has no leader yet is news, and known when it comes again.
+fn is_news_once(
+    rt: &impl Abort,
+    alloc: Global,
+    book: &mut Book<Chang>,
+    report: &Report<Chang>,
+) -> Result<(), Fail> {
+    let leaders = [NodeId::new(3)];
+    leaders_are(rt, alloc, book, &[None])?;
+    notes(rt, alloc, book, report, Noting::Noted, &leaders)?;
+    notes(rt, alloc, book, report, Noting::Known, &leaders)
+}
+
 #[test]
 fn a_report_is_news_once_and_stale_later(rt: HostRuntime) -> Result<(), Fail> {
-    let (group, three) = (name()?, NodeId::new(3));
-    let mut book = book(rt.alloc(), group)?;
-    let report = report(rt.alloc(), &start(rt.alloc(), &mut book, group)?)?;
-    leaders_are(&rt, rt.alloc(), &book, &[None])?;
-    notes(&rt, rt.alloc(), &mut book, &report, Noting::Noted, &[three])?;
-    notes(&rt, rt.alloc(), &mut book, &report, Noting::Known, &[three])?;
-    start(rt.alloc(), &mut book, group)?;
-    notes(
-        &rt,
-        rt.alloc(),
-        &mut book,
-        &report,
-        Noting::Stale,
-        &[three, None],
-    )
+    let (alloc, group) = (rt.alloc(), name()?);
+    let mut book = book(alloc, group)?;
+    let report = report(alloc, &start(alloc, &mut book, group)?)?;
+    is_news_once(&rt, alloc, &mut book, &report)?;
+    start(alloc, &mut book, group)?;
+    let leaders = [NodeId::new(3), None];
+    notes(&rt, alloc, &mut book, &report, Noting::Stale, &leaders)
 }

@@ -67,13 +67,20 @@ fn settled_nodes(alloc: Global, charter: &Arc<Charter<Chang>>) -> Result<Vec<Nod
     Ok(nodes)
 }
 
+/// The same nodes, and the last of them a second time.
+fn doubled_nodes(alloc: Global, charter: &Arc<Charter<Chang>>) -> Result<Vec<Node<Chang>>, Fail> {
+    let mut nodes = settled_nodes(alloc, charter)?;
+    let double = settled_nodes(alloc, charter)?.pop();
+    add(&mut nodes, double.ok_or("no node")?)?;
+    Ok(nodes)
+}
+
 #[test]
 fn nodes_by_themselves_settle_and_a_double_does_not(rt: HostRuntime) -> Result<(), Fail> {
     let charter = charter(rt.alloc(), 1, Chang, &[3, 1, 2])?;
-    let mut nodes = settled_nodes(rt.alloc(), &charter)?;
-    assert_eq!(rt; settle(&charter, &nodes), Settlement::Settled);
-    let double = settled_nodes(rt.alloc(), &charter)?.pop();
-    add(&mut nodes, double.ok_or("no node")?)?;
-    assert_eq!(rt; settle(&charter, &nodes), Settlement::Incomplete);
+    let settled = settle(&charter, &settled_nodes(rt.alloc(), &charter)?);
+    let doubled = settle(&charter, &doubled_nodes(rt.alloc(), &charter)?);
+    let wanted = (Settlement::Settled, Settlement::Incomplete);
+    assert_eq!(rt; (settled, doubled), wanted);
     Ok(())
 }

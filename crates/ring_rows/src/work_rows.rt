@@ -28,12 +28,17 @@ fn all_know(world: &World<Any>, leader: u32) -> bool {
     true
 }
 
+/// Whether nothing is in flight in a world, and all know this leader.
+fn is_quiet(world: &World<Any>, leader: u32) -> bool {
+    world.pending() == 0 && all_know(world, leader)
+}
+
 /// Drains a ring of this size, until it is quiet and all know this leader; how many messages it
 /// took besides the announcements.
 fn messages(alloc: Global, kind: Any, size: u16, leader: u32) -> Result<u128, Fail> {
     let mut world = begun(alloc, kind, &scattered(alloc, size)?)?;
     drained(&mut world, u32::MAX)?;
-    if world.pending() != 0 || !all_know(&world, leader) {
+    if !is_quiet(&world, leader) {
         return Err("the ring isn't quiet, or knows another leader".into());
     }
     let messages = world.delivered().checked_sub(size as u128);

@@ -11,7 +11,7 @@ use std::process::Abort;
 use std::test::Fail;
 
 /// What a row asks of a world.
-#[derive(Clone, Copy, Debug)]
+#[derive(Clone, Copy)]
 enum Ask {
     /// How many packets are in flight or stuck, and how many were delivered.
     Counts,
