@@ -20,7 +20,7 @@ ASK_AGAIN = {
     "ring_grammar_tests": ("",),
     "ring_lines_tests": ("",),
     "ring_rows_tests": ("",),
-    "ring_service_tests": FRONT,
+    "ring_service_tests": (*FRONT, "table::tests::"),
     "ring_turn_rows_tests": ("seat_rows::",),
     "ring_worker_rows_tests": ("starved_worker::",),
 }
