@@ -19,7 +19,8 @@ FRONT = ("front::tests::a_session_counts_its_lines", "front::tests::a_session_te
 ASK_AGAIN = {
     "ring_grammar_tests": ("",),
     "ring_lines_tests": ("",),
-    "ring_service_tests": FRONT,
+    "ring_rows_tests": ("",),
+    "ring_service_tests": (*FRONT, "table::tests::"),
     "ring_turn_rows_tests": ("seat_rows::",),
     "ring_worker_rows_tests": ("starved_worker::",),
 }

@@ -1,25 +1,51 @@
-//! The events of the rows on groups, and what their replies say.
+//! What rows ask of the group `a`, and what they are told.
 
-use crate::rings::{name, number};
+use crate::rings::{identity, name, number};
 use ring_election::RingElection;
-use ring_id::{NodeId, Refusal, Side};
+use ring_id::{NodeId, Refusal, Side, TermNo};
 use ring_mux::{Command, Event, Mux, Reply};
 use std::alloc::Global;
-use std::process::Abort;
 use std::test::Fail;
 
-/// What a reply says to the events of the rows; lists are looked at by themselves.
+/// What a row asks of the group.
+#[derive(Clone, Copy)]
+pub enum Ask {
+    Create,
+    Join(u32),
+    Leave(u32),
+    Start,
+    Who(u32),
+    Members,
+    Terms,
+    Groups,
+    Deliver(u32, Side),
+    Cut(u32, Side),
+    Pending,
+    Drain(u32),
+}
+
+/// What a reply says to the events of the rows: of a list, how long it is.
 #[derive(Clone, Copy, Debug, PartialEq, Eq)]
 pub enum Said {
     Done,
     Started(u16),
-    Leads(u16, NodeId),
+    Leads(u16, u32),
     Undecided(u16),
+    Listed(usize),
     Drained(u32, u128),
     Pending(u128),
+    Moved,
     Idle,
     Refused(Refusal),
     Other,
+}
+
+/// A term and its leader. One that weighs something is none of the rows'.
+fn named(term: TermNo, leader: NodeId) -> Said {
+    if leader.weight() > 0 {
+        return Said::Other;
+    }
+    Said::Leads(term.get(), leader.get())
 }
 
 /// What a reply says.
@@ -27,72 +53,69 @@ pub fn shown(reply: &Reply) -> Said {
     match reply {
         Reply::Done => Said::Done,
         Reply::Term(term) => Said::Started(term.get()),
-        Reply::Leader(term, leader) => Said::Leads(term.get(), *leader),
+        Reply::Leader(term, leader) => named(*term, *leader),
         Reply::Undecided(term) => Said::Undecided(term.get()),
+        Reply::Members(members) => Said::Listed(members.as_slice().len()),
+        Reply::Terms(terms) => Said::Listed(terms.as_slice().len()),
+        Reply::Groups(groups) => Said::Listed(groups.as_slice().len()),
         Reply::Drained {
             done,
             left,
             starved: false,
         } => Said::Drained(*done, *left),
         Reply::Pending(left) => Said::Pending(*left),
+        Reply::Moved => Said::Moved,
         Reply::Idle => Said::Idle,
         Reply::Refused(refusal) => Said::Refused(*refusal),
         _ => Said::Other,
     }
 }
 
-/// A group is created.
-pub fn create<E: RingElection>(algorithm: E) -> Result<Event<E>, Fail> {
-    Ok(Event::Client(Command::Create(name()?, algorithm)))
+/// The command or the event that asks this; `algorithm` is what a group is created with.
+pub fn event<E: RingElection>(algorithm: E, ask: Ask) -> Result<Event<E>, Fail> {
+    let group = name()?;
+    Ok(match ask {
+        Ask::Create => Event::Client(Command::Create(group, algorithm)),
+        Ask::Join(node) => Event::Client(Command::Join(group, identity(node)?)),
+        Ask::Leave(node) => Event::Client(Command::Leave(group, number(node)?)),
+        Ask::Start => Event::Client(Command::Start(group)),
+        Ask::Who(node) => Event::Client(Command::Who(group, number(node)?)),
+        Ask::Members => Event::Client(Command::Members(group)),
+        Ask::Terms => Event::Client(Command::Terms(group)),
+        Ask::Groups => Event::Client(Command::Groups),
+        Ask::Deliver(node, side) => Event::Deliver(group, number(node)?, side),
+        Ask::Cut(node, side) => Event::Cut(group, number(node)?, side),
+        Ask::Pending => Event::Pending(group),
+        Ask::Drain(count) => Event::Drain(group, count),
+    })
 }
 
-/// A member joins.
-pub fn join<E: RingElection>(node: NodeId) -> Result<Event<E>, Fail> {
-    Ok(Event::Client(Command::Join(name()?, node)))
-}
-
-/// A term is started.
-pub fn start<E: RingElection>() -> Result<Event<E>, Fail> {
-    Ok(Event::Client(Command::Start(name()?)))
-}
-
-/// The member with this number is asked who leads.
-pub fn who<E: RingElection>(node: u32) -> Result<Event<E>, Fail> {
-    Ok(Event::Client(Command::Who(name()?, number(node)?)))
-}
-
-/// At most so many deliveries.
-pub fn drain<E: RingElection>(count: u32) -> Result<Event<E>, Fail> {
-    Ok(Event::Drain(name()?, count))
-}
-
-/// How many packets are in flight or stuck.
-pub fn pending<E: RingElection>() -> Result<Event<E>, Fail> {
-    Ok(Event::Pending(name()?))
-}
-
-/// The link into the member with this number is cut, from a side.
-pub fn cut<E: RingElection>(node: u32, side: Side) -> Result<Event<E>, Fail> {
-    Ok(Event::Cut(name()?, number(node)?, side))
-}
-
-/// One delivery at the member with this number, from a side.
-pub fn deliver<E: RingElection>(node: u32, side: Side) -> Result<Event<E>, Fail> {
-    Ok(Event::Deliver(name()?, number(node)?, side))
-}
-
-/// Runs a list of events, which is answered like this.
-pub fn answers<E: RingElection>(
-    rt: &impl Abort,
-    alloc: Global,
-    mux: &mut Mux<E>,
-    events: &[Event<E>],
-    answers: &[Said],
-) -> Result<(), Fail> {
-    let replies = mux.run(alloc, events)?;
-    assert_eq!(rt; replies.len(), answers.len());
-    for (reply, answer) in replies.iter().zip(answers) {
-        assert_eq!(rt; shown(reply), *answer);
+/// What a drain is told that made so many deliveries before it was refused memory and goes on then.
+fn with(done: u32, said: Said) -> Said {
+    match said {
+        Said::Drained(more, left) => Said::Drained(done.saturating_add(more), left),
+        said => said,
     }
-    Ok(())
+}
+
+/// What is left of a drain that has made so many deliveries; any other event as it is.
+fn rest<E: RingElection>(event: Event<E>, done: u32) -> Event<E> {
+    match event {
+        Event::Drain(group, count) => Event::Drain(group, count.saturating_sub(done)),
+        event => event,
+    }
+}
+
+/// What an event is told. It is asked once more where it was refused memory; a drain makes what is left of its
+/// deliveries then.
+pub fn told<E: RingElection>(alloc: Global, mux: &mut Mux<E>, event: Event<E>) -> Said {
+    match mux.step(alloc, event) {
+        Reply::Refused(Refusal::NoMemory) => shown(&mux.step(alloc, event)),
+        Reply::Drained {
+            done,
+            starved: true,
+            ..
+        } => with(done, shown(&mux.step(alloc, rest(event, done)))),
+        reply => shown(&reply),
+    }
 }

@@ -9,9 +9,13 @@ mod drains;
 #[cfg(test)]
 mod events;
 #[cfg(test)]
+mod memory;
+#[cfg(test)]
 mod mux_rows;
 #[cfg(test)]
 mod node_rows;
+#[cfg(test)]
+mod nodes;
 #[cfg(test)]
 mod note_rows;
 #[cfg(test)]

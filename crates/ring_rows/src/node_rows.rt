@@ -1,6 +1,7 @@
 //! A node of the election of Chang and Roberts on 3, 1, 2, receipt by receipt.
 
-use crate::rings::{charter, identity, seated};
+use crate::nodes::{counts, offer, seated, shown};
+use crate::rings::{charter, identity};
 use ring_chang::Chang;
 use ring_id::Side;
 use ring_node::{Envelope, Node, Packet, TakeFault};
@@ -16,61 +17,49 @@ fn sent(node: &Node<Chang>, place: usize) -> Result<Envelope<Chang>, Fail> {
     Ok(envelope.ok_or("nothing was sent there")?)
 }
 
-/// The number of an envelope's message, and its index.
-fn shown(envelope: &Envelope<Chang>) -> Option<(u32, usize)> {
-    match envelope.packet() {
-        Packet::Algo(id) => Some((id.get(), envelope.index())),
-        Packet::Leader(_) => None,
+/// The fault for which a node doesn't take what another has sent to the right at this place; none where it takes
+/// it and tells nothing.
+fn fault(
+    node: &mut Node<Chang>,
+    sender: &Node<Chang>,
+    place: usize,
+) -> Result<Option<TakeFault>, Fail> {
+    match offer(node, sent(sender, place)?)? {
+        Ok(None) => Ok(None),
+        Ok(Some(_)) => Err("it knows no leader yet".into()),
+        Err((fault, _)) => Ok(Some(fault)),
     }
 }
 
-/// How many packets a node has taken from the left, and sent to the right.
-fn counts(node: &Node<Chang>) -> (usize, usize) {
-    (node.taken(Side::Left), node.sent(Side::Right))
-}
-
-/// Takes an envelope; whether there was a report.
-fn told(node: &mut Node<Chang>, envelope: Envelope<Chang>) -> Result<bool, Fail> {
-    match node.take(envelope) {
-        Ok(report) => Ok(report.is_some()),
-        Err((fault, _)) => Err(fault.into()),
-    }
-}
-
-/// Offers an envelope that is not taken: it comes back, and the node stays as it was.
-fn refused(
+/// What another has sent is offered to a node from these places, one after another, each time with this fault.
+fn faults(
     rt: &impl Abort,
     node: &mut Node<Chang>,
-    envelope: Envelope<Chang>,
-    why: TakeFault,
+    sender: &Node<Chang>,
+    offers: &[(usize, Option<TakeFault>)],
 ) -> Result<(), Fail> {
-    let (before, offered) = (counts(node), shown(&envelope));
-    let Err((fault, back)) = node.take(envelope) else {
-        return Err("it was taken".into());
-    };
-    assert_eq!(rt; fault, why);
-    assert_eq!(rt; counts(node), before);
-    assert_eq!(rt; shown(&back), offered);
+    for (place, why) in offers {
+        assert_eq!(rt; fault(node, sender, *place)?, *why);
+    }
     Ok(())
 }
 
 /// The node at position 1, which has taken the first envelope of position 0.
 fn passed_on(alloc: Global) -> Result<Node<Chang>, Fail> {
     let charter = charter(alloc, 1, Chang, &[3, 1, 2])?;
-    let first = seated(alloc, &charter, 0)?;
     let mut second = seated(alloc, &charter, 1)?;
-    if told(&mut second, sent(&first, 0)?)? {
-        return Err("it knows no leader yet".into());
+    match fault(&mut second, &seated(alloc, &charter, 0)?, 0)? {
+        None => Ok(second),
+        Some(fault) => Err(fault.into()),
     }
-    Ok(second)
 }
 
 #[test]
 fn a_node_sends_its_own_and_passes_a_greater_on(rt: HostRuntime) -> Result<(), Fail> {
     let second = passed_on(rt.alloc())?;
     assert_eq!(rt; counts(&second), (1, 2));
-    assert_eq!(rt; shown(&sent(&second, 0)?), Some((1, 0)));
-    assert_eq!(rt; shown(&sent(&second, 1)?), Some((3, 1)));
+    let both = [shown(&sent(&second, 0)?), shown(&sent(&second, 1)?)];
+    assert_eq!(rt; both, [Some((1, 0)), Some((3, 1))]);
     Ok(())
 }
 
@@ -78,9 +67,12 @@ fn a_node_sends_its_own_and_passes_a_greater_on(rt: HostRuntime) -> Result<(), F
 fn a_node_shows_what_it_has_received(rt: HostRuntime) -> Result<(), Fail> {
     let second = passed_on(rt.alloc())?;
     let three = Packet::Algo(identity(3)?);
-    assert_eq!(rt; second.receipt(Side::Left, 0), Some(three));
-    assert_eq!(rt; second.receipt(Side::Left, 1), None);
-    assert_eq!(rt; second.receipt(Side::Right, 0), None);
+    let receipts = [
+        second.receipt(Side::Left, 0),
+        second.receipt(Side::Left, 1),
+        second.receipt(Side::Right, 0),
+    ];
+    assert_eq!(rt; receipts, [Some(three), None, None]);
     assert_eq!(rt; second.receipts(), [(Side::Left, three)].as_slice());
     Ok(())
 }
@@ -89,10 +81,13 @@ fn a_node_shows_what_it_has_received(rt: HostRuntime) -> Result<(), Fail> {
 fn a_link_is_taken_in_order_and_once(rt: HostRuntime) -> Result<(), Fail> {
     let second = passed_on(rt.alloc())?;
     let mut third = seated(rt.alloc(), second.charter(), 2)?;
-    refused(&rt, &mut third, sent(&second, 1)?, TakeFault::Gap)?;
-    assert!(rt; !told(&mut third, sent(&second, 0)?)?);
-    refused(&rt, &mut third, sent(&second, 0)?, TakeFault::Repeat)?;
-    assert!(rt; !told(&mut third, sent(&second, 1)?)?);
+    let offers = [
+        (1, Some(TakeFault::Gap)),
+        (0, None),
+        (0, Some(TakeFault::Repeat)),
+        (1, None),
+    ];
+    faults(&rt, &mut third, &second, &offers)?;
     assert_eq!(rt; counts(&third), (2, 2));
     Ok(())
 }
@@ -101,11 +96,9 @@ fn a_link_is_taken_in_order_and_once(rt: HostRuntime) -> Result<(), Fail> {
 fn another_link_or_term_is_a_stranger(rt: HostRuntime) -> Result<(), Fail> {
     let second = passed_on(rt.alloc())?;
     let later = charter(rt.alloc(), 2, Chang, &[3, 1, 2])?;
+    let strange = Some(TakeFault::Stranger);
     let mut first = seated(rt.alloc(), second.charter(), 0)?;
+    faults(&rt, &mut first, &second, &[(0, strange), (1, strange)])?;
     let mut other = seated(rt.alloc(), &later, 2)?;
-    for place in 0..2 {
-        refused(&rt, &mut first, sent(&second, place)?, TakeFault::Stranger)?;
-        refused(&rt, &mut other, sent(&second, place)?, TakeFault::Stranger)?;
-    }
-    Ok(())
+    faults(&rt, &mut other, &second, &[(0, strange), (1, strange)])
 }

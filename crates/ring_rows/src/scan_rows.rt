@@ -95,30 +95,30 @@ fn taken<E: RingElection>(alloc: Global, algorithm: E, numbers: &[u32]) -> Resul
     compared(&mut begun(alloc, algorithm, numbers)?, 999)
 }
 
+/// How many deliveries the ring of these numbers takes under LeLann, Chang and Roberts, Hirschberg and Sinclair, and
+/// Peterson.
+fn all_taken(alloc: Global, numbers: &[u32]) -> Result<[u32; 4], Fail> {
+    let lelann = taken(alloc, LeLann, numbers)?;
+    let chang = taken(alloc, Chang, numbers)?;
+    let hirschberg = taken(alloc, Hirschberg, numbers)?;
+    let peterson = taken(alloc, Peterson, numbers)?;
+    Ok([lelann, chang, hirschberg, peterson])
+}
+
 #[test]
 fn scans_agree_on_a_ring_of_one(rt: HostRuntime) -> Result<(), Fail> {
-    assert_eq!(rt; taken(rt.alloc(), LeLann, &[7])?, 2);
-    assert_eq!(rt; taken(rt.alloc(), Chang, &[7])?, 2);
-    assert_eq!(rt; taken(rt.alloc(), Hirschberg, &[7])?, 3);
-    assert_eq!(rt; taken(rt.alloc(), Peterson, &[7])?, 3);
+    assert_eq!(rt; all_taken(rt.alloc(), &[7])?, [2, 2, 3, 3]);
     Ok(())
 }
 
 #[test]
 fn scans_agree_on_a_ring_of_two(rt: HostRuntime) -> Result<(), Fail> {
-    assert_eq!(rt; taken(rt.alloc(), LeLann, &[5, 9])?, 6);
-    assert_eq!(rt; taken(rt.alloc(), Chang, &[5, 9])?, 5);
-    assert_eq!(rt; taken(rt.alloc(), Hirschberg, &[5, 9])?, 12);
-    assert_eq!(rt; taken(rt.alloc(), Peterson, &[5, 9])?, 10);
+    assert_eq!(rt; all_taken(rt.alloc(), &[5, 9])?, [6, 5, 12, 10]);
     Ok(())
 }
 
 #[test]
 fn scans_agree_on_a_ring_of_five(rt: HostRuntime) -> Result<(), Fail> {
-    let ring = [4, 1, 3, 2, 6];
-    assert_eq!(rt; taken(rt.alloc(), LeLann, &ring)?, 30);
-    assert_eq!(rt; taken(rt.alloc(), Chang, &ring)?, 18);
-    assert_eq!(rt; taken(rt.alloc(), Hirschberg, &ring)?, 58);
-    assert_eq!(rt; taken(rt.alloc(), Peterson, &ring)?, 35);
+    assert_eq!(rt; all_taken(rt.alloc(), &[4, 1, 3, 2, 6])?, [30, 18, 58, 35]);
     Ok(())
 }

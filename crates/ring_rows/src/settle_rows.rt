@@ -1,8 +1,9 @@
 //! When nodes of the election of Chang and Roberts on 3, 1, 2 have settled.
 
-use crate::drain;
-use crate::rings::{charter, seated};
-use crate::worlds::begun;
+use crate::memory::add;
+use crate::nodes::{offer, seated};
+use crate::rings::charter;
+use crate::worlds::{begun, drained};
 use ring_chang::Chang;
 use ring_id::Side;
 use ring_node::{Charter, Node};
@@ -14,7 +15,7 @@ use std::test::Fail;
 /// Whether a world has settled after so many deliveries, with so many of its nodes.
 fn settlement(alloc: Global, deliveries: u32, nodes: usize) -> Result<Settlement, Fail> {
     let mut world = begun(alloc, Chang, &[3, 1, 2])?;
-    drain(&mut world, deliveries)?;
+    drained(&mut world, deliveries)?;
     let nodes = world.nodes().get(..nodes).ok_or("no such nodes")?;
     Ok(settle(world.charter(), nodes))
 }
@@ -48,7 +49,7 @@ fn hand_on(nodes: &mut [Node<Chang>], position: usize, left: usize) -> Result<bo
         return Ok(false);
     };
     let receiver = nodes.get_mut(position).ok_or("no such node")?;
-    match receiver.take(envelope) {
+    match offer(receiver, envelope)? {
         Ok(_) => Ok(true),
         Err((fault, _)) => Err(fault.into()),
     }
@@ -58,7 +59,7 @@ fn hand_on(nodes: &mut [Node<Chang>], position: usize, left: usize) -> Result<bo
 fn settled_nodes(alloc: Global, charter: &Arc<Charter<Chang>>) -> Result<Vec<Node<Chang>>, Fail> {
     let mut nodes = Vec::new(alloc);
     for position in 0..3 {
-        nodes.push(seated(alloc, charter, position)?)?;
+        add(&mut nodes, seated(alloc, charter, position)?)?;
     }
     for (position, left) in [(0, 2), (1, 0), (2, 1)].into_iter().cycle().take(12) {
         hand_on(&mut nodes, position, left)?;
@@ -66,13 +67,20 @@ fn settled_nodes(alloc: Global, charter: &Arc<Charter<Chang>>) -> Result<Vec<Nod
     Ok(nodes)
 }
 
+/// The same nodes, and the last of them a second time.
+fn doubled_nodes(alloc: Global, charter: &Arc<Charter<Chang>>) -> Result<Vec<Node<Chang>>, Fail> {
+    let mut nodes = settled_nodes(alloc, charter)?;
+    let double = settled_nodes(alloc, charter)?.pop();
+    add(&mut nodes, double.ok_or("no node")?)?;
+    Ok(nodes)
+}
+
 #[test]
 fn nodes_by_themselves_settle_and_a_double_does_not(rt: HostRuntime) -> Result<(), Fail> {
     let charter = charter(rt.alloc(), 1, Chang, &[3, 1, 2])?;
-    let mut nodes = settled_nodes(rt.alloc(), &charter)?;
-    assert_eq!(rt; settle(&charter, &nodes), Settlement::Settled);
-    let double = settled_nodes(rt.alloc(), &charter)?.pop();
-    nodes.push(double.ok_or("no node")?)?;
-    assert_eq!(rt; settle(&charter, &nodes), Settlement::Incomplete);
+    let settled = settle(&charter, &settled_nodes(rt.alloc(), &charter)?);
+    let doubled = settle(&charter, &doubled_nodes(rt.alloc(), &charter)?);
+    let wanted = (Settlement::Settled, Settlement::Incomplete);
+    assert_eq!(rt; (settled, doubled), wanted);
     Ok(())
 }

@@ -1,10 +1,13 @@
 //! Worlds of the rows, and deliveries in them.
 
+use crate::drain;
 use crate::rings::charter;
 use ring_election::RingElection;
-use ring_id::{Refusal, Side};
+use ring_id::{NoMemory, Refusal, Side};
+use ring_node::Charter;
 use ring_world::{Delivery, World};
 use std::alloc::Global;
+use std::sync::Arc;
 use std::test::Fail;
 
 /// What a delivery did.
@@ -20,31 +23,84 @@ pub enum Did {
     Refused(Refusal),
 }
 
+/// The world of a charter, in which nothing was delivered. Asked for once more where memory was refused.
+pub fn begun_on<E: RingElection>(
+    alloc: Global,
+    charter: &Arc<Charter<E>>,
+) -> Result<World<E>, Fail> {
+    match World::begin(alloc, Arc::try_clone(charter)?) {
+        Ok(world) => Ok(world),
+        Err(NoMemory) => Ok(World::begin(alloc, Arc::try_clone(charter)?)?),
+    }
+}
+
 /// The world of a first term on the ring of these numbers.
 pub fn begun<E: RingElection>(
     alloc: Global,
     algorithm: E,
     numbers: &[u32],
 ) -> Result<World<E>, Fail> {
-    let charter = charter(alloc, 1, algorithm, numbers)?;
-    Ok(World::begin(alloc, charter)?)
+    begun_on(alloc, &charter(alloc, 1, algorithm, numbers)?)
 }
 
-/// Delivers on the link into this position from a side.
+/// How many packets a world has in flight or stuck, and how many it has delivered.
+pub fn counts<E: RingElection>(world: &World<E>) -> (u128, u128) {
+    (world.pending(), world.delivered())
+}
+
+/// Delivers on the link into this position from a side. What is refused changes nothing.
+fn deliver_once<E: RingElection>(
+    world: &mut World<E>,
+    position: usize,
+    side: Side,
+) -> Result<Delivery<E>, Fail> {
+    if position >= world.charter().roster().len() {
+        return Err("no such position".into());
+    }
+    let before = counts(world);
+    let delivery = world.deliver(position, side);
+    if matches!(delivery, Delivery::Refused(_)) && counts(world) != before {
+        return Err("a refusal changed something".into());
+    }
+    Ok(delivery)
+}
+
+/// The same, and once more where memory was refused.
+pub fn delivery<E: RingElection>(
+    world: &mut World<E>,
+    position: usize,
+    side: Side,
+) -> Result<Delivery<E>, Fail> {
+    match deliver_once(world, position, side)? {
+        Delivery::Refused(Refusal::NoMemory) => deliver_once(world, position, side),
+        delivery => Ok(delivery),
+    }
+}
+
+/// What a delivery on the link into this position from a side did.
 pub fn deliver<E: RingElection>(
     world: &mut World<E>,
     position: usize,
     side: Side,
 ) -> Result<Did, Fail> {
-    if position >= world.charter().roster().len() {
-        return Err("no such position".into());
-    }
-    Ok(match world.deliver(position, side) {
+    Ok(match delivery(world, position, side)? {
         Delivery::Moved(None) => Did::Moved,
         Delivery::Moved(Some(report)) => Did::Told(report.leader().get()),
         Delivery::Idle => Did::Idle,
         Delivery::Refused(refusal) => Did::Refused(refusal),
     })
+}
+
+/// Drains a world, and goes on where memory was refused: how many deliveries there were in all.
+pub fn drained<E: RingElection>(world: &mut World<E>, most: u32) -> Result<u32, Fail> {
+    let before = world.delivered();
+    if let Ok(done) = drain(world, most) {
+        return Ok(done);
+    }
+    let made = world.delivered().saturating_sub(before);
+    let made = u32::try_from(made).map_err(|_| "more deliveries than were asked for")?;
+    let rest = drain(world, most.saturating_sub(made))?;
+    Ok(made.saturating_add(rest))
 }
 
 /// Cuts the link into this position from a side, and whether it is cut then.

@@ -2,12 +2,15 @@ use super::Table;
 use crate::entry::Entry;
 use crate::trial::{Elected, elect, is_line};
 use ring_any::Any;
-use ring_id::GroupName;
+use ring_id::{GroupName, NoMemory, Refusal};
 use ring_lines::parse_command;
+use ring_mux::Reply;
+use ring_node::{Charter, Node, Report};
 use ring_terms::Noting;
 use ring_workers::Filed;
 use std::alloc::Global;
 use std::slice;
+use std::sync::Arc;
 
 // The lines that start a term of one member, each with its reply.
 const STARTED: [(&[u8], &[u8]); 3] = [
@@ -16,7 +19,44 @@ const STARTED: [(&[u8], &[u8]); 3] = [
     (b"start a", b"term 1\n"),
 ];
 
-// Whether each line of a session gets its reply; none where memory is refused.
+// What a line of a session is told.
+fn told_once(table: &mut Table<Any>, session: u32, line: &[u8]) -> Option<Reply> {
+    Some(table.call(session, parse_command(line)?))
+}
+
+// The same once more where memory was refused.
+fn told(table: &mut Table<Any>, session: u32, line: &[u8]) -> Option<Reply> {
+    match told_once(table, session, line)? {
+        Reply::Refused(Refusal::NoMemory) => told_once(table, session, line),
+        reply => Some(reply),
+    }
+}
+
+// What becomes of a report, asked once more where memory was refused.
+fn filed(table: &mut Table<Any>, report: &Report<Any>) -> Filed {
+    match table.report(report) {
+        Filed::Refused(Refusal::NoMemory) => table.report(report),
+        filed => filed,
+    }
+}
+
+// A start with two copies of its charter, asked for once more where memory was refused.
+fn begun(table: &mut Table<Any>, group: GroupName) -> (Reply, Vec<Arc<Charter<Any>>>) {
+    match table.begin(1, group, 2) {
+        (Reply::Refused(Refusal::NoMemory), _) => table.begin(1, group, 2),
+        begun => begun,
+    }
+}
+
+// Files what a node knows, and once more where memory was refused.
+fn finish(table: &mut Table<Any>, node: &Node<Any>) -> Result<(), NoMemory> {
+    match table.finish(slice::from_ref(node)) {
+        Ok(()) => Ok(()),
+        Err(NoMemory) => table.finish(slice::from_ref(node)),
+    }
+}
+
+// Whether each line of a session gets its reply; none where a test's own memory is refused.
 fn answers(
     alloc: Global,
     table: &mut Table<Any>,
@@ -25,7 +65,7 @@ fn answers(
 ) -> Option<bool> {
     let mut all = true;
     for (line, reply) in rows {
-        let told = table.call(session, parse_command(line)?);
+        let told = told(table, session, line)?;
         all = is_line(alloc, &told, reply)? && all;
     }
     Some(all)
@@ -42,34 +82,40 @@ fn counts_all(alloc: Global) -> Option<bool> {
     let mut table = Table::new(alloc);
     let mut all = answers(alloc, &mut table, 1, &STARTED)?;
     let report = elected_in(alloc, &table)?.report;
-    all = all && table.report(&report) == Filed::Noted;
-    all = all && table.report(&report) == Filed::Known;
+    all = all && filed(&mut table, &report) == Filed::Noted;
+    all = all && filed(&mut table, &report) == Filed::Known;
     all = answers(alloc, &mut table, 2, &[(b"who a 7", b"leader 1 7\n")])? && all;
     all = answers(alloc, &mut table, 1, &[(b"start a", b"term 2\n")])? && all;
-    Some(all && table.report(&report) == Filed::Stale && table.history().len() == 8)
+    Some(all && filed(&mut table, &report) == Filed::Stale && table.history().len() == 8)
 }
 
 #[test]
 fn every_call_and_report_is_an_entry(rt: HostRuntime) {
-    let first = counts_all(rt.alloc());
-    assert!(rt; first == Some(true) || counts_all(rt.alloc()) == Some(true));
+    let all = match counts_all(rt.alloc()) {
+        None => counts_all(rt.alloc()),
+        all => all,
+    };
+    assert_eq!(rt; all, Some(true));
 }
 
 // Whether a start hands out as many charters as were asked for, and one that is refused none.
 fn hands_out(alloc: Global) -> Option<bool> {
     let group = GroupName::from_bytes(b"a").ok()?;
     let mut table = Table::new(alloc);
-    let (refused, none) = table.begin(1, group, 2);
+    let (refused, none) = begun(&mut table, group);
     let mut all = is_line(alloc, &refused, b"no no-group\n")? && none.is_empty();
     all = answers(alloc, &mut table, 1, &STARTED[..2])? && all;
-    let (told, two) = table.begin(1, group, 2);
+    let (told, two) = begun(&mut table, group);
     Some(is_line(alloc, &told, b"term 1\n")? && all && two.len() == 2)
 }
 
 #[test]
 fn a_start_hands_out_charters(rt: HostRuntime) {
-    let first = hands_out(rt.alloc());
-    assert!(rt; first == Some(true) || hands_out(rt.alloc()) == Some(true));
+    let all = match hands_out(rt.alloc()) {
+        None => hands_out(rt.alloc()),
+        all => all,
+    };
+    assert_eq!(rt; all, Some(true));
 }
 
 // Whether the last entry is a filing that became this.
@@ -85,15 +131,18 @@ fn finishes(alloc: Global) -> Option<bool> {
     let mut table = Table::new(alloc);
     let mut all = answers(alloc, &mut table, 1, &STARTED)?;
     let node = elected_in(alloc, &table)?.node;
-    table.finish(slice::from_ref(&node)).ok()?;
+    finish(&mut table, &node).ok()?;
     all = all && ends_with(&table, Noting::Noted);
     all = answers(alloc, &mut table, 2, &[(b"who a 7", b"leader 1 7\n")])? && all;
-    table.finish(slice::from_ref(&node)).ok()?;
+    finish(&mut table, &node).ok()?;
     Some(all && ends_with(&table, Noting::Known) && table.history().len() == 6)
 }
 
 #[test]
 fn finish_files_what_the_nodes_know(rt: HostRuntime) {
-    let first = finishes(rt.alloc());
-    assert!(rt; first == Some(true) || finishes(rt.alloc()) == Some(true));
+    let all = match finishes(rt.alloc()) {
+        None => finishes(rt.alloc()),
+        all => all,
+    };
+    assert_eq!(rt; all, Some(true));
 }
