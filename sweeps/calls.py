@@ -15,18 +15,21 @@ from sweep import Bad, ROOT
 
 # Sessions over a front, some of which fail.
 FRONT = ("front::tests::a_session_counts_its_lines", "front::tests::a_session_tells_which_end_failed")
+# Two sessions or two threads at one table.
+SHARED = ("session_rows::", "thread_rows::")
 # Tests that ask once more, by crate and by the beginnings of their names: for each growth they have to pass.
 ASK_AGAIN = {
     "ring_grammar_tests": ("",),
     "ring_lines_tests": ("",),
     "ring_rows_tests": ("",),
     "ring_service_tests": (*FRONT, "table::tests::"),
-    "ring_turn_rows_tests": ("seat_rows::",),
+    "ring_turn_rows_tests": ("seat_rows::", *SHARED),
     "ring_worker_rows_tests": ("starved_worker::",),
 }
 # Tests that start threads, and end whichever growth is refused.
 THREADED = {
     "ring_service_tests": FRONT,
+    "ring_turn_rows_tests": SHARED,
     "ringd_tests": ("listening::tests::a_failed_", "running::tests::a_run_says_that_it_listens"),
 }
 # What the test program says where a test ends by an error, and where it stops at an assertion.
