@@ -1,4 +1,4 @@
-use Rattle.std.specs.Prelude.{◌≡◌, ◌+◌, ◌-◌, ◌<◌, ◌≤◌, ◌||◌, ◌&&◌, ◌==◌, ℕ, Bool, true, List, ◌++◌, length, replicate, nat_le}
+use Rattle.std.specs.Prelude.{◌≡◌, ◌-◌, ◌<◌, ◌≤◌, ◌||◌, ◌&&◌, ◌==◌, ℕ, Bool, true, List, ◌++◌, length, replicate, nat_le}
 use Rattle.std.specs.List.{list_all}
 
 -- a lowercase letter, a digit or a hyphen

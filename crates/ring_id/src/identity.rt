@@ -1,6 +1,12 @@
-ghost use Rattle.std.specs.Prelude.{◌≡◌, ℕ, ◌<◌, ◌≤◌, ◌↔◌, IsTrue, IsSome, IfSome};
+ghost use Rattle.std.specs.Prelude.{◌≡◌, ℕ, ◌<◌, ◌≤◌, ◌↔◌, Some, nat_eq, IsTrue, IsSome, IfSome};
+ghost use Rattle.std.specs.Cmp.Rules.{comparing, hashing};
+ghost use Rattle.std.specs.Hash as fed;
+ghost use Rattle.std.specs.Ordering.{nat_cmp};
+ghost use Rattle.std.proofs.Common.{rules};
 ghost use Rattle.ring_id.specs.Identity.{number_of, rank_of, weight_of};
 
+use std::cmp::Ordering;
+use std::hash::{Hash, Hasher};
 use std::marker::Model;
 
 /// The number of a node, from 1 to 4294967295: what a node is called by, and looked up.
@@ -50,11 +56,11 @@ impl NodeNo {
 /// equal exactly where both are. Contracts see an identity as its rank, the weight times 2^32 plus
 /// the number, which has the same order. Comparison of identities is all that the ring algorithms
 /// ever do with them (Lynch, Distributed Algorithms, 3.1).
-#[derive(Clone, Copy, Debug, PartialEq, Eq, PartialOrd, Ord, Hash)]
+#[derive(Clone, Copy, Debug)]
 pub struct NodeId {
-    // the derived order looks at the weight first
-    weight: u16,
+    // in this order the two are read as one word, the rank
     number: NodeNo,
+    weight: u32,
 }
 
 impl Model for NodeId {
@@ -66,9 +72,9 @@ impl Model for NodeId {
 
     ghost view = { λ a. rank_of a.weight a.number };
 
-    ghost invariant = { λ a. (0 < a.number) × (a.number < 4294967296) };
+    ghost invariant = { λ a. (0 < a.number) × (a.number < 4294967296) × (a.weight < 65536) };
 
-    ghost inverse = { λ rank. record { weight = weight_of rank; number = number_of rank } };
+    ghost inverse = { λ rank. record { number = number_of rank; weight = weight_of rank } };
 
     ghost inverse_ok = { λ a h. Prim.rw (weight_of-rank a.weight a.number h.1, number_of-rank a.weight a.number h.1) refl };
 }
@@ -90,7 +96,10 @@ impl NodeId {
         ensures weight { IfSome result (λ id. weight_of id ≡ weight) }
     {
         let number = NodeNo::new(number)?;
-        Some(NodeId { weight, number })
+        Some(NodeId {
+            number,
+            weight: weight as u32,
+        })
     }
 
     /// The number of this identity, by which it is looked up. With the weight it says the whole
@@ -106,7 +115,7 @@ impl NodeId {
     pub fn weight(self) -> u16
         ensures value { result ≡ weight_of self }
     {
-        self.weight
+        self.weight as u16
     }
 
     /// The plain number of this identity, which is never 0.
@@ -115,6 +124,61 @@ impl NodeId {
         ensures positive { 0 < result }
     {
         self.number.get()
+    }
+
+    /// The rank of this identity.
+    fn rank(self) -> u64
+        ensures { result ≡ self }
+    {
+        (self.weight as u64) * 4294967296 + self.number.get() as u64
+    }
+}
+
+impl PartialEq for NodeId {
+    ghost eq = { nat_eq };
+
+    ghost laws = { Prim.search (comparing, rules) };
+
+    fn eq(&self, other: &NodeId) -> bool {
+        self.rank() == other.rank()
+    }
+}
+
+impl Eq for NodeId {
+    ghost laws = { Prim.search rules };
+}
+
+impl PartialOrd for NodeId {
+    ghost partial_cmp = { λ a b. Some (nat_cmp a b) };
+
+    ghost laws = { Prim.search (comparing, rules) };
+
+    fn partial_cmp(&self, other: &NodeId) -> Option<Ordering> {
+        Some(self.cmp(other))
+    }
+}
+
+impl Ord for NodeId {
+    ghost cmp = { nat_cmp };
+
+    ghost total = { Prim.search rules };
+
+    ghost matches_partial_cmp = { Prim.search rules };
+
+    ghost matches_eq = { Prim.search rules };
+
+    fn cmp(&self, other: &NodeId) -> Ordering {
+        self.rank().cmp(&other.rank())
+    }
+}
+
+impl Hash for NodeId {
+    ghost hash_input = { λ rank. fed.u64 rank };
+
+    ghost respects_eq = { Prim.search (hashing, rules) };
+
+    fn hash<H: Hasher>(&self, state: &mut H) {
+        self.rank().hash(state);
     }
 }
 
@@ -130,7 +194,15 @@ pub fn is_greater(a: NodeId, b: NodeId) -> bool
 pub fn same_ids(a: &[NodeId], b: &[NodeId]) -> bool
     ensures { IsTrue result ↔ (a.now ≡ b.now) }
 {
-    a == b
+    if a.len() != b.len() {
+        return false;
+    }
+    let mut same = true;
+    // lists that are asked about are nearly always the same, so the loop has no way out
+    for place in 0..a.len() {
+        same &= a[place] == b[place];
+    }
+    same
 }
 
 #[cfg(test)]

@@ -1,18 +1,16 @@
 -- A delivery in a group's world keeps what a mux keeps: a member is informed exactly where its node
 -- knows, and the object moves by a step.
-use Rattle.std.proofs.Common.{◌≡◌, ◌≢◌, ◌-◌, ◌<◌, ◌==◌, ℕ, zero, suc, get_or, Bool, true, false, cond, List, [], ◌∷◌, length, Option, Some, None, is_some, option_map, slice_get, slice_set, refl, sym, ap, ◌∙◌, arith, inl, inr}
+use Rattle.std.proofs.Common.{◌≡◌, ◌≢◌, ◌-◌, ◌<◌, ℕ, zero, suc, get_or, Bool, true, false, cond, List, [], ◌∷◌, length, Option, Some, None, is_some, option_map, slice_get, slice_set, refl, sym, ap, ◌∙◌, arith, inl, inr}
 use Rattle.std.specs.Map.{lookup, set_value}
 use Rattle.std.specs.Str.{bytes_eq}
 use Rattle.std.proofs.lemmas.Cmp.{nat_list_eq_equiv}
-use Rattle.std.proofs.lemmas.Bool.Decides.{nat_tests}
-use Rattle.std.proofs.lemmas.List.Quantifiers.{position-Some}
 use Rattle.std.proofs.lemmas.Map.{lookup-set_value}
 use Rattle.std.proofs.Math.ListN.{length-set}
 use Rattle.std.proofs.lemmas.Option.{slice_get-get_or, slice_get_within}
 use Rattle.std.proofs.lemmas.Slice.Eq.{bytes_eq-Decides}
 use Rattle.ring_id.specs.declared.side.Side.{Side}
 use Rattle.ring_id.specs.Identity.{number_of}
-use Rattle.ring_roster.specs.Ring.{IsRing, is_numbered, position_of}
+use Rattle.ring_roster.specs.Ring.{IsRing, position_of}
 use Rattle.ring_election.specs.Tables.{Table}
 use Rattle.ring_node.specs.declared.charter.Charter.{Charter}
 use Rattle.ring_node.specs.declared.packet.Packet.{Packet}
@@ -29,7 +27,7 @@ use Rattle.ring_terms.specs.Moves.{Informs, LeadsAfter, inform}
 use Rattle.ring_terms.specs.Notes.{NotesOf}
 use Rattle.ring_terms.specs.declared.standing.Noting.{Noting}
 use Rattle.ring_terms.specs.declared.standing.Noting.TheVariants.{Noted, Known, Stale}
-use Rattle.ring_terms.proofs.Members.{position_of-member, same_numbered}
+use Rattle.ring_terms.proofs.Members.{position_is, position_of-at}
 use Rattle.ring_mux.specs.Steps.{MovesOf}
 use Rattle.ring_mux.specs.Views.{IsHeld, IsSeat, IsWorldOf, world_in}
 use Rattle.ring_mux.specs.Journeys.{with_world}
@@ -188,14 +186,6 @@ module _ {E S M : Type 0} (t : E → Table S M) (object : Object E) (worlds : Li
         ] refl;
   }
 
--- where a member of a ring stands
-pub position_is : (ring : List ℕ) (i m k : ℕ) → IsRing ring → slice_get ring i ≡ Some m → position_of (number_of m) ring ≡ Some k → k ≡ i
-position_is ring i m k is_ring here placed =
-    let at = position-Some (is_numbered (number_of m)) ring k 0 placed in
-    let test : number_of (get_or ring k 0) == number_of m ≡ true = at.1 in
-    let same : number_of (get_or ring k 0) ≡ number_of m = grind (arith, nat_tests) in
-    same_numbered ring k i (get_or ring k 0) m is_ring.distinct (slice_get-get_or ring k 0 (at.0)) here same
-
 -- what was written at a place stands there, and all else as before
 set_here : {X : Type 0} (xs : List X) (i : ℕ) (y : X) → i < length xs → slice_get (slice_set xs i y) i ≡ Some y
 set_here [] i y h = absurd (omega arith)
@@ -246,7 +236,7 @@ module _ {E S M : Type 0} (t : E → Table S M) (object : Object E) (worlds : Li
         let ring : IsRing term.ring = rw (here_of.0) at is_ring in
         let knows = told_knows t world i within side p report told in
         let member : report.member ≡ get_or term.ring i 0 = knows.3 ∙ ap (λ (c : Charter E). get_or c.roster i 0) (here_of.0) in
-        position_is term.ring i report.member k ring (slice_get-get_or term.ring i 0 below ∙ ap (λ (n : ℕ). Some n) (sym member)) placed
+        position_is term.ring i report.member k ring.distinct (slice_get-get_or term.ring i 0 below ∙ ap (λ (n : ℕ). Some n) (sym member)) placed
 
     -- it was not informed
     reporter_unmarked : slice_get term.informed i ≡ Some false
@@ -316,9 +306,5 @@ module _ {E S M : Type 0} (t : E → Table S M) (object : Object E) (worlds : Li
     noted greatest Stale object' notes = absurd ((notes.0) (rw at reporter_runs))
 
 -- a member stands at its own position
-member_at : (ring : List ℕ) (i m : ℕ) (o : Option ℕ) → IsRing ring → slice_get ring i ≡ Some m → position_of (number_of m) ring ≡ o → position_of (number_of m) ring ≡ Some i
-member_at ring i m (Some k) is_ring here e = e ∙ ap (λ (n : ℕ). Some n) (position_is ring i m k is_ring here e)
-member_at ring i m None is_ring here e = absurd (position_of-member m ring i here e)
-
 pub position_here : (ring : List ℕ) (i : ℕ) → IsRing ring → i < length ring → position_of (number_of (get_or ring i 0)) ring ≡ Some i
-position_here ring i is_ring below = member_at ring i (get_or ring i 0) (position_of (number_of (get_or ring i 0)) ring) is_ring (slice_get-get_or ring i 0 below) refl
+position_here ring i is_ring below = position_of-at ring i (get_or ring i 0) is_ring.distinct (slice_get-get_or ring i 0 below)

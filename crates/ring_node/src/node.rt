@@ -158,7 +158,7 @@ impl<E: RingElection> Node<E> {
         ensures { result ≡ report_of E.table self.now }
     {
         let leader = self.known?;
-        Some(Report::new(copy, self.me, leader))
+        Some(Report::new(copy, self.position, self.me, leader))
     }
 
     /// Takes an envelope. The answer is this node's report, which is there exactly where this receipt
@@ -179,7 +179,10 @@ impl<E: RingElection> Node<E> {
         let from = envelope.side().other();
         match self.accept(from, envelope.packet()) {
             Ok(None) => Ok(None),
-            Ok(Some(leader)) => Ok(Some(Report::new(envelope.into_charter(), self.me, leader))),
+            Ok(Some(leader)) => {
+                let charter = envelope.into_charter();
+                Ok(Some(Report::new(charter, self.position, self.me, leader)))
+            }
             Err(NoMemory) => Err((TakeFault::NoMemory, envelope)),
         }
     }

@@ -1,4 +1,4 @@
-ghost use Rattle.std.specs.Prelude.{◌≡◌};
+ghost use Rattle.std.specs.Prelude.{◌≡◌, Some, slice_get};
 ghost use Rattle.ring_node.specs.Reports.{IsTruthful};
 
 use crate::charter::Charter;
@@ -14,28 +14,37 @@ use std::sync::Arc;
 #[derive(Drop)]
 pub struct Report<E: RingElection> {
     charter: Arc<Charter<E>>,
+    position: usize,
     member: NodeId,
     leader: NodeId,
 }
 
 impl<E: RingElection> Model for Report<E> {
+    ghost use Rattle.std.specs.Prelude.{◌≡◌, Some, slice_get};
     ghost use Rattle.ring_node.specs.Reports.{IsTruthful, Told};
 
     ghost Value = { Told E };
 
     ghost view = { λ a. record { charter = a.charter.value; member = a.member; leader = a.leader } };
 
-    ghost invariant = { λ a. IsTruthful (E.winner a.charter.value.algorithm) a.charter.value.roster a.member a.leader };
+    ghost invariant = { λ a. IsTruthful (E.winner a.charter.value.algorithm) a.charter.value.roster a.member a.leader × (slice_get a.charter.value.roster a.position ≡ Some a.member) };
 }
 
 impl<E: RingElection> Report<E> {
-    /// The report that this member of the charter's ring knows this leader, its winner.
-    pub(crate) fn new(charter: Arc<Charter<E>>, member: NodeId, leader: NodeId) -> Report<E>
-        requires { IsTruthful (E.winner charter.value.algorithm) charter.value.roster member leader }
+    /// The report that the member at this position of the charter's ring knows this leader, its winner.
+    pub(crate) fn new(
+        charter: Arc<Charter<E>>,
+        position: usize,
+        member: NodeId,
+        leader: NodeId,
+    ) -> Report<E>
+        requires truthful { IsTruthful (E.winner charter.value.algorithm) charter.value.roster member leader }
+        requires there { slice_get charter.value.roster position ≡ Some member }
         ensures { result ≡ record { charter = charter.value; member = member; leader = leader } }
     {
         Report {
             charter,
+            position,
             member,
             leader,
         }
@@ -54,6 +63,14 @@ impl<E: RingElection> Report<E> {
         ensures truthful { IsTruthful (E.winner self.now.charter.algorithm) self.now.charter.roster self.now.member self.now.leader }
     {
         self.member
+    }
+
+    /// Where that member stands on the charter's ring.
+    pub fn position(&self) -> usize
+        ensures there { slice_get self.now.charter.roster result ≡ Some self.now.member }
+        ensures truthful { IsTruthful (E.winner self.now.charter.algorithm) self.now.charter.roster self.now.member self.now.leader }
+    {
+        self.position
     }
 
     /// The leader.

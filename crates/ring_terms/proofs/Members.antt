@@ -1,8 +1,9 @@
 -- Members with different numbers, after one joined and after one left; and where a member stands.
-use Rattle.std.proofs.Common.{◌≡◌, ◌≤◌, ℕ, zero, suc, Bool, true, false, cond, ◌||◌, true≢false, List, [], ◌∷◌, ◌++◌, length, filter, get_or, None, Some, refl, sym, ap, ◌∙◌, arith}
+use Rattle.std.proofs.Common.{◌≡◌, ◌≤◌, ℕ, zero, suc, Bool, true, false, cond, ◌||◌, true≢false, List, [], ◌∷◌, ◌++◌, length, filter, get_or, Option, None, Some, ◌==◌, refl, sym, ap, ◌∙◌, arith}
 use Rattle.std.specs.Prelude.{slice_get}
 use Rattle.std.specs.List.{list_any, position_or_len}
-use Rattle.std.proofs.lemmas.Option.{get_or_from_slice_get, slice_get_within}
+use Rattle.std.proofs.lemmas.Option.{get_or_from_slice_get, slice_get-get_or, slice_get_within}
+use Rattle.std.proofs.lemmas.List.Quantifiers.{position-Some}
 use Rattle.std.proofs.lemmas.List.Sums.{fails_before_first}
 use Rattle.std.proofs.lemmas.Bool.Decides.{nat_tests}
 use Rattle.ring_id.specs.Identity.{number_of}
@@ -80,3 +81,19 @@ position_of-member node ring i there none =
     let past : length ring ≤ position_or_len (is_numbered (number_of node)) ring = grind (arith, nat_tests) in
     let fails : is_numbered (number_of node) (get_or ring i node) ≡ false = fails_before_first (is_numbered (number_of node)) ring i node (omega arith) in
     grind (arith, nat_tests)
+
+-- a member has no position but its own
+pub position_is : (ring : List ℕ) (i m k : ℕ) → has_repeat ring ≡ false → slice_get ring i ≡ Some m → position_of (number_of m) ring ≡ Some k → k ≡ i
+position_is ring i m k distinct here placed =
+    let at = position-Some (is_numbered (number_of m)) ring k 0 placed in
+    let test : number_of (get_or ring k 0) == number_of m ≡ true = at.1 in
+    let same : number_of (get_or ring k 0) ≡ number_of m = grind (arith, nat_tests) in
+    same_numbered ring k i (get_or ring k 0) m distinct (slice_get-get_or ring k 0 (at.0)) here same
+
+position_of-found : (ring : List ℕ) (i m : ℕ) (found : Option ℕ) → has_repeat ring ≡ false → slice_get ring i ≡ Some m → position_of (number_of m) ring ≡ found → position_of (number_of m) ring ≡ Some i
+position_of-found ring i m (Some k) distinct here e = e ∙ ap (λ (n : ℕ). Some n) (position_is ring i m k distinct here e)
+position_of-found ring i m None distinct here e = absurd (position_of-member m ring i here e)
+
+-- a member has the position at which it stands
+pub position_of-at : (ring : List ℕ) (i m : ℕ) → has_repeat ring ≡ false → slice_get ring i ≡ Some m → position_of (number_of m) ring ≡ Some i
+position_of-at ring i m distinct here = position_of-found ring i m (position_of (number_of m) ring) distinct here refl

@@ -76,9 +76,7 @@ impl<E: RingElection> Term<E> {
         if !self.charter.same(report.charter()) {
             return Noting::Stale;
         }
-        let Some(position) = self.charter.roster().position(report.member().number()) else {
-            return Noting::Stale;
-        };
+        let position = report.position();
         if self.informed[position] {
             return Noting::Known;
         }

@@ -1,28 +1,11 @@
--- Sets of links as bits: one word of them is written, and the first bit is found.
-use Rattle.std.proofs.Common.{◌≡◌, ◌≢◌, ◌+◌, ◌*◌, ◌/◌, ◌%◌, ◌^◌, ◌<◌, ℕ, List, length, Some, get_or, set, ap, ◌∙◌, inl, inr, arith, get_or-set_other, get_or-set_same, w64}
+-- Sets of links as bits: the first bit is found.
+use Rattle.std.proofs.Common.{◌≡◌, ◌≢◌, ◌+◌, ◌*◌, ◌/◌, ◌%◌, ◌^◌, ◌<◌, ℕ, List, length, Some, get_or, refl, ap, ◌∙◌, inl, inr, arith, w64}
 use Rattle.std.proofs.lemmas.Bool.{cases_lt}
 use Rattle.std.specs.Int.{bit_at, trailing_zeros}
 use Rattle.std.proofs.lemmas.List.{get_or_past}
 use Rattle.std.proofs.lemmas.Nat.Bits.{bit_at-trailing_zeros, bit_at-zero}
-use Rattle.ring_world.specs.LinkSets.{IsFirst, bit_of}
+use Rattle.ring_world.specs.LinkSets.{IsFirst, IsSummary, bit_of}
 use Rattle.ring_world.proofs.Links.{same_or_not}
-
--- where a word is written, its bits are those of the place
-pub bit_of-set_same : (words : List ℕ) (word place b : ℕ) → place / 64 < length words → bit_at word (place % 64) ≡ b → bit_of (set words (place / 64) word) place ≡ b
-bit_of-set_same words word place b within is = ap (λ (n : ℕ). bit_at n (place % 64)) (get_or-set_same words (place / 64) word 0 within) ∙ is
-
--- where only one bit of the word changed, no other bit of the set did
-pub bit_of-set_other : (words : List ℕ) (word place other : ℕ) → place / 64 < length words → ((i : ℕ) → i < 64 → i ≢ place % 64 → bit_at word i ≡ bit_at (get_or words (place / 64) 0) i)
-    → other ≢ place
-    → bit_of (set words (place / 64) word) other ≡ bit_of words other
-bit_of-set_other words word place other within kept differ =
-    elim (same_or_not (other / 64) (place / 64)) [
-      | inr away ↦ ap (λ (n : ℕ). bit_at n (other % 64)) (get_or-set_other words (place / 64) (other / 64) word 0 away)
-      | inl here ↦
-          let low : other % 64 < 64 = omega arith in
-          let beside : other % 64 ≢ place % 64 = omega arith in
-          rw here (ap (λ (n : ℕ). bit_at n (other % 64)) (get_or-set_same words (place / 64) word 0 within) ∙ kept (other % 64) low beside)
-    ]
 
 -- where each word is 0, so is what stands past the last
 word_or_none : (words : List ℕ) → ((k : ℕ) → k < length words → get_or words k 0 ≡ 0) → (k : ℕ) → get_or words k 0 ≡ 0
@@ -54,3 +37,22 @@ first_bit words index word zeros is some fits =
             | inr differ ↦ ap (λ (n : ℕ). bit_at n (other % 64)) (zeros (other / 64) (omega arith)) ∙ bit_at-zero (other % 64)
           ],
     )
+
+-- ---- A summary of which words have bits
+
+-- its first bit is that of a word
+pub summed_within : (words : List ℕ) (summary : ℕ) → IsSummary words summary → summary ≢ 0 → summary < 2 ^ 64 → trailing_zeros w64 summary < length words
+summed_within words summary sums is fits =
+    let lowest = bit_at-trailing_zeros w64 summary (omega arith) fits in
+    elim (cases_lt (trailing_zeros w64 summary) (length words)) [
+      | inl below ↦ below
+      | inr past ↦ let none = sums.beyond (trailing_zeros w64 summary) past (lowest.0) in absurd (omega (arith, none, lowest.1))
+    ]
+
+-- the first bit of the word that its first bit names is the first
+pub summed_first : (words : List ℕ) (summary : ℕ) → IsSummary words summary → summary ≢ 0 → summary < 2 ^ 64 → get_or words (trailing_zeros w64 summary) 0 < 2 ^ 64
+    → IsFirst words (Some (64 * trailing_zeros w64 summary + trailing_zeros w64 (get_or words (trailing_zeros w64 summary) 0)))
+summed_first words summary sums is fits few =
+    let lowest = bit_at-trailing_zeros w64 summary (omega arith) fits in
+    let within = summed_within words summary sums is fits in
+    first_bit words (trailing_zeros w64 summary) _ (λ k below. sums.none k (omega (arith, within)) (lowest.2 k below)) refl (sums.some _ within (lowest.1)) few

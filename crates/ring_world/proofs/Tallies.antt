@@ -14,9 +14,9 @@ use Rattle.ring_election.proofs.Rings.{neighbour-below, neighbour-neighbour}
 use Rattle.ring_node.specs.declared.packet.Packet.{Packet}
 use Rattle.ring_node.specs.Nodes.{Seated, sent_of, taken_of}
 use Rattle.ring_world.specs.LinkSets.{IsFirst, bit_of}
-use Rattle.ring_world.specs.Tallies.{HasMarked, HasMarkedSent, IsMarked, IsMarkedAll, IsTallied, some_or_none}
+use Rattle.ring_world.specs.Tallies.{HasLeft, HasMarked, HasMarkedSent, IsMarked, IsMarkedAll, IsTallied, some_or_none}
 use Rattle.ring_world.specs.Worlds.{IsBefore, IsReady, IsSoundLinks, IsSoundWorld, Running, after_cut, after_receipt, in_flight, is_cut, link_place, node_at, on_link, pending_below, pending_of, sent_into, size_of, taken_at}
-use Rattle.ring_world.proofs.Cuts.{cut_elsewhere, cut_here, cut_pending, cut_sound, mark_of_some, pending_stands, place_below, same_place}
+use Rattle.ring_world.proofs.Cuts.{cut_elsewhere, cut_here, cut_pending, cut_sound, mark_emptied, mark_of_some, mark_standing, pending_stands, place_below, same_place}
 use Rattle.ring_world.proofs.Deliveries.{links_after, others_after, receiver_sent, same_side-same, taken_by, taken_from_other_side}
 use Rattle.ring_world.proofs.Links.{no_length, same_or_not}
 
@@ -57,6 +57,25 @@ counts_link n m i side x here there =
           let apart : m ≢ neighbour n i (other side) = λ e. differ (ap (λ k. neighbour n k side) e ∙ from_other n i side there) in
           counts_not (neighbour n m side) i x differ ∙ sym (counts_not m (neighbour n i (other side)) x apart)
     ]
+
+-- a receipt is one packet taken from its side
+one_taken : (i : ℕ) (side : Side) → ◌≡◌ {A = ℕ} (cond (i == i) (cond (same_side side side) 1 0) 0) 1
+one_taken i Left = counts i i 1 refl
+one_taken i Right = counts i i 1 refl
+
+is_one : (n : ℕ) → (n == 1) ≡ true → n ≡ 1
+is_one n e = grind (arith, nat_tests)
+
+isnt_one : (n : ℕ) → (n == 1) ≡ false → n ≢ 1
+isnt_one n e = λ is. grind (arith, nat_tests)
+
+same_side_self : (side : Side) → same_side side side ≡ true
+same_side_self Left = refl
+same_side_self Right = refl
+
+not_both : {A : Type 0} (b : Bool) → b ≡ false → b ≡ true → A
+not_both true e h = absurd (cc)
+not_both false e h = absurd (cc)
 
 -- a receipt is from one side or the other
 counts_side : (j i : ℕ) (side : Side) → cond (j == i) (cond (same_side Left side) 1 0) 0 + cond (j == i) (cond (same_side Right side) 1 0) 0 ≡ cond (j == i) 1 0
@@ -184,8 +203,8 @@ module _ {E S M : Type 0} (t : E → Table S M) (world : Running E M) (i : ℕ) 
       let grown = receiver_sent t world i within side p (other from) in
       rw at (grown.1 ∙ ap (λ (extra : List (Packet M)). sent_of t (node_at world i) (other from) ++ extra) (no_length grown.0 (omega (arith, none))) ∙ append-nil _)
 
-  module _ (words first second third : List ℕ) (lefts rights : ℕ) (marked : IsMarkedAll t world words) (here : HasMarked t (after_receipt world i side p) words i side first)
-      (left : HasMarkedSent t (after_receipt world i side p) first i Left lefts second) (right : HasMarkedSent t (after_receipt world i side p) second i Right rights third)
+  module _ (words first second third : List ℕ) (lefts rights : ℕ) (marked : IsMarkedAll t world words) (sound : IsSoundLinks t world) (front : slice_get (on_link t world i side) 0 ≡ Some p) (uncut : is_cut world i side ≡ false)
+      (here : HasLeft words i side (length (on_link t world i side) == 1) first) (left : HasMarkedSent t (after_receipt world i side p) first i Left lefts second) (right : HasMarkedSent t (after_receipt world i side p) second i Right rights third)
       (lefts_are : lefts ≡ more Left) (rights_are : rights ≡ more Right) (inside : i < size_of world) where
     -- a mark stays
     stays_right : (j : ℕ) (from : Side) → IsMarked t (after_receipt world i side p) second j from → IsMarked t (after_receipt world i side p) third j from
@@ -237,10 +256,40 @@ module _ {E S M : Type 0} (t : E → Table S M) (world : Running E M) (i : ℕ) 
         let old = marked.each j from below in
         let same : sent_into t (after_receipt world i side p) j from ≡ sent_into t world j from → IsMarked t (after_receipt world i side p) third j from =
         λ sent. let stands = flight_kept j from away sent in
-        stays_left j from (here.kept j from (record { bit = old.bit ∙ ap (λ (l : List (Packet M)). some_or_none (cond (is_cut world j from) [] l)) (sym stands); few = rw stands old.few })) in
+        let other_place : link_place j from ≢ link_place i side = λ at. let link = same_place j i from side at in absurd (not_both (same_side from side) (away link.0) (ap (λ s. same_side from s) (sym link.1) ∙ same_side_self from)) in
+        stays_left j from (record {
+          bit = here.others (link_place j from) other_place ∙ old.bit ∙ ap (λ (l : List (Packet M)). some_or_none (cond (is_cut world j from) [] l)) (sym stands);
+          few = rw stands old.few;
+        }) in
         elim (same_or_not (neighbour (size_of world) j from) i) [
           | inr apart ↦ same (sent_by_others j from apart)
           | inl at ↦ from_receiver j from (sym (neighbour-neighbour (size_of world) j from below) ∙ ap (λ k. neighbour (size_of world) k (other from)) at) (λ none. same (sent_no_more j from at none))
+        ]
+
+    -- the link from which the packet was taken, where the receiver sends nothing more into it
+    left_behind : cond (i == neighbour (size_of world) i (other side)) (more (other side)) 0 ≡ 0 → IsMarked t (after_receipt world i side p) first i side
+    left_behind none =
+        let before = on_link t world i side in
+        let stands = on_link t (after_receipt world i side p) i side in
+        let whole = flight_after sound front inside i side inside in
+        let one = one_taken i side in
+        let few = (marked.each i side inside).few in
+        record {
+          bit = elim (length before == 1) as (λ b. (length before == 1) ≡ b → bit_of first (link_place i side) ≡ cond b 0 1 → bit_of first (link_place i side) ≡ some_or_none (cond (is_cut world i side) [] stands)) [
+            | true ↦ λ e bit. let only = is_one (length before) e in bit ∙ mark_emptied (is_cut world i side) stands (omega (arith, whole, one, none, only))
+            | false ↦ λ e bit.
+                let more_than_one = isnt_one (length before) e in
+                let some = some_length before p front in
+                bit ∙ mark_standing (is_cut world i side) stands uncut (omega (arith, whole, one, none, more_than_one, some))
+          ] refl here.bit;
+          few = omega (arith, whole, one, none, few);
+        }
+
+    from_itself : IsMarked t (after_receipt world i side p) third i side
+    from_itself =
+        elim (same_or_not i (neighbour (size_of world) i (other side))) [
+          | inr apart ↦ stays_left i side (left_behind (counts_not i (neighbour (size_of world) i (other side)) (more (other side)) apart))
+          | inl at ↦ from_receiver i side at (λ none. stays_left i side (left_behind (counts i (neighbour (size_of world) i (other side)) (more (other side)) at ∙ none)))
         ]
 
     marks_each : (j : ℕ) (from : Side) → j < size_of world → IsMarked t (after_receipt world i side p) third j from
@@ -249,7 +298,7 @@ module _ {E S M : Type 0} (t : E → Table S M) (world : Running E M) (i : ℕ) 
           | false ↦ λ e. from_untaken j from below (λ _. e)
           | true ↦ λ e.
               elim (same_or_not j i) [
-                | inl at ↦ rw (at, same_side-same from side e) (stays_left i side here.marked)
+                | inl at ↦ rw (at, same_side-same from side e) from_itself
                 | inr differ ↦ from_untaken j from below (λ at. absurd (differ at))
               ]
         ] refl
@@ -258,7 +307,7 @@ module _ {E S M : Type 0} (t : E → Table S M) (world : Running E M) (i : ℕ) 
     pub marks_after : IsMarkedAll t (after_receipt world i side p) third
     marks_after = record {
       each = marks_each;
-      beyond = λ place past. beyond_right place past ∙ beyond_left place past ∙ here.beyond place past ∙ marked.beyond place past;
+      beyond = λ place past. beyond_right place past ∙ beyond_left place past ∙ here.others place (let below = place_below (size_of world) i side inside in omega (arith, below, past)) ∙ marked.beyond place past;
     }
 
 -- ---- One link is marked
@@ -280,10 +329,6 @@ one_marked t world old new i side inside marked others = record {
       ];
   beyond = λ place past. let below = place_below (size_of world) i side inside in others place (omega arith);
 }
-
--- a link that is marked stays so where no bit changes
-pub marked_still : {E S M : Type 0} (t : E → Table S M) (world : Running E M) (words : List ℕ) (i : ℕ) (side : Side) → IsMarked t world words i side → HasMarked t world words i side words
-marked_still t world words i side marked = record { marked = marked; kept = λ j from before. before; beyond = λ place past. refl }
 
 -- what stands on a link from a node is among what it has sent there
 flight_within : {E S M : Type 0} (t : E → Table S M) (world : Running E M) (i : ℕ) (to : Side) → i < size_of world
@@ -394,14 +439,14 @@ module _ {E S M : Type 0} (t : E → Table S M) (fits : E → List ℕ → ℕ �
         let counted = tallied.counted in
         rw moved (omega (arith, whole, counted, left_is, right_is, rw moved at lefts_are, rw moved at rights_are))
 
-    pub tally_after : IsSoundWorld t fits winner new → (first second third : List ℕ) → HasMarked t new words i side first → HasMarkedSent t new first i Left lefts second → HasMarkedSent t new second i Right rights third
+    pub tally_after : IsSoundWorld t fits winner new → is_cut world i side ≡ false → (first second third : List ℕ) → HasLeft words i side (length (on_link t world i side) == 1) first → HasMarkedSent t new first i Left lefts second → HasMarkedSent t new second i Right rights third
         → IsTallied t new fits winner (((pending + lefts) + rights) - 1) third
-    tally_after sound first second third here there beyond = record {
+    tally_after sound uncut first second third here there beyond = record {
       sound = sound;
       counted = let whole = count_after in omega arith;
       marked =
           rw moved
-          (marks_after t world i place_within side p words first second third lefts rights tallied.marked (rw moved at here) (rw moved at there) (rw moved at beyond)
+          (marks_after t world i place_within side p words first second third lefts rights tallied.marked tallied.sound.links front uncut here (rw moved at there) (rw moved at beyond)
           (more_is Left left lefts left_is lefts_are) (more_is Right right rights right_is rights_are) inside);
     }
 

@@ -1,5 +1,5 @@
 -- Sets of links as the bits of words, 64 to a word.
-use Rattle.std.specs.Prelude.{◌≡◌, ◌+◌, ◌/◌, ◌%◌, ◌<◌, ◌==◌, ℕ, zero, suc, Bool, List, [], ◌∷◌, Option, Some, None, slice_index}
+use Rattle.std.specs.Prelude.{◌≡◌, ◌≢◌, ◌+◌, ◌/◌, ◌%◌, ◌<◌, ◌≤◌, ◌==◌, ℕ, zero, suc, Bool, List, [], ◌∷◌, Option, Some, None, length, slice_index}
 use Rattle.std.specs.Int.{bit_at}
 
 -- the bit at a place; there is none past the last word
@@ -15,3 +15,9 @@ bits_from words place (suc n) = (bit_of words place == 1) ∷ bits_from words (p
 abbrev pub IsFirst : List ℕ → Option ℕ → Type 0
 IsFirst words None = (place : ℕ) → bit_of words place ≡ 0
 IsFirst words (Some place) = (bit_of words place ≡ 1) × ((other : ℕ) → other < place → bit_of words other ≡ 0)
+
+-- a number whose bits say which words of a list aren't 0
+pub record IsSummary (words : List ℕ) (summary : ℕ) : Type 0 where
+  pub none : (index : ℕ) → index < length words → bit_at summary index ≡ 0 → slice_index words index ≡ 0
+  pub some : (index : ℕ) → index < length words → bit_at summary index ≡ 1 → slice_index words index ≢ 0
+  pub beyond : (index : ℕ) → length words ≤ index → index < 64 → bit_at summary index ≡ 0

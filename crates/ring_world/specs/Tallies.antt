@@ -1,6 +1,6 @@
 -- What a world keeps beside its nodes and its cuts: how many packets are in flight or stuck, and on which
 -- links something is in flight.
-use Rattle.std.specs.Prelude.{◌≡◌, ◌*◌, ◌^◌, ◌<◌, ◌≤◌, ◌⊎◌, ℕ, List, [], ◌∷◌, length}
+use Rattle.std.specs.Prelude.{◌≡◌, ◌≢◌, ◌*◌, ◌^◌, ◌<◌, ◌≤◌, ◌⊎◌, ℕ, Bool, cond, List, [], ◌∷◌, length}
 use Rattle.ring_id.specs.declared.side.Side.{Side}
 use Rattle.ring_id.specs.Sides.{other}
 use Rattle.ring_roster.specs.Ring.{neighbour}
@@ -12,6 +12,11 @@ use Rattle.ring_world.specs.Worlds.{IsSoundWorld, Running, in_flight, link_place
 abbrev pub some_or_none : {A : Type 0} → List A → ℕ
 some_or_none [] = 0
 some_or_none (x ∷ xs) = 1
+
+-- a packet was taken from a link, and its bit was cleared where that was the last there; no other bit changed
+pub record HasLeft (old : List ℕ) (i : ℕ) (side : Side) (is_last : Bool) (new : List ℕ) : Type 0 where
+  pub bit : bit_of new (link_place i side) ≡ cond is_last 0 1
+  pub others : (place : ℕ) → place ≢ link_place i side → bit_of new place ≡ bit_of old place
 
 module _ {E S M : Type 0} (t : E → Table S M) (world : Running E M) where
   -- a link's bit is set exactly where something is in flight on it

@@ -1,12 +1,11 @@
-ghost use Rattle.std.specs.Prelude.{◌≡◌, ◌+◌, ◌<◌, ◌≤◌, ◌&&◌, false, not, [], IfOk, IfSome, OnErr, OnOk, length, replicate, slice_get};
+ghost use Rattle.std.specs.Prelude.{◌≡◌, ◌+◌, ◌<◌, ◌≤◌, ◌==◌, ◌&&◌, false, not, [], IfOk, IfSome, OnErr, OnOk, length, option_map, replicate, slice_get};
 ghost use Rattle.ring_id.specs.declared.side.Side.TheVariants.{Right};
 ghost use Rattle.ring_id.specs.Sides.{other, same_side};
 ghost use Rattle.ring_roster.specs.Ring.{neighbour};
 ghost use Rattle.ring_node.specs.Envelopes.{IsProper};
 ghost use Rattle.ring_node.specs.Nodes.{next_index, sent_of, told_of};
-ghost use Rattle.ring_world.specs.LinkSets.{bit_of};
 ghost use Rattle.ring_world.specs.Tallies.{HasMarked, HasMarkedSent};
-ghost use Rattle.ring_world.specs.Worlds.{IsSoundWorld, after_cut, after_receipt, is_cut, link_place, no_cuts, node_at, nodes_of, on_link};
+ghost use Rattle.ring_world.specs.Worlds.{IsSoundWorld, after_cut, after_receipt, is_cut, no_cuts, node_at, nodes_of, on_link};
 
 use crate::link_set::{LinkSet, place_of};
 use crate::owners::Owners;
@@ -34,9 +33,9 @@ impl<E: RingElection> Model for Circle<E> {
 
     ghost Value = { Running E E.Msg };
 
-    ghost view = { λ a. record { charter = a.owners; journals = journals_of a.nodes.items; cut = bits_from a.cut.words 0 (2 * length a.owners.roster) } };
+    ghost view = { λ a. record { charter = a.owners.charter.value; journals = journals_of a.nodes.items; cut = bits_from a.cut.words 0 (2 * length a.owners.charter.value.roster) } };
 
-    ghost invariant = { λ a. IsWorld E.table E.fits E.winner a.owners a.nodes.items (bits_from a.cut.words 0 (2 * length a.owners.roster)) };
+    ghost invariant = { λ a. IsWorld E.table E.fits E.winner a.owners.charter.value a.nodes.items (bits_from a.cut.words 0 (2 * length a.owners.charter.value.roster)) };
 }
 
 impl<E: RingElection> Circle<E> {
@@ -66,7 +65,7 @@ impl<E: RingElection> Circle<E> {
         ensures value { result.now.value ≡ self.now.charter }
         ensures sound { IsSoundWorld E.table E.fits E.winner self.now }
     {
-        self.owners.charter()
+        &self.owners.charter
     }
 
     /// The node of each position, in order.
@@ -149,23 +148,25 @@ impl<E: RingElection> Circle<E> {
         ensures err { OnErr result (self.new ≡ self.old) }
         ensures sound { IsSoundWorld E.table E.fits E.winner self.new }
     {
-        let copy = self.owners.take()?;
+        self.owners.find()?;
         let node = &mut self.nodes[position];
         let Some(_) = node.accept(side, packet)? else {
-            self.owners.give_back(copy);
             return Ok(None);
         };
-        Ok(node.report(copy))
+        Ok(node.report(self.owners.take()))
     }
 
-    /// The first packet that stands on a link, which is proper there.
-    pub fn front(&self, position: usize, side: Side) -> Option<Packet<E::Msg>>
+    /// The first packet that stands on a link, which is proper there, and whether it is the last.
+    pub fn front(&self, position: usize, side: Side) -> Option<(Packet<E::Msg>, bool)>
         requires { position < length self.now.charter.roster }
-        ensures value { result ≡ slice_get (on_link E.table self.now position side) 0 }
-        ensures proper { IfSome result (λ packet. IsProper (E.fits self.now.charter.algorithm) (E.winner self.now.charter.algorithm) self.now.charter.roster (neighbour (length self.now.charter.roster) position side) (other side) (next_index (node_at self.now position) side packet) packet) }
+        ensures value { option_map (λ front. front.0) result ≡ slice_get (on_link E.table self.now position side) 0 }
+        ensures last { IfSome result (λ front. front.1 ≡ (length (on_link E.table self.now position side) == 1)) }
+        ensures proper { IfSome result (λ front. IsProper (E.fits self.now.charter.algorithm) (E.winner self.now.charter.algorithm) self.now.charter.roster (neighbour (length self.now.charter.roster) position side) (other side) (next_index (node_at self.now position) side front.0) front.0) }
     {
         let sender = self.node(self.neighbour(position, side));
-        sender.packet(side.other(), self.node(position).taken(side))
+        let taken = self.node(position).taken(side);
+        let packet = sender.packet(side.other(), taken)?;
+        Some((packet, sender.sent(side.other()) - taken == 1))
     }
 
     /// How many packets stand on a link.
@@ -194,19 +195,6 @@ impl<E: RingElection> Circle<E> {
     {
         let here = self.waiting(position, side) > 0;
         ready.put(place_of(position, side), here);
-    }
-
-    /// Takes the mark of a link that isn't cut out of a set, where nothing stands on the link any more.
-    /// No other link's mark changes.
-    pub fn unmark_emptied(&self, ready: &mut LinkSet, position: usize, side: Side)
-        requires inside { position < length self.now.charter.roster }
-        requires uncut { is_cut self.now position side ≡ false }
-        requires marked { bit_of ready.old.words (link_place position side) ≡ 1 }
-        ensures { HasMarked E.table self.now ready.old.words position side ready.new.words }
-    {
-        if self.waiting(position, side) == 0 {
-            ready.put(place_of(position, side), false);
-        }
     }
 
     /// How many packets the node at a position has sent to a side since it had sent so many before.

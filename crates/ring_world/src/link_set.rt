@@ -1,6 +1,6 @@
 ghost use Rattle.std.specs.Prelude.{◌≡◌, ◌≢◌, ◌<◌, ◌==◌, ℕ, cond};
 ghost use Rattle.std.specs.Int.{bit_at};
-ghost use Rattle.ring_world.specs.LinkSets.{IsFirst, bit_of};
+ghost use Rattle.ring_world.specs.LinkSets.{IsFirst, IsSummary, bit_of};
 ghost use Rattle.ring_world.specs.Worlds.{link_place};
 
 use ring_id::Side;
@@ -8,10 +8,13 @@ use ring_id::Side;
 /// A set of links of one ring: 512 bits in eight words.
 ///
 /// A link's bit stands at twice its receiver's position, or one after it for the right side. So the
-/// order of places is the order of links: the least receiver first, left before right.
+/// order of places is the order of links: the least receiver first, left before right. One more bit for
+/// each word says whether it has any, so that the first link is found without a search.
 #[derive(Clone, Copy, Debug)]
 pub struct LinkSet {
     words: [u64; 8],
+    summary: u64,
+    ghost sums: { IsSummary words summary },
 }
 
 impl LinkSet {
@@ -19,7 +22,10 @@ impl LinkSet {
     pub fn empty() -> LinkSet
         ensures { (place : ℕ) → bit_of result.words place ≡ 0 }
     {
-        LinkSet { words: [0; 8] }
+        LinkSet {
+            words: [0; 8],
+            summary: 0,
+        }
     }
 
     /// Puts the link at a place into the set, or takes it out.
@@ -28,7 +34,22 @@ impl LinkSet {
         ensures here { bit_of self.new.words place ≡ cond here 1 0 }
         ensures others { (other : ℕ) → other ≢ place → bit_of self.new.words other ≡ bit_of self.old.words other }
     {
-        self.words[place / 64] = with_bit(self.words[place / 64], place % 64, here);
+        let index = place / 64;
+        let word = with_bit(self.words[index], place % 64, here);
+        self.words[index] = word;
+        self.summary = with_bit(self.summary, index, word != 0);
+    }
+
+    /// Takes the link at a place out of the set, in which it is, where nothing is left there.
+    pub fn leave(&mut self, place: usize, is_last: bool)
+        requires within { place < 512 }
+        requires there { bit_of self.old.words place ≡ 1 }
+        ensures here { bit_of self.new.words place ≡ cond is_last 0 1 }
+        ensures others { (other : ℕ) → other ≢ place → bit_of self.new.words other ≡ bit_of self.old.words other }
+    {
+        if is_last {
+            self.put(place, false);
+        }
     }
 
     /// Whether the link at a place is in the set.
@@ -36,19 +57,19 @@ impl LinkSet {
         requires { place < 512 }
         ensures { result ≡ (bit_of self.now.words place == 1) }
     {
-        self.words[place / 64] >> (place % 64) & 1 == 1
+        self.summary != 0 && self.words[place / 64] >> (place % 64) & 1 == 1
     }
 
     /// The place of the first link in the set.
     pub fn first(&self) -> Option<usize>
         ensures { IsFirst self.now.words result }
     {
-        for (index, word) in self.words.iter().enumerate() {
-            if *word != 0 {
-                return Some(64 * index + word.trailing_zeros() as usize);
-            }
+        if self.summary == 0 {
+            return None;
         }
-        None
+        let index = self.summary.trailing_zeros() as usize;
+        let word = self.words[index];
+        Some(64 * index + word.trailing_zeros() as usize)
     }
 }
 

@@ -1,36 +1,26 @@
-ghost use Rattle.std.specs.Prelude.{◌≡◌, IfOk};
+ghost use Rattle.std.specs.Option.{ForSome};
+ghost use Rattle.std.specs.Prelude.{◌≡◌, IsSome, OnOk};
 
 use ring_election::RingElection;
 use ring_id::NoMemory;
 use ring_node::Charter;
-use std::marker::Model;
 use std::sync::Arc;
 
 /// A shared charter, and at times one more owner of it for the next report.
 ///
-/// Whoever needs an owner takes the one that is kept, and gives it back where it wasn't used. So the
-/// owners are counted once for each report, and not once for each delivery.
+/// The one that is kept is given to a report, and found anew before the next delivery. So the owners are
+/// counted once for each report, and not once for each delivery.
 #[derive(Drop)]
 pub struct Owners<E: RingElection> {
-    charter: Arc<Charter<E>>,
-    spare: Option<Arc<Charter<E>>>,
-}
-
-impl<E: RingElection> Model for Owners<E> {
-    ghost use Rattle.std.specs.Prelude.{◌≡◌, IfSome};
-    ghost use Rattle.ring_node.specs.declared.charter.Charter.{Charter};
-
-    ghost Value = { Charter E };
-
-    ghost view = { λ a. a.charter.value };
-
-    ghost invariant = { λ a. IfSome a.spare (λ copy. copy.value ≡ a.charter.value) };
+    pub charter: Arc<Charter<E>>,
+    pub spare: Option<Arc<Charter<E>>>,
+    ghost same: { ForSome spare (λ copy. copy.value ≡ charter.value) },
 }
 
 impl<E: RingElection> Owners<E> {
     /// The owners of a charter, of whom there is one.
     pub fn of(charter: Arc<Charter<E>>) -> Owners<E>
-        ensures { result ≡ charter.value }
+        ensures { result.charter ≡ charter }
     {
         Owners {
             charter,
@@ -38,32 +28,27 @@ impl<E: RingElection> Owners<E> {
         }
     }
 
-    /// The charter.
-    pub fn charter(&self) -> &Arc<Charter<E>>
-        ensures { result.now.value ≡ self.now }
+    /// Finds an owner to give away, where none is kept. Refused where a new one is.
+    pub fn find(&mut self) -> Result<(), NoMemory>
+        ensures same { self.new.charter ≡ self.old.charter }
+        ensures found { OnOk result (IsSome self.new.spare) }
     {
-        &self.charter
-    }
-
-    /// An owner to give away: the one that is kept, else a new one. Refused where a new one is.
-    pub fn take(&mut self) -> Result<Arc<Charter<E>>, NoMemory>
-        ensures owner { IfOk result (λ copy. copy.value ≡ self.old) }
-        ensures same { self.new ≡ self.old }
-    {
-        if let Some(copy) = self.spare.take() {
-            return Ok(copy);
+        if self.spare.is_some() {
+            return Ok(());
         }
         let Ok(copy) = Arc::try_clone(&self.charter) else {
             return Err(NoMemory);
         };
-        Ok(copy)
+        self.spare = Some(copy);
+        Ok(())
     }
 
-    /// Keeps an owner that wasn't used.
-    pub fn give_back(&mut self, copy: Arc<Charter<E>>)
-        requires { copy.value ≡ self.old }
-        ensures { self.new ≡ self.old }
+    /// The owner that was found, to give away.
+    pub fn take(&mut self) -> Arc<Charter<E>>
+        requires { IsSome self.old.spare }
+        ensures owner { result.value ≡ self.old.charter.value }
+        ensures same { self.new.charter ≡ self.old.charter }
     {
-        self.spare = Some(copy);
+        self.spare.take().unwrap()
     }
 }

@@ -1,10 +1,10 @@
-ghost use Rattle.std.specs.Prelude.{◌≡◌, ◌<◌, ◌≤◌, ◌↔◌, true, [], IfNone, IfOk, OnErr, OnOk, length, replicate, slice_get};
+ghost use Rattle.std.specs.Prelude.{◌≡◌, ◌+◌, ◌-◌, ◌^◌, ◌<◌, ◌≤◌, ◌==◌, ◌↔◌, true, [], IfNone, IfOk, OnErr, OnOk, length, replicate, slice_get};
 ghost use Rattle.ring_id.specs.Sides.{other};
 ghost use Rattle.ring_roster.specs.Ring.{neighbour};
 ghost use Rattle.ring_node.specs.Envelopes.{IsProper};
 ghost use Rattle.ring_node.specs.Nodes.{next_index, told_of};
 ghost use Rattle.ring_world.specs.Quiet.{AllKnow, IsEmptied};
-ghost use Rattle.ring_world.specs.Worlds.{Cuts, Delivers, IsReady, IsSoundWorld, IsUncut, after_receipt, announcements_of, delivered_of, in_flight, is_cut, most_deliveries, no_cuts, node_at, nodes_of, pending_of};
+ghost use Rattle.ring_world.specs.Worlds.{Cuts, Delivers, IsReady, IsSoundWorld, IsUncut, after_receipt, announcements_of, delivered_of, in_flight, is_cut, most_deliveries, no_cuts, node_at, nodes_of, on_link, pending_of};
 
 use crate::circle::Circle;
 use crate::delivery::Delivery;
@@ -117,10 +117,10 @@ impl<E: RingElection> World<E> {
         if self.circle.is_cut(position, side) {
             return Delivery::Idle;
         }
-        let Some(packet) = self.circle.front(position, side) else {
+        let Some((packet, is_last)) = self.circle.front(position, side) else {
             return Delivery::Idle;
         };
-        match self.hand_over(position, side, packet) {
+        match self.hand_over(position, side, packet, is_last) {
             Ok(report) => Delivery::Moved(report),
             Err(NoMemory) => Delivery::Refused(Refusal::NoMemory),
         }
@@ -165,17 +165,19 @@ impl<E: RingElection> World<E> {
         Some(link_at(place))
     }
 
-    /// Gives the first packet in flight on a link to its receiver, and counts and marks what is in
-    /// flight or stuck then: the packet's link has one packet less, and on the links from the receiver
-    /// stands what it has sent because of it.
+    /// Gives the first packet in flight on a link, which may be the last there, to its receiver, and counts
+    /// and marks what is in flight or stuck then: the packet's link has one packet less, and on the links
+    /// from the receiver stands what it has sent because of it.
     fn hand_over(
         &mut self,
         position: usize,
         side: Side,
         packet: Packet<E::Msg>,
+        is_last: bool,
     ) -> Result<Option<Report<E>>, NoMemory>
         requires inside { position < length self.old.charter.roster }
         requires front { slice_get (in_flight E.table self.old position side) 0 ≡ Some packet }
+        requires last { is_last ≡ (length (on_link E.table self.old position side) == 1) }
         requires proper { IsProper (E.fits self.old.charter.algorithm) (E.winner self.old.charter.algorithm) self.old.charter.roster (neighbour (length self.old.charter.roster) position side) (other side) (next_index (node_at self.old position) side packet) packet }
         ensures journals { OnOk result (self.new ≡ after_receipt self.old position side packet) }
         ensures report { IfOk result (λ report. report ≡ told_of E.table (node_at self.old position) (node_at self.new position)) }
@@ -185,14 +187,27 @@ impl<E: RingElection> World<E> {
         let left_before = self.circle.sent(position, Side::Left);
         let right_before = self.circle.sent(position, Side::Right);
         let report = self.circle.hand_over(position, side, packet)?;
-        self.circle.unmark_emptied(&mut self.ready, position, side);
+        self.ready.leave(place_of(position, side), is_last);
         let left = self
             .circle
             .mark_sent(&mut self.ready, position, Side::Left, left_before);
         let right = self
             .circle
             .mark_sent(&mut self.ready, position, Side::Right, right_before);
-        self.pending = self.pending + left as u128 + right as u128 - 1;
+        self.pending = after_one(self.pending, left, right);
         Ok(report)
+    }
+}
+
+/// How many packets of so many are in flight or stuck after one was taken, and so many were sent because of
+/// it. Mostly one is passed on, and the number stays.
+fn after_one(pending: u128, left: usize, right: usize) -> u128
+    requires some { 0 < (pending + left) + right }
+    requires few { (pending + left) + right < 2 ^ 128 }
+    ensures { result ≡ ((pending + left) + right) - 1 }
+{
+    match (left, right) {
+        (0, 1) => pending,
+        _ => pending + left as u128 + right as u128 - 1,
     }
 }

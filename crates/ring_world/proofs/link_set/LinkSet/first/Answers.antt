@@ -1,16 +1,19 @@
--- The first bit of the first word that isn't 0 is the first.
-use Rattle.std.proofs.Common.{◌<◌, ◌^◌, ◌≡◌, refl, length, get_or, arith, rules}
-use Rattle.ring_world.proofs.Bits.{first_bit, no_bit}
+-- The first bit of the word that the summary's first bit names is the first.
+use Rattle.std.proofs.Common.{◌≡◌, ◌<◌, ◌^◌, length, get_or, arith, rules, w64}
+use Rattle.std.specs.Int.{trailing_zeros}
+use Rattle.ring_world.proofs.Bits.{summed_first, summed_within}
 use Rattle.ring_world.proofs.link_set.LinkSet.first.Goals as goal
 
-pub returns-then-word-ne0 : goal.returns-then-word-ne0
-returns-then-word-ne0 c =
-    let words = c.args.self.now.words in
-    let fits : get_or words c.loop-index.index 0 < 2 ^ 64 = search rules in
-    first_bit words c.loop-index.index _ c.loop-index.invariant refl c.if-word-ne0.true fits
+pub bounds-self-index : goal.bounds-self-index
+bounds-self-index c =
+    let set = c.args.self.now in
+    let fits : set.summary < 2 ^ 64 = search rules in
+    let size : length set.words ≡ 8 = search rules in
+    omega (arith, size, summed_within set.words set.summary set.sums c.if-self-eq0.false fits)
 
 pub returns : goal.returns
 returns c =
-    let words = c.args.self.now.words in
-    let size : length words ≡ 8 = search rules in
-    no_bit words (λ k below. c.loop-index.invariant k (omega arith))
+    let set = c.args.self.now in
+    let fits : set.summary < 2 ^ 64 = search rules in
+    let few : get_or set.words (trailing_zeros w64 set.summary) 0 < 2 ^ 64 = search rules in
+    summed_first set.words set.summary set.sums c.if-self-eq0.false fits few

@@ -1,24 +1,21 @@
 -- What is kept beside the nodes is brought up to what is in flight after the receipt.
-use Rattle.std.proofs.Common.{sym, ◌∙◌, arith}
+use Rattle.std.proofs.Common.{◌==◌, cond, length, ap, sym, ◌∙◌, arith}
 use Rattle.ring_id.specs.declared.side.Side.TheVariants.{Left, Right}
+use Rattle.ring_world.specs.LinkSets.{bit_of}
+use Rattle.ring_world.specs.Tallies.{HasLeft}
 use Rattle.ring_world.specs.Worlds.{is_cut, on_link}
 use Rattle.ring_world.proofs.Cuts.{front_stands, front_uncut, mark_standing}
 use Rattle.ring_world.proofs.Tallies.{some_length, count_after, count_few, sent_grown, sent_waits, tally_after}
 use Rattle.ring_world.proofs.world.World.hand_over.Goals as goal
 
-pub unmark_emptied-requires-clause-uncut : goal.unmark_emptied-requires-clause-uncut
-unmark_emptied-requires-clause-uncut g c =
-    let uncut = front_uncut (is_cut c.self.inside.circle c.args.position c.args.side) (on_link g.E.RingElection.table c.self.inside.circle c.args.position c.args.side) c.args.packet (rw (← c.self.view_is) at c.requires.front) in
-    rw c.in_ok-report.ensures.journals uncut
-
-pub unmark_emptied-requires-clause-marked : goal.unmark_emptied-requires-clause-marked
-unmark_emptied-requires-clause-marked g c =
+pub leave-requires-clause-there : goal.leave-requires-clause-there
+leave-requires-clause-there g c =
     let inside = rw (← c.self.view_is) at c.requires.inside in
     let cut = is_cut c.self.inside.circle c.args.position c.args.side in
     let stands = on_link g.E.RingElection.table c.self.inside.circle c.args.position c.args.side in
     let uncut = front_uncut cut stands c.args.packet (rw (← c.self.view_is) at c.requires.front) in
     let front = front_stands cut stands c.args.packet (rw (← c.self.view_is) at c.requires.front) in
-    (c.self.invariant.marked.each c.args.position c.args.side inside).bit ∙ sym (mark_standing cut stands uncut (some_length stands c.args.packet front))
+    ap (bit_of c.self.inside.ready.words) c.place_of.ensures.value ∙ (c.self.invariant.marked.each c.args.position c.args.side inside).bit ∙ sym (mark_standing cut stands uncut (some_length stands c.args.packet front))
 
 pub mark_sent-left-requires-clause-waits : goal.mark_sent-left-requires-clause-waits
 mark_sent-left-requires-clause-waits g c =
@@ -44,22 +41,15 @@ mark_sent-right-requires-clause-grown g c =
     let front = front_stands (is_cut c.self.inside.circle c.args.position c.args.side) (on_link g.E.RingElection.table c.self.inside.circle c.args.position c.args.side) c.args.packet (rw (← c.self.view_is) at c.requires.front) in
     sent_grown _ _ _ _ _ _ c.self.invariant c.args.position inside c.args.side c.args.packet front _ c.in_ok-report.ensures.journals Right _ c.sent-right_before.ensures
 
-pub overflow_add-self : goal.overflow_add-self
-overflow_add-self g c =
-    let inside = rw (← c.self.view_is) at c.requires.inside in
-    let front = front_stands (is_cut c.self.inside.circle c.args.position c.args.side) (on_link g.E.RingElection.table c.self.inside.circle c.args.position c.args.side) c.args.packet (rw (← c.self.view_is) at c.requires.front) in
-    let few = count_few _ _ _ _ _ _ c.self.invariant c.args.position inside c.args.side c.args.packet front _ c.in_ok-report.ensures.journals in
-    omega (arith, few, c.mark_sent-left.type_inv)
-
-pub overflow_add-self-2 : goal.overflow_add-self-2
-overflow_add-self-2 g c =
+pub after_one-self-inside-requires-clause-few : goal.after_one-self-inside-requires-clause-few
+after_one-self-inside-requires-clause-few g c =
     let inside = rw (← c.self.view_is) at c.requires.inside in
     let front = front_stands (is_cut c.self.inside.circle c.args.position c.args.side) (on_link g.E.RingElection.table c.self.inside.circle c.args.position c.args.side) c.args.packet (rw (← c.self.view_is) at c.requires.front) in
     let few = count_few _ _ _ _ _ _ c.self.invariant c.args.position inside c.args.side c.args.packet front _ c.in_ok-report.ensures.journals in
     omega (arith, few, c.mark_sent-left.type_inv, c.mark_sent-right.type_inv)
 
-pub overflow_sub-self : goal.overflow_sub-self
-overflow_sub-self g c =
+pub after_one-self-inside-requires-clause-some : goal.after_one-self-inside-requires-clause-some
+after_one-self-inside-requires-clause-some g c =
     let inside = rw (← c.self.view_is) at c.requires.inside in
     let front = front_stands (is_cut c.self.inside.circle c.args.position c.args.side) (on_link g.E.RingElection.table c.self.inside.circle c.args.position c.args.side) c.args.packet (rw (← c.self.view_is) at c.requires.front) in
     let whole = count_after _ _ _ _ _ _ c.self.invariant c.args.position inside c.args.side c.args.packet front _ c.in_ok-report.ensures.journals _ _ _ _
@@ -70,6 +60,15 @@ pub invariant_of-self-2 : goal.invariant_of-self-2
 invariant_of-self-2 g c =
     let inside = rw (← c.self.view_is) at c.requires.inside in
     let front = front_stands (is_cut c.self.inside.circle c.args.position c.args.side) (on_link g.E.RingElection.table c.self.inside.circle c.args.position c.args.side) c.args.packet (rw (← c.self.view_is) at c.requires.front) in
-    tally_after _ _ _ _ _ _ c.self.invariant c.args.position inside c.args.side c.args.packet front _ c.in_ok-report.ensures.journals _ _ _ _
+    let cut = is_cut c.self.inside.circle c.args.position c.args.side in
+    let stands = on_link g.E.RingElection.table c.self.inside.circle c.args.position c.args.side in
+    let uncut = front_uncut cut stands c.args.packet (rw (← c.self.view_is) at c.requires.front) in
+    let last = rw (← c.self.view_is) at c.requires.last in
+    let left : HasLeft c.self.inside.ready.words c.args.position c.args.side (length stands == 1) c.leave.new.self.words = record {
+      bit = ap (bit_of c.leave.new.self.words) (sym c.place_of.ensures.value) ∙ c.leave.ensures.here ∙ ap (λ b. cond b 0 1) last;
+      others = rw c.place_of.ensures.value at c.leave.ensures.others;
+    } in
+    rw c.after_one-self-inside.ensures
+    (tally_after _ _ _ _ _ _ c.self.invariant c.args.position inside c.args.side c.args.packet front _ c.in_ok-report.ensures.journals _ _ _ _
     c.sent-left_before.ensures c.sent-right_before.ensures c.mark_sent-left.ensures.more c.mark_sent-right.ensures.more
-    c.in_ok-report.ensures.sound _ _ _ c.unmark_emptied.ensures c.mark_sent-left.ensures.marked c.mark_sent-right.ensures.marked
+    c.in_ok-report.ensures.sound uncut _ _ _ left c.mark_sent-left.ensures.marked c.mark_sent-right.ensures.marked)
