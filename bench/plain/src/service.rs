@@ -102,7 +102,7 @@ impl Service {
     fn cut(
         &mut self,
         group: &GroupName,
-        node: NodeId,
+        node: NodeNo,
         side: Side,
     ) -> Result<Reply<'_>, Refusal> {
         let place = self.book.place(group)?;
