@@ -79,7 +79,7 @@ where
         limits,
         out,
     );
-    sessions::close(rt, service);
+    let _ = sessions::close(rt, service);
     begun
 }
 

@@ -1,10 +1,11 @@
-use super::{Door, Limits, run_loop, with_turns};
+use super::{Door, Limits, attend, run_loop, with_turns};
 use crate::config::Config;
 use crate::fault::ProgramFault;
 use crate::sessions::Serving;
+use crate::trial::{client, is_numbered};
 use ring_lines::DripOut;
 use std::io;
-use std::net::{Ipv4Addr, Net, OpenListener, SocketAddr, TcpStream};
+use std::net::{Ipv4Addr, Net, OpenListener, SocketAddr, TcpListener, TcpStream};
 use std::sync::{Mutex, Wait};
 use std::test::Fail;
 
@@ -103,5 +104,57 @@ fn a_spent_guest_gives_way_to_a_spare_one(rt: HostRuntime) -> Result<(), Fail> {
         };
         assert_eq!(rt; with_turns(&rt, idler, &spare).number, wanted);
     }
+    Ok(())
+}
+
+// Counts the sessions that have the number of their client, and are told places. After the third it shuts the
+// door.
+#[derive(Drop)]
+struct Counter<'a> {
+    door: &'a Mutex<Door<TcpListener>>,
+    count: &'a Mutex<u32>,
+    left: u32,
+}
+
+impl Serving for Counter<'_> {
+    fn is_spent(&self) -> bool {
+        false
+    }
+
+    fn serve<R: Wait>(&mut self, rt: &R, session: u32, stream: &TcpStream, places: bool) {
+        if is_numbered(session, stream) && places {
+            let mut count = self.count.lock(rt);
+            *count = count.saturating_add(1);
+        }
+        self.left = self.left.saturating_sub(1);
+        if self.left == 0 {
+            self.door.lock(rt).is_open = false;
+        }
+    }
+}
+
+#[test]
+fn sessions_have_the_numbers_of_their_clients(rt: HostRuntime) -> Result<(), Fail> {
+    let listener = rt.bind(SocketAddr::from((Ipv4Addr::LOCALHOST, 0)))?;
+    let address = listener.local_addr()?;
+    let door = Mutex::new(Door::new(listener));
+    door.lock(&rt).is_open = true;
+    let _one = client(&rt, address, 1)?;
+    let _two = client(&rt, address, 2)?;
+    let _three = client(&rt, address, 3)?;
+    let count = Mutex::new(0);
+    let spare = Mutex::new(Vec::new(rt.alloc()));
+    let counter = Counter {
+        door: &door,
+        count: &count,
+        left: 3,
+    };
+    let limits = Limits {
+        sessions: 1,
+        idle: 0,
+        places: true,
+    };
+    attend(&rt, &door, &spare, counter, limits);
+    assert_eq!(rt; *count.lock(&rt), 3);
     Ok(())
 }
