@@ -55,14 +55,22 @@ fn new_gate<R: Copy>(rt: &R, alloc: Global) -> Option<Arc<LastItem<R>>> {
     Arc::new(alloc, gate).ok()
 }
 
+// What a session of these lines is told.
+fn told<R: Wait>(rt: &R, alloc: Global, guest: &mut Guest<'_>, lines: &[u8]) -> Option<Vec<u8>> {
+    let (mut reader, mut writer) = (FromRead(lines), ToWrite(Vec::new(alloc)));
+    let (front, seat) = (guest.front, &mut guest.seat);
+    let answered = answer(rt, front, seat, 1, false, &mut reader, &mut writer);
+    if answered.is_err() {
+        return None;
+    }
+    Some(writer.0)
+}
+
 // Whether this group is made, with one member, and started.
 fn is_started<R: Wait>(rt: &R, alloc: Global, guest: &mut Guest<'_>, group: u32) -> Option<bool> {
     let lines = format!(in alloc; "create g{group} chang\njoin g{group} 1\nstart g{group}\n").ok()?;
-    let mut reader = FromRead(lines.as_bytes());
-    let mut writer = ToWrite(Vec::new(alloc));
-    let (front, seat) = (guest.front, &mut guest.seat);
-    let answered = answer(rt, front, seat, 1, false, &mut reader, &mut writer);
-    Some(answered.is_ok() && writer.0.as_slice() == b"ok\nok\nterm 1\n".as_slice())
+    let replies = told(rt, alloc, guest, lines.as_bytes())?;
+    Some(replies.as_slice() == b"ok\nok\nterm 1\n".as_slice())
 }
 
 // Starts a group, whose begin the worker takes, and five more: whether all were started.
@@ -180,4 +188,44 @@ where
 fn a_guest_tells_places_to_who_asks_for_them(rt: HostRuntime) {
     let first = serves_two(&rt);
     assert!(rt; first == Some(true) || serves_two(&rt) == Some(true));
+}
+
+const PAIR: &[u8] = b"create a chang\njoin a 1\njoin a 2\nstart a\n";
+
+// Whether a term of two members is decided within so many looks.
+fn decides<R: Wait + Clock>(rt: &R, alloc: Global, front: &Front, seats: Vec<Seat>) -> Option<bool>
+    requires { All (λ seat. seat.lock ≡ front.now.id) seats.items }
+{
+    let mut guest = guests(alloc, front, seats).ok()?.pop()?;
+    let started = told(rt, alloc, &mut guest, PAIR)?;
+    for _ in 0..LOOKS {
+        let terms = told(rt, alloc, &mut guest, b"terms a\n")?;
+        if terms.as_slice() == b"terms 1:2\n".as_slice() {
+            return Some(started.as_slice() == b"ok\nok\nok\nterm 1\n".as_slice());
+        }
+        thread::sleep(rt, Duration::from_millis(1));
+    }
+    Some(false)
+}
+
+// The same, at a service of two workers.
+fn two_workers_decide<R>(rt: &R) -> Option<bool>
+where
+    R: Threads + Wait + Clock + AllocGlobal + Copy + Send + Drop + 'static,
+{
+    let config = Config {
+        workers: 2,
+        inbox: 1,
+        port: 80,
+    };
+    let (service, seats) = open(rt, &config, 1).ok()?;
+    let decided = decides(rt, rt.alloc(), front(&service), seats);
+    let _ = close(rt, service);
+    decided
+}
+
+#[test]
+fn the_workers_decide_a_term(rt: HostRuntime) {
+    let first = two_workers_decide(&rt);
+    assert!(rt; first == Some(true) || two_workers_decide(&rt) == Some(true));
 }
