@@ -8,3 +8,5 @@ mod Telling
 mod Numbers
 mod Adding
 mod Wholes
+mod Gaining
+mod Turned

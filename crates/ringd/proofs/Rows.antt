@@ -1,6 +1,6 @@
 -- What the rows of a level say of its arguments, where the words have no mistake: the first value of an
 -- argument is one that it takes.
-use Rattle.std.proofs.Common.{◌≡◌, ◌∙◌, Bool, cond, true, false, refl, sym, ap, subst, List, [], ◌∷◌, ◌++◌, length, Option, Some, None, fold, true≢false}
+use Rattle.std.proofs.Common.{◌≡◌, ◌∙◌, Bool, cond, true, false, refl, sym, subst, List, [], ◌∷◌, ◌++◌, length, Option, Some, None, fold, true≢false}
 use Rattle.std.specs.Prelude.{⊤, IfSome, find, slice_get}
 use Rattle.std.specs.Option.{option_map_or}
 use Rattle.std.specs.Str.{bytes_eq}

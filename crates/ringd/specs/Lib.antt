@@ -4,3 +4,4 @@ pub mod Reading
 pub mod Run
 pub mod Running
 pub mod Words
+pub mod Sessions

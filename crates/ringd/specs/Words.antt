@@ -47,12 +47,12 @@ serve_app = with_rule (with_rule (new_app (codes "serve")) config_rule) connecti
 abbrev pub run_app : App
 run_app = with_rule (with_rule (with_rule (with_rule (new_app (codes "run")) config_rule) sessions_rule) idle_rule) places_rule
 
--- the command line: one of the subcommands `replay`, `serve` and `run` must be given
+-- the command line: one of the subcommands `replay`, `serve` and `run` must be given; it has a version
 abbrev pub ringd_app : App
 ringd_app =
     with_subcommand
     (with_subcommand
-    (with_subcommand (on_top (λ s. record s { subcommand_required = true }) (new_app (codes "ringd"))) (new_shape (codes "replay")))
+    (with_subcommand (on_top (λ s. record s { subcommand_required = true; has_version = true }) (new_app (codes "ringd"))) (new_shape (codes "replay")))
     serve_app.top)
     run_app.top
 

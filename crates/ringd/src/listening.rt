@@ -49,7 +49,7 @@ where
         seats,
         out,
     );
-    sessions::close(rt, service);
+    let _ = sessions::close(rt, service);
     match served {
         Ok(()) => tell(out, closed.as_str()),
         Err(fault) => Err(fault),

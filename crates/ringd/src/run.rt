@@ -1,12 +1,12 @@
 //! What the program does with the world: its standard streams, its file and its port.
-ghost use Rattle.std.specs.Prelude.{◌≡◌, ◌≤◌, ◌++◌, ℕ, IfErr, IfOk, IfSome, MatchResult, length};
-ghost use Rattle.ring_lines.specs.Ends.{Wrote};
+ghost use Rattle.std.specs.Prelude.{◌≡◌, ◌≤◌, ◌++◌, ◌⊎◌, ℕ, List, IfErr, IfOk, IfSome, MatchResult, length};
+ghost use Rattle.ring_lines.specs.Ends.{Wrote, WroteFront};
 ghost use Rattle.ringd.specs.Listening.{closed_line, listening_line};
 ghost use Rattle.ringd.specs.Run.{IsOfFile, RanAt, ServedAt};
 
 use crate::config::Config;
 use crate::fault::ProgramFault;
-use crate::listening::accept_loop;
+use crate::listening::{accept_loop, tell};
 use crate::reading::read_config;
 use crate::running::{Limits, run_loop};
 use ring_lines::{FromRead, Outlet, ToWrite};
@@ -34,6 +34,22 @@ pub fn replay(rt: &(impl Input + Print + AllocGlobal)) -> Result<(), ProgramFaul
     let mut writer = ToWrite(std::io::writer(rt));
     ring_lines::replay(rt.alloc(), &mut reader, &mut writer, READS)?;
     Ok(())
+}
+
+/// Tells the version, which is the text that clap has for those who ask for it.
+pub fn tell_version<O: Outlet>(
+    alloc: Global,
+    version: &clap::Error,
+    out: &mut O,
+) -> Result<(), ProgramFault>
+    ensures { MatchResult result
+        (λ _. (text : List ℕ) × Wrote O.write_gives out.old text out.new)
+        (λ fault. ((fault ≡ ProgramFault.NoMemory) × (out.new ≡ out.old)) ⊎ ((fault ≡ ProgramFault.Write) × ((text : List ℕ) × WroteFront O.write_gives out.old text out.new))) }
+{
+    let Ok(text) = version.to_string(alloc) else {
+        return Err(ProgramFault::NoMemory);
+    };
+    tell(out, text.as_str())
 }
 
 /// Serves so many clients on 127.0.0.1, at the port of the configuration in this file.
@@ -127,3 +143,6 @@ fn read_whole<R: Read + Drop>(alloc: Global, reader: R) -> Result<Vec<u8>, Progr
         _ => Err(ProgramFault::Unreadable),
     }
 }
+
+#[cfg(test)]
+mod tests;

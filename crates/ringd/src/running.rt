@@ -79,7 +79,7 @@ where
         limits,
         out,
     );
-    sessions::close(rt, service);
+    let _ = sessions::close(rt, service);
     begun
 }
 
@@ -204,8 +204,9 @@ impl<L: OpenListener<Stream = TcpStream>> Door<L> {
 
     // Lets the next client in and numbers its session; nobody where the door is shut.
     fn admit<R: Wait + Eprint + Clock>(&mut self, rt: &R) -> Option<(u32, TcpStream)>
-        ensures { MatchOption result (self.old.is_open ≡ false) (λ guest.
+        ensures guest { MatchOption result (self.old.is_open ≡ false) (λ guest.
             (guest.0 ≡ next_number self.old.last) × (self.new.last ≡ guest.0) × (self.new.is_open ≡ self.old.is_open)) }
+        ensures told { self.old.has_told ≡ true → self.new.has_told ≡ true }
     {
         if !self.is_open {
             return None;
@@ -223,6 +224,7 @@ impl<L: OpenListener<Stream = TcpStream>> Door<L> {
     fn accept<R: Wait + Eprint + Clock>(&mut self, rt: &R) -> TcpStream
         ensures number { self.new.last ≡ self.old.last }
         ensures open { self.new.is_open ≡ self.old.is_open }
+        ensures told { self.old.has_told ≡ true → self.new.has_told ≡ true }
     {
         for _ in rt.forever() {
             if let Ok((stream, _)) = self.listener.accept() {

@@ -1,14 +1,18 @@
 //! The service that the program runs, and its sessions over sockets.
-ghost use Rattle.std.specs.Prelude.{◌≡◌, ◌<◌, ◌≤◌, ◌*◌, ◌+◌, ◌^◌, ◌↔◌, All, IfErr, IfOk, IsTrue, vec_len};
+ghost use Rattle.std.specs.Prelude.{◌≡◌, ◌<◌, ◌≤◌, ◌*◌, ◌+◌, ◌^◌, ◌↔◌, [], All, IfErr, IfOk, IsTrue, MatchBool, vec_len};
+ghost use Rattle.ring_service.specs.Places.{ServesPlaced};
+ghost use Rattle.ring_service.specs.Sessions.{Serves};
 ghost use Rattle.ringd.specs.Faults.{IsOfStart};
+ghost use Rattle.ringd.specs.Sessions.{GainsCalls};
 ghost use Rattle.ringd.specs.declared.fault.ProgramFault.TheVariants.{NoMemory};
 
 use crate::config::Config;
 use crate::fault::ProgramFault;
 use ring_any::Any;
-use ring_lines::{FromRead, ToWrite};
+use ring_lines::{FromRead, Intake, LineFault, Outlet, ToWrite};
 use ring_service::Table;
 use ring_turn::TurnLock;
+use ring_workers::{Gate, OpenGate};
 use std::alloc::Global;
 use std::net::TcpStream;
 use std::sync::{Arc, Wait};
@@ -33,6 +37,9 @@ pub type Front = ring_service::Front<Access>;
 /// The service over the program's table.
 pub type Service = ring_service::Service<Access>;
 
+/// What the service leaves when it is closed.
+pub type Closing = ring_service::Closing<Access>;
+
 /// A seat of the table, for one session after another.
 #[derive(Drop)]
 pub struct Guest<'a> {
@@ -47,6 +54,33 @@ where
     R: Threads + Wait + Clock + AllocGlobal + Copy + Send + Drop + 'static,
     ensures seats { IfOk result (λ opened. vec_len opened.1 ≡ sessions) }
     ensures theirs { IfOk result (λ opened. All (λ seat. seat.lock ≡ opened.0.id) opened.1.items) }
+    ensures turns { IfOk result (λ opened. All (λ seat. seat.left ≡ 2 ^ 30) opened.1.items) }
+    ensures workers { IfOk result (λ opened. opened.0.seats ≡ config.now.workers + sessions) }
+    ensures empty { IfOk result (λ opened. opened.0.opening ≡ []) }
+    ensures fault { IfErr result IsOfStart }
+{
+    let Ok(gate) = Arc::new(rt.alloc(), OpenGate) else {
+        return Err(ProgramFault::NoMemory);
+    };
+    open_gated(rt, config, sessions, gate)
+}
+
+// The same, where this gate looks at each item of each worker. No clause says how much the inboxes hold: a
+// test does.
+fn open_gated<R, G>(
+    rt: &R,
+    config: &Config,
+    sessions: u32,
+    gate: Arc<G>,
+) -> Result<(Service, Vec<Seat>), ProgramFault>
+where
+    R: Threads + Wait + Clock + AllocGlobal + Copy + Send + Drop + 'static,
+    G: Gate + Send + Sync + Drop + 'static,
+    ensures seats { IfOk result (λ opened. vec_len opened.1 ≡ sessions) }
+    ensures theirs { IfOk result (λ opened. All (λ seat. seat.lock ≡ opened.0.id) opened.1.items) }
+    ensures turns { IfOk result (λ opened. All (λ seat. seat.left ≡ 2 ^ 30) opened.1.items) }
+    ensures workers { IfOk result (λ opened. opened.0.seats ≡ config.now.workers + sessions) }
+    ensures empty { IfOk result (λ opened. opened.0.opening ≡ []) }
     ensures fault { IfErr result IsOfStart }
 {
     let alloc = rt.alloc();
@@ -58,7 +92,7 @@ where
     let Ok(access) = Arc::new(alloc, lock) else {
         return Err(ProgramFault::NoMemory);
     };
-    let service = Service::new(rt, alloc, access, seats, config.workers, config.inbox)?;
+    let service = Service::gated(rt, alloc, access, seats, config.workers, config.inbox, gate)?;
     Ok((service, guests))
 }
 
@@ -69,9 +103,11 @@ pub fn front(service: &Service) -> &Front
     service.front()
 }
 
-/// Ends the service. What it leaves is let go.
-pub fn close<R: Threads + Wait>(rt: &R, service: Service) {
-    let _closing = service.close(rt);
+/// Ends the service, and gives what it leaves.
+pub fn close<R: Threads + Wait>(rt: &R, service: Service) -> Closing
+    ensures { result.access.value ≡ service }
+{
+    service.close(rt)
 }
 
 /// A guest for each seat, from the last one down to the first. Refused for want of memory alone.
@@ -103,7 +139,8 @@ pub trait Serving: Drop {
     /// places are asked for.
     ///
     /// It ends when the client has sent all, when reading or writing fails, and when memory is refused
-    /// before its first line. Every reply goes out at once.
+    /// before its first line. Every reply goes out at once. The session's number stands in the history with
+    /// each of its commands; no reply tells it.
     fn serve<R: Wait>(&mut self, rt: &R, session: u32, stream: &TcpStream, places: bool);
 }
 
@@ -114,15 +151,37 @@ impl Serving for Guest<'_> {
         self.seat.is_spent()
     }
 
-    fn serve<R: Wait>(&mut self, rt: &R, session: u32, stream: &TcpStream, places: bool) {
+    fn serve<R: Wait>(&mut self, rt: &R, session: u32, stream: &TcpStream, places: bool)
+        ensures { GainsCalls session self.old.seat.mine self.new.seat.mine }
+    {
         let _ = stream.set_nodelay(true);
         let (mut reader, mut writer) = (FromRead(stream), ToWrite(stream));
         let (front, seat) = (self.front, &mut self.seat);
-        let _ = if places {
-            front.serve_placed(rt, seat, session, &mut reader, &mut writer, READS)
-        } else {
-            front.serve(rt, seat, session, &mut reader, &mut writer, READS)
-        };
+        let _ = answer(rt, front, seat, session, places, &mut reader, &mut writer);
+    }
+}
+
+// One session by a seat, told with places where they are asked for.
+fn answer<R: Wait, I: Intake, O: Outlet>(
+    rt: &R,
+    front: &Front,
+    seat: &mut Seat,
+    session: u32,
+    places: bool,
+    reader: &mut I,
+    writer: &mut O,
+) -> Result<u64, LineFault>
+    requires { seat.old.lock ≡ front.now.id }
+    ensures seat { seat.new.lock ≡ front.now.id }
+    ensures gained { GainsCalls session seat.old.mine seat.new.mine }
+    ensures served { MatchBool places
+        (ServesPlaced I.read_gives O.write_gives (λ seat. seat.mine) session seat.old reader.old writer.old 4294967295 result seat.new reader.new writer.new)
+        (Serves I.read_gives O.write_gives (λ seat. seat.mine) session seat.old reader.old writer.old 4294967295 result seat.new reader.new writer.new) }
+{
+    if places {
+        front.serve_placed(rt, seat, session, reader, writer, READS)
+    } else {
+        front.serve(rt, seat, session, reader, writer, READS)
     }
 }
 
@@ -134,3 +193,6 @@ pub fn limit_silence(stream: &TcpStream, seconds: u32) {
         let _ = stream.set_write_timeout(longest);
     }
 }
+
+#[cfg(test)]
+mod tests;

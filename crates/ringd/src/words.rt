@@ -1,13 +1,16 @@
 //! The words of the command line, and what they ask for.
-ghost use Rattle.std.specs.Prelude.{◌≡◌, ◌∷◌, [], ℕ, List, IfErr, IfOk, IsOkUnless, codes, false, map, string_bytes, true};
+ghost use Rattle.std.specs.Prelude.{◌≡◌, ◌↔◌, ◌∷◌, [], ℕ, List, IfErr, IfOk, IsOkUnless, IsTrue, codes, false, map, string_bytes, true};
 ghost use Rattle.clap.specs.Words.{app_of, found_of, kind_of, rows_of, rule_of, takes, Text};
-ghost use Rattle.clap.specs.declared.error.kind.ErrorKind.TheVariants.{ValueValidation};
+ghost use Rattle.clap.specs.declared.error.kind.ErrorKind.TheVariants.{DisplayVersion, ValueValidation};
 ghost use Rattle.ringd.specs.Words.{HasCause, IsFaultOf, IsGiven, IsLocal, IsRun, IsRunOf, IsServeOf, IsServed, config_rule, connections_rule, idle_rule, places_rule, ringd_app, run_app, serve_app, sessions_rule};
 
 use clap::error::ErrorKind;
 use clap::{Arg, ArgAction, ArgMatches, Command};
 use std::alloc::{AllocError, Global};
 use thiserror::Error;
+
+// The version that `--version` tells.
+const VERSION: &str = "1.0.0";
 
 // How many sessions `run` has at a time where no number is given.
 const SESSIONS: u32 = 16;
@@ -34,7 +37,7 @@ pub enum Order {
 /// Why the words gave no order.
 #[derive(Debug, Drop, Error)]
 pub enum WordsFault {
-    /// The command line was refused, or asked for help. The text is clap's.
+    /// The command line was refused, or asked for help or for the version. The text is clap's.
     #[error(transparent)]
     Usage(clap::Error),
     /// Memory was refused.
@@ -72,6 +75,7 @@ fn command<'a>(alloc: Global) -> Result<Command<'a>, AllocError>
     let serve = serve_command(alloc)?;
     let run = run_command(alloc)?;
     Command::new(alloc, "ringd")
+        .version(VERSION)
         .about("Keeps a leader for each of many groups")
         .subcommand_required(true)
         .subcommand(replay)?
@@ -175,10 +179,18 @@ pub fn not_text(alloc: Global) -> Result<clap::Error, AllocError>
     command(alloc)?.error(ErrorKind::ValueValidation, "a word is not UTF-8 text")
 }
 
+/// Whether the words asked for the version.
+pub fn asks_version(error: &clap::Error) -> bool
+    ensures { IsTrue result ↔ (kind_of error.now ≡ DisplayVersion) }
+{
+    error.kind() == ErrorKind::DisplayVersion
+}
+
 /// Reads the words of a command line, of which the first is the program's name.
 ///
 /// The order is the one that the words give. `Usage` comes only of words that the command line does
-/// not take, a request for help among them; the error says which kind of mistake they have.
+/// not take, requests for help and for the version among them; the error says which kind of mistake
+/// they have.
 pub fn read_words(alloc: Global, words: &[String]) -> Result<Order, WordsFault>
     ensures order { IfOk result (IsGiven (map string_bytes words.now)) }
     ensures usage { IfErr result (HasCause (map string_bytes words.now)) }

@@ -1,11 +1,13 @@
-use super::accept_loop;
+use super::{accept_all, accept_loop};
 use crate::config::Config;
 use crate::fault::ProgramFault;
+use crate::sessions::Serving;
+use crate::trial::{client, is_numbered};
 use ring_lines::{DripOut, Page};
 use std::alloc::{AllocError, Global};
 use std::io::{Read, Write};
 use std::net::{Ipv4Addr, Net, OpenListener, Shutdown, SocketAddr, TcpListener, TcpStream};
-use std::sync::Wait;
+use std::sync::{Mutex, Wait};
 use std::test::Fail;
 use std::thread::Threads;
 use std::time::Clock;
@@ -147,4 +149,53 @@ fn a_failed_write_is_told(rt: HostRuntime) -> Result<(), Fail> {
         assert_eq!(rt; out.taken(), told);
     }
     Ok(())
+}
+
+// Counts the sessions that have the number of their client, and are told no places.
+#[derive(Drop)]
+struct Counter<'a> {
+    count: &'a Mutex<u32>,
+}
+
+impl Serving for Counter<'_> {
+    fn is_spent(&self) -> bool {
+        false
+    }
+
+    fn serve<R: Wait>(&mut self, rt: &R, session: u32, stream: &TcpStream, places: bool) {
+        if is_numbered(session, stream) && !places {
+            let mut count = self.count.lock(rt);
+            *count = count.saturating_add(1);
+        }
+    }
+}
+
+// Three counters of one count.
+fn counters(alloc: Global, count: &Mutex<u32>) -> Option<Vec<Counter<'_>>> {
+    let mut counters = Vec::new(alloc);
+    for _ in 0..3 {
+        counters.push(Counter { count }).ok()?;
+    }
+    Some(counters)
+}
+
+// Three clients, one after another: how many sessions have the number of their client.
+fn numbered<R>(rt: &R) -> Option<u32>
+where
+    R: AllocGlobal + Threads + Wait + Sync + Net<Stream = TcpStream, Listener = TcpListener>,
+{
+    let listener = rt.bind(SocketAddr::from((Ipv4Addr::LOCALHOST, 0))).ok()?;
+    let address = listener.local_addr().ok()?;
+    let _one = client(rt, address, 1).ok()?;
+    let _two = client(rt, address, 2).ok()?;
+    let _three = client(rt, address, 3).ok()?;
+    let count = Mutex::new(0);
+    accept_all(rt, listener, counters(rt.alloc(), &count)?).ok()?;
+    Some(count.into_inner())
+}
+
+#[test]
+fn sessions_have_the_numbers_of_their_clients(rt: HostRuntime) {
+    let first = numbered(&rt);
+    assert!(rt; first == Some(3) || numbered(&rt) == Some(3));
 }

@@ -1,12 +1,15 @@
-use super::{Door, Limits, run_loop, with_turns};
+use super::{Door, Limits, attend_all, run_loop, with_turns};
 use crate::config::Config;
 use crate::fault::ProgramFault;
 use crate::sessions::Serving;
+use crate::trial::{client, is_numbered};
 use ring_lines::DripOut;
 use std::io;
-use std::net::{Ipv4Addr, Net, OpenListener, SocketAddr, TcpStream};
+use std::net::{Ipv4Addr, Net, OpenListener, SocketAddr, TcpListener, TcpStream};
 use std::sync::{Mutex, Wait};
 use std::test::Fail;
+use std::thread::Threads;
+use std::time::Clock;
 
 // A listener whose accept fails.
 #[derive(Drop)]
@@ -104,4 +107,79 @@ fn a_spent_guest_gives_way_to_a_spare_one(rt: HostRuntime) -> Result<(), Fail> {
         assert_eq!(rt; with_turns(&rt, idler, &spare).number, wanted);
     }
     Ok(())
+}
+
+// Counts the sessions that have the number of their client, and are told places. After the third it shuts the
+// door.
+#[derive(Drop)]
+struct Counter<'a> {
+    door: &'a Mutex<Door<TcpListener>>,
+    count: &'a Mutex<u32>,
+    left: u32,
+}
+
+impl Serving for Counter<'_> {
+    fn is_spent(&self) -> bool {
+        false
+    }
+
+    fn serve<R: Wait>(&mut self, rt: &R, session: u32, stream: &TcpStream, places: bool) {
+        if is_numbered(session, stream) && places {
+            let mut count = self.count.lock(rt);
+            *count = count.saturating_add(1);
+        }
+        self.left = self.left.saturating_sub(1);
+        if self.left == 0 {
+            self.door.lock(rt).is_open = false;
+        }
+    }
+}
+
+// One guest at this door, until three clients were served.
+fn serves_three<R>(rt: &R, door: &Mutex<Door<TcpListener>>, count: &Mutex<u32>) -> Option<()>
+where
+    R: AllocGlobal + Threads + Wait + Eprint + Clock + Sync,
+{
+    let mut guests = Vec::new(rt.alloc());
+    let guest = Counter {
+        door,
+        count,
+        left: 3,
+    };
+    guests.push(guest).ok()?;
+    let spare = Mutex::new(Vec::new(rt.alloc()));
+    let limits = Limits {
+        sessions: 1,
+        idle: 0,
+        places: true,
+    };
+    attend_all(rt, door, &spare, guests, limits).ok()
+}
+
+// Three clients, one after another: how many sessions have the number of their client.
+fn numbered<R>(rt: &R) -> Option<u32>
+where
+    R: AllocGlobal
+        + Threads
+        + Wait
+        + Eprint
+        + Clock
+        + Sync
+        + Net<Stream = TcpStream, Listener = TcpListener>,
+{
+    let listener = rt.bind(SocketAddr::from((Ipv4Addr::LOCALHOST, 0))).ok()?;
+    let address = listener.local_addr().ok()?;
+    let door = Mutex::new(Door::new(listener));
+    let _one = client(rt, address, 1).ok()?;
+    let _two = client(rt, address, 2).ok()?;
+    let _three = client(rt, address, 3).ok()?;
+    let count = Mutex::new(0);
+    serves_three(rt, &door, &count)?;
+    Some(count.into_inner())
+}
+
+#[test]
+fn sessions_have_the_numbers_of_their_clients(rt: HostRuntime) {
+    let first = numbered(&rt);
+    assert!(rt; first == Some(3) || numbered(&rt) == Some(3));
 }

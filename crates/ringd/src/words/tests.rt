@@ -1,4 +1,4 @@
-use super::{Order, WordsFault, not_text, read_words};
+use super::{Order, WordsFault, asks_version, not_text, read_words};
 use std::alloc::{AllocError, Global};
 use std::test::Fail;
 
@@ -122,7 +122,7 @@ fn other_words_are_refused_with_the_usage(rt: HostRuntime) -> Result<(), Fail> {
         "ringd replay replay",
         "ringd Replay",
         "ringd -- replay",
-        "ringd --version",
+        "ringd replay --version",
         "ringd --help",
         "ringd help",
         "ringd help replay",
@@ -143,5 +143,17 @@ fn bytes_that_are_no_text_are_refused_with_the_usage(rt: HostRuntime) -> Result<
     let text = text_of(rt.alloc(), &error)?;
     assert!(rt; text.as_str().contains("a word is not UTF-8 text"));
     assert!(rt; text.as_str().contains("Usage: ringd"));
+    Ok(())
+}
+
+#[test]
+fn the_version_is_told(rt: HostRuntime) -> Result<(), Fail> {
+    for line in ["ringd --version", "ringd -V", "ringd --version replay"] {
+        let Err(WordsFault::Usage(error)) = read_again(rt.alloc(), line) else {
+            return Err("no version".into());
+        };
+        assert!(rt; asks_version(&error), "{line}");
+        assert_eq!(rt; text_of(rt.alloc(), &error)?.as_str(), "ringd 1.0.0\n");
+    }
     Ok(())
 }

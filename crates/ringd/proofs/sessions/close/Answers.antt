@@ -2,5 +2,5 @@ use Rattle.ring_turn.proofs.Sharing.{table_sync}
 use Rattle.ringd.proofs.sessions.close.Goals as goal
 
 -- the table may be shared among threads
-pub close-closing-requires-sync-A : goal.close-closing-requires-sync-A
-close-closing-requires-sync-A g c κs within = record { shared = table_sync.shared }
+pub close-requires-sync-A : goal.close-requires-sync-A
+close-requires-sync-A g c κs within = record { shared = table_sync.shared }

@@ -7,7 +7,7 @@ use Rattle.ringd.proofs.words.command.Goals as goal
 
 pub returns : goal.returns
 returns c =
-    let top : App = on_top (λ s. record s { subcommand_required = true }) (new_app (codes "ringd")) in
+    let top : App = on_top (λ s. record s { subcommand_required = true; has_version = true }) (new_app (codes "ringd")) in
     let start : app_of c.subcommand_required.result ≡ top = search rules in
     let replay : app_of c.about-replay.result ≡ new_app (codes "replay") = search rules in
     let replay_local : IsLocal c.about-replay.result = search rules in
