@@ -7,13 +7,15 @@ use Rattle.ring_node.specs.declared.charter.Charter.{Charter}
 use Rattle.ring_node.specs.Envelopes.{Sent}
 use Rattle.ring_node.specs.Nodes.{Seated}
 use Rattle.ring_workers.specs.declared.handed.Handed.{Handed}
+use Rattle.ring_workers.specs.declared.handed.Why.{Why}
+use Rattle.ring_workers.specs.declared.handed.Why.TheVariants.{Stopped, Closed, Halted, Starved, Spent}
 use Rattle.ring_workers.specs.declared.item.Item.{Item}
 use Rattle.ring_workers.specs.declared.item.Item.TheVariants.{Begin, Packet, Stop}
 use Rattle.ring_workers.specs.Fates.{IsBegun, IsDelivered}
 use Rattle.ring_workers.specs.Goings.{Grows, HasReceived}
-use Rattle.ring_workers.specs.Handed.{Hands}
+use Rattle.ring_workers.specs.Handed.{Ended, Hands}
 use Rattle.ring_workers.specs.Holdings.{AllOwned, AllSeated, Holding, IsOlder, NoTwoAlike, Steps, charters_of, nodes_of}
-use Rattle.ring_workers.specs.Runs.{Ran, Turns}
+use Rattle.ring_workers.specs.Runs.{IsEnd, Ran, Turns}
 use Rattle.ring_workers.specs.Sends.{Sends}
 use Rattle.ring_workers.proofs.Turning.{ran_send}
 
@@ -72,12 +74,33 @@ pub hands_over : {E S M : Type 0} (t : E → Table S M) (number workers : ℕ) (
     → handed.number ≡ holding.number → handed.workers ≡ holding.workers
     → handed.nodes ≡ holding → handed.outbox.items ≡ outbox → handed.dropped ≡ dropped → handed.held ≡ held
     → AllOwned holding.number holding.workers (nodes_of holding) → NoTwoAlike (nodes_of holding)
+    → Ended handed.why from to handed.held
     → Hands t number workers from to old new handed
-hands_over {E} {S} {M} t number workers from to old new holding outbox dropped held handed ran number_is workers_is nodes_is outbox_is dropped_is held_is owned apart = record {
+hands_over {E} {S} {M} t number workers from to old new holding outbox dropped held handed ran number_is workers_is nodes_is outbox_is dropped_is held_is owned apart ended = record {
   number_is = number_is ∙ ran.number_is;
   workers_is = workers_is ∙ ran.workers_is;
   owned = subst (λ (h : Holding E M). AllOwned number workers (nodes_of h)) (sym nodes_is)
       (subst (λ (n : ℕ). AllOwned n workers (nodes_of holding)) ran.number_is (subst (λ (w : ℕ). AllOwned holding.number w (nodes_of holding)) ran.workers_is owned));
   apart = subst (λ (h : Holding E M). NoTwoAlike (nodes_of h)) (sym nodes_is) apart;
   ran = rw (nodes_is, outbox_is, dropped_is, held_is) ran;
+  ended = ended;
 }
+
+-- a reason to end at the last item is why a worker ended
+ended_why : {E M S : Type 0} (why : Why) (from to : ReceiverLog (Item E M S)) (held : Option (Item E M S)) (earlier : List (ℕ × Item E M S)) (sender : ℕ) (last : Item E M S)
+    → to.taken ≡ (from.taken ++ earlier) ++ (sender, last) ∷ [] → IsEnd why last held → Ended why from to held
+ended_why Stopped from to held earlier sender last took ends = record { earlier = earlier; sender = sender; last = last; took = took; ends = ends }
+ended_why Closed from to held earlier sender last took ends = absurd ends
+ended_why Halted from to held earlier sender last took ends = record { earlier = earlier; sender = sender; last = last; took = took; ends = ends }
+ended_why Starved from to held earlier sender last took ends = record { earlier = earlier; sender = sender; last = last; took = took; ends = ends }
+ended_why Spent from to held earlier sender last took ends = record { earlier = earlier; sender = sender; last = last; took = took; ends = ends }
+
+-- a worker that ends at an item that it took hands over why
+pub ended_at : {E S M : Type 0} (t : E → Table S M) (number workers : ℕ) (from mid to : ReceiverLog (Item E M S)) {old new : List (SenderLog (Item E M S))} {holding : Holding E M} {outbox : List (Sent E M)} {dropped : ℕ}
+    (sender : ℕ) (item : Item E M S) (why : Why) (held : Option (Item E M S)) (handed : Handed E M S)
+    → Ran t number workers from mid old new holding outbox dropped None → to ≡ record mid { taken = mid.taken ++ (sender, item) ∷ [] } → IsEnd why item held → handed.why ≡ why → handed.held ≡ held
+    → Ended handed.why from to handed.held
+ended_at t number workers from mid to sender item why held handed ran next ends why_is held_is =
+    let took : to.taken ≡ (from.taken ++ ran.taken) ++ (sender, item) ∷ [] =
+    ap (λ (log : ReceiverLog _). log.taken) next ∙ ap (λ (log : ReceiverLog _). log.taken ++ (sender, item) ∷ []) ran.took in
+    rw (why_is, held_is) (ended_why why from to held ran.taken sender item took ends)

@@ -6,6 +6,7 @@ use Rattle.ring_node.specs.declared.charter.Charter.{Charter}
 use Rattle.ring_node.specs.Envelopes.{Sent}
 use Rattle.ring_node.specs.Nodes.{Seated}
 use Rattle.ring_workers.specs.declared.handed.Why.{Why}
+use Rattle.ring_workers.specs.declared.handed.Why.TheVariants.{Stopped, Closed, Halted, Starved, Spent}
 use Rattle.ring_workers.specs.declared.item.Item.{Item}
 use Rattle.ring_workers.specs.declared.item.Item.TheVariants.{Begin, Packet, Stop}
 use Rattle.ring_workers.specs.declared.run.Next.{Next}
@@ -48,6 +49,20 @@ module _ {E M S : Type 0} where
   abbrev pub held_of : Option (Why × Option (Item E M S)) → Option (Item E M S)
   held_of None = None
   held_of (Some end) = end.1
+
+  -- A worker ends at this item for this reason, with this in hand: the word to stop was handled, as was an item
+  -- whose report spent the desk's turns; where the gate halted it or memory was refused, the item is in hand still.
+  abbrev pub IsEnd : Why → Item E M S → Option (Item E M S) → Type 0
+  IsEnd Stopped item held = (item ≡ Stop) × (held ≡ None)
+  IsEnd Closed item held = ⊥
+  IsEnd Halted item held = held ≡ Some item
+  IsEnd Starved item held = held ≡ Some item
+  IsEnd Spent item held = held ≡ None
+
+  -- it ends at this item, or goes on, which it does after no word to stop
+  abbrev pub EndsAt : Item E M S → Option (Why × Option (Item E M S)) → Type 0
+  EndsAt item None = item ≡ Stop → ⊥
+  EndsAt item (Some end) = IsEnd end.0 item end.1
 
   -- where nothing was dropped, the item was of an older term, or it is done
   abbrev pub IsHandled : Holding E M → Holding E M → ℕ → Item E M S → Type 0

@@ -1,7 +1,7 @@
-ghost use Rattle.std.specs.Prelude.{◌≡◌, ◌<◌, ◌≤◌, [], vec_capacity, vec_len, IfErr, OnOk};
+ghost use Rattle.std.specs.Prelude.{◌≡◌, ◌<◌, ◌≤◌, [], vec_capacity, vec_len, IfErr, IfOk, IfSome, OnOk};
 ghost use Rattle.ring_workers.specs.Fates.{IsBegun, IsDelivered};
 ghost use Rattle.ring_workers.specs.Holdings.{AllOwned, NoTwoAlike, Steps, nodes_of};
-ghost use Rattle.ring_workers.specs.Runs.{Turns, held_of};
+ghost use Rattle.ring_workers.specs.Runs.{EndsAt, Turns, held_of};
 
 use crate::desk::{Desk, Filed};
 use crate::handed::{Handed, Why};
@@ -51,7 +51,8 @@ impl<E: RingElection> Bench<E> {
         item: Item<E>,
         desk: &mut D,
     ) -> Option<(Why, Option<Item<E>>)>
-        ensures { Turns E.table item self.old.nodes self.new.nodes self.old.outbox.items self.new.outbox.items self.old.dropped self.new.dropped (held_of result) }
+        ensures turns { Turns E.table item self.old.nodes self.new.nodes self.old.outbox.items self.new.outbox.items self.old.dropped self.new.dropped (held_of result) }
+        ensures ends { EndsAt item result }
     {
         match item {
             Item::Stop => Some((Why::Stopped, None)),
@@ -93,6 +94,7 @@ impl<E: RingElection> Bench<E> {
         ensures grows { self.old.dropped ≤ self.new.dropped }
         ensures delivered { OnOk result (IsDelivered self.old.nodes self.new.nodes self.new.dropped envelope) }
         ensures back { IfErr result (λ back. back ≡ envelope) }
+        ensures why { IfOk result (λ end. IfSome end (λ why. why ≡ Why.Spent)) }
     {
         let owner = self.nodes.owner();
         if owner.of(receiver(&envelope)) != owner.number {
@@ -157,6 +159,7 @@ fn file<E: RingElection, D: Desk<E>>(
     desk: &mut D,
 ) -> Option<Why>
     requires { vec_len unfiled.old < vec_capacity unfiled.old }
+    ensures { IfSome result (λ why. why ≡ Why.Spent) }
 {
     let Filed::Refused(refusal) = desk.report(&report) else {
         return None;

@@ -1,6 +1,6 @@
 ghost use Rattle.std.specs.Prelude.{◌≡◌, vec_len};
 ghost use Rattle.ring_workers.specs.Handed.{Hands};
-ghost use Rattle.ring_workers.specs.Runs.{Gives, Turns, held_of};
+ghost use Rattle.ring_workers.specs.Runs.{EndsAt, Gives, Turns, held_of};
 
 use crate::bench::Bench;
 use crate::desk::Desk;
@@ -83,7 +83,8 @@ fn handle_at<E: RingElection, G: Gate, D: Desk<E>>(
     gate: &G,
     desk: &mut D,
 ) -> Option<(Why, Option<Item<E>>)>
-    ensures { Turns E.table item bench.old.nodes bench.new.nodes bench.old.outbox.items bench.new.outbox.items bench.old.dropped bench.new.dropped (held_of result) }
+    ensures turns { Turns E.table item bench.old.nodes bench.new.nodes bench.old.outbox.items bench.new.outbox.items bench.old.dropped bench.new.dropped (held_of result) }
+    ensures ends { EndsAt item result }
 {
     let number = bench.nodes.owner().number;
     match gate.enter(number, turn) {

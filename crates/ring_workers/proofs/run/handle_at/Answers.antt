@@ -1,5 +1,5 @@
 use Rattle.ring_workers.proofs.Handling.{turns_held}
 use Rattle.ring_workers.proofs.run.handle_at.Goals as goal
 
-pub returns-in-Halt : goal.returns-in-Halt
-returns-in-Halt g c = turns_held g.E.RingElection.table c.args.item c.args.bench.now.nodes c.args.bench.now.outbox.items c.args.bench.now.dropped
+pub returns-in-Halt-clause-turns : goal.returns-in-Halt-clause-turns
+returns-in-Halt-clause-turns g c = turns_held g.E.RingElection.table c.args.item c.args.bench.now.nodes c.args.bench.now.outbox.items c.args.bench.now.dropped

@@ -2,8 +2,8 @@ use Rattle.std.proofs.Common.{refl, inr}
 use Rattle.ring_workers.proofs.Handling.{begun_handled, delivered_handled}
 use Rattle.ring_workers.proofs.bench.Bench.handle.Goals as goal
 
-pub returns-in-Ok : goal.returns-in-Ok
-returns-in-Ok g c =
+pub returns-in-Ok-clause-turns : goal.returns-in-Ok-clause-turns
+returns-in-Ok-clause-turns g c =
     rw c.in-Begin.is
     (record {
       steps = c.begin.ensures.steps;
@@ -11,8 +11,8 @@ returns-in-Ok g c =
       end = inr (refl, begun_handled c.args.self.now.nodes c.begin.new.self.nodes c.begin.new.self.dropped c.in-Begin.charter.value c.in-Ok.ensures.begun);
     })
 
-pub returns-in-Ok-None : goal.returns-in-Ok-None
-returns-in-Ok-None g c =
+pub returns-in-Ok-None-clause-turns : goal.returns-in-Ok-None-clause-turns
+returns-in-Ok-None-clause-turns g c =
     rw c.in-Packet.is
     (record {
       steps = c.deliver.ensures.steps;
@@ -20,8 +20,8 @@ returns-in-Ok-None g c =
       end = inr (refl, delivered_handled c.args.self.now.nodes c.deliver.new.self.nodes c.deliver.new.self.dropped c.in-Packet.envelope c.in-Ok-None.ensures.delivered);
     })
 
-pub returns-in-Ok-Some : goal.returns-in-Ok-Some
-returns-in-Ok-Some g c =
+pub returns-in-Ok-Some-clause-turns : goal.returns-in-Ok-Some-clause-turns
+returns-in-Ok-Some-clause-turns g c =
     rw c.in-Packet.is
     (record {
       steps = c.deliver.ensures.steps;
