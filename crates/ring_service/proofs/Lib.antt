@@ -8,3 +8,4 @@ pub mod Replying
 pub mod Showing
 pub mod Speaking
 pub mod Placing
+pub mod Posting

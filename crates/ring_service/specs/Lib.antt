@@ -8,3 +8,4 @@ pub mod Sessions
 pub mod Tables
 pub mod Twice
 pub mod Places
+pub mod Posts

@@ -1,5 +1,6 @@
-ghost use Rattle.std.specs.Prelude.{◌≡◌, ◌<◌, ◌≤◌, ◌+◌, [], All, OnOk, vec_len};
+ghost use Rattle.std.specs.Prelude.{◌≡◌, ◌<◌, ◌≤◌, ◌+◌, ◌⊎◌, [], ◌++◌, All, OnOk, vec_len};
 ghost use Rattle.std.specs.VecDeque.{deque_capacity, deque_len};
+ghost use Rattle.ring_service.specs.Posts.{PutsBegin, Tries, begins_from};
 
 use ring_any::Any;
 use ring_id::NoMemory;
@@ -63,22 +64,24 @@ impl Posts {
         }
     }
 
-    /// Adds a begin for each worker, by one charter each, behind those that wait. Takes no memory.
+    /// Adds a begin for each worker, by one charter each, behind those that wait, or none where there are
+    /// no charters. Takes no memory.
     pub(crate) fn add(&mut self, charters: Vec<Arc<Charter<Any>>>)
-        requires { deque_len self.old.waiting + vec_len self.old.passes ≤ deque_capacity self.old.waiting }
+        requires room { deque_len self.old.waiting + vec_len self.old.passes ≤ deque_capacity self.old.waiting }
+        requires charters { (charters.items ≡ []) ⊎ (vec_len charters ≡ vec_len self.old.passes) }
+        ensures passes { self.new.passes ≡ self.old.passes }
+        ensures waiting { self.new.waiting.items ≡ self.old.waiting.items ++ begins_from 0 charters.items }
     {
-        let mut charters = charters;
-        for worker in 0..self.passes.len() {
-            let Some(charter) = charters.pop() else {
-                return;
-            };
+        for (worker, charter) in charters.into_iter().enumerate() {
             self.waiting.push_back_reserved(Waiting { worker, charter });
         }
     }
 
     /// Tries each begin that waits once, in order. What is not stored goes on waiting, in order. Takes no
     /// memory.
-    pub(crate) fn try_waiting<R: Wait>(&mut self, rt: &R) {
+    pub(crate) fn try_waiting<R: Wait>(&mut self, rt: &R)
+        ensures { Tries self.old.waiting.items self.new.waiting.items self.old.passes.items self.new.passes.items }
+    {
         for _ in 0..self.waiting.len() {
             let Some(Waiting { worker, charter }) = self.waiting.pop_front() else {
                 return;
@@ -107,7 +110,9 @@ fn put_begin<R: Wait>(
     rt: &R,
     pass: &mut SenderPass<Item<Any>>,
     charter: Arc<Charter<Any>>,
-) -> Option<Arc<Charter<Any>>> {
+) -> Option<Arc<Charter<Any>>>
+    ensures { PutsBegin pass.old charter result pass.new }
+{
     match pass.put(rt, Item::Begin(charter)) {
         Put::Stored => None,
         Put::Full(Item::Begin(back)) | Put::Gone(Item::Begin(back)) => Some(back),

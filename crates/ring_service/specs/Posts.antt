@@ -1,0 +1,42 @@
+-- Posts: the begins of the terms that wait for the workers' inboxes.
+use Rattle.std.specs.Prelude.{◌≡◌, ◌==◌, ◌+◌, ◌⊎◌, ℕ, List, [], ◌∷◌, ◌++◌, if◌then◌else◌, length, Option, None, Some, slice_get}
+use Rattle.std.specs.Global.{Global}
+use Rattle.std.specs.declared.sync.Arc.{Arc}
+use Rattle.ring_any.specs.declared.any.Any.{Any}
+use Rattle.ring_inbox.specs.Values.{SenderLog}
+use Rattle.ring_node.specs.declared.charter.Charter.{Charter}
+use Rattle.ring_service.specs.declared.posts.Waiting.{Waiting}
+use Rattle.ring_workers.specs.declared.item.Item.{Item}
+use Rattle.ring_workers.specs.declared.item.Item.TheVariants.{Begin}
+
+-- a begin for each worker from this number on, by these charters in order
+abbrev pub begins_from : ℕ → List (Arc (Charter Any) Global) → List Waiting
+begins_from worker [] = []
+begins_from worker (charter ∷ charters) = record { worker = worker; charter = charter } ∷ begins_from (worker + 1) charters
+
+-- the first list is made up of the other two, each in its order
+abbrev pub MakeUp : {A : Type 0} → List A → List A → List A → Type 0
+MakeUp [] some others = (some ≡ []) × (others ≡ [])
+MakeUp {A} (x ∷ xs) some others = ((more : List A) × (some ≡ x ∷ more) × MakeUp xs more others) ⊎ ((more : List A) × (others ≡ x ∷ more) × MakeUp xs some more)
+
+module _ {M S : Type 0} where
+  -- those of these begins that are for the worker of this number, in their order, as its inbox has them
+  abbrev pub begins_to : ℕ → List Waiting → List (Item Any M S)
+  begins_to number [] = []
+  begins_to number (begin ∷ begins) = if begin.worker == number then Begin begin.charter ∷ begins_to number begins else begins_to number begins
+
+  -- a begin is stored at the end of what the pass stored, or its charter comes back and nothing changes
+  abbrev pub PutsBegin : SenderLog (Item Any M S) → Arc (Charter Any) Global → Option (Arc (Charter Any) Global) → SenderLog (Item Any M S) → Type 0
+  PutsBegin old charter None new = new ≡ record old { stored = old.stored ++ Begin charter ∷ [] }
+  PutsBegin old charter (Some back) new = (back ≡ charter) × (new ≡ old)
+
+  -- each pass has stored those of these begins that are for its worker, in this order, and nothing else
+  pub record StoresBegins (begins : List Waiting) (old new : List (SenderLog (Item Any M S))) : Type 0 where
+    pub count : length new ≡ length old
+    pub each : (v : ℕ) (pass : SenderLog (Item Any M S)) → slice_get old v ≡ Some pass → slice_get new v ≡ Some (record pass { stored = pass.stored ++ begins_to v begins })
+
+  -- each begin that waited was stored by the pass to its worker, or waits still, in order
+  pub record Tries (waiting after : List Waiting) (old new : List (SenderLog (Item Any M S))) : Type 0 where
+    pub stored : List Waiting
+    pub whole : MakeUp waiting stored after
+    pub passes : StoresBegins stored old new
