@@ -12,8 +12,8 @@ use std::alloc::Global;
 /// take; the laws tie them together. Equal algorithms, and equal messages, are identical.
 pub trait RingElection: Copy + Eq {
     ghost use Rattle.std.specs.Prelude.{ℕ, Bool, List, true};
-    ghost use Rattle.ring_id.specs.declared.side.Side.{Side};
     ghost use Rattle.ring_election.specs.Tables.{Table};
+    ghost use Rattle.ring_election.specs.Families.{Fits};
     ghost use Rattle.ring_election.specs.Laws.{Bounded, Deciding, Lawful};
 
     /// What nodes send one another.
@@ -22,16 +22,22 @@ pub trait RingElection: Copy + Eq {
     /// What a node remembers.
     type State: Drop;
 
+    // whether it sends to the left
     ghost is_two_way: { Self → Bool };
 
+    // whether it promises to elect the greatest identity
     ghost is_greatest: { Self → Bool };
 
+    // what its calls compute: states, sends and decisions
     ghost table: { Self → Table Self.State Self.Msg };
 
-    ghost fits: { Self → List ℕ → ℕ → Side → ℕ → Self.Msg → Type 0 };
+    // which message may be the k-th of a link of a ring
+    ghost fits: { Self → Fits Self.Msg };
 
+    // who wins a ring
     ghost winner: { Self → List ℕ → ℕ };
 
+    // the most messages that an election on a ring of this length takes
     ghost bound: { Self → ℕ → ℕ };
 
     /// Whether it sends to the left.
@@ -63,13 +69,18 @@ pub trait RingElection: Copy + Eq {
     fn decision(&self, state: &Self::State) -> Option<NodeId>
         ensures { result ≡ (table self.now).decided state.now };
 
+    // the laws that keep a leader unique
     ghost lawful: { (a : Self) → Lawful (is_two_way a) (is_greatest a) (table a) (fits a) (winner a) };
 
+    // where all that was sent was taken, a node has decided
     ghost deciding: { (a : Self) → Deciding (table a) (fits a) };
 
+    // no election takes more messages than the bound
     ghost bounded: { (a : Self) → Bounded (table a) (fits a) (bound a) };
 
+    // equal algorithms are identical
     ghost equal_same: { (a b : Self) → Self.eq a b ≡ true → a ≡ b };
 
+    // equal messages are identical
     ghost equal_messages: { (a b : Self.Msg) → Self.Msg.eq a b ≡ true → a ≡ b };
 }

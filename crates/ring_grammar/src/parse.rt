@@ -44,7 +44,10 @@ fn client_command(event: Event<Any>) -> Option<Command<Any>>
 {
     match event {
         Event::Client(command) => Some(command),
-        Event::Deliver(..) | Event::Cut(..) | Event::Pending(_) | Event::Drain(..) => None,
+        Event::Deliver { .. }
+        | Event::Cut { .. }
+        | Event::Pending { .. }
+        | Event::Drain { .. } => None,
     }
 }
 
@@ -88,7 +91,7 @@ fn event_of_two(word: &[u8], group: &[u8]) -> Option<Event<Any>>
     } else if word == b"terms".as_slice() {
         Some(Event::Client(Command::Terms(group)))
     } else if word == b"pending".as_slice() {
-        Some(Event::Pending(group))
+        Some(Event::Pending { group })
     } else {
         None
     }
@@ -107,7 +110,10 @@ fn event_of_three(word: &[u8], group: &[u8], argument: &[u8]) -> Option<Event<An
     } else if word == b"who".as_slice() {
         Some(Event::Client(Command::Who(group, node_number(argument)?)))
     } else if word == b"drain".as_slice() {
-        Some(Event::Drain(group, count(argument)?))
+        Some(Event::Drain {
+            group,
+            count: count(argument)?,
+        })
     } else {
         None
     }
@@ -117,9 +123,17 @@ fn event_of_four(word: &[u8], group: &[u8], argument: &[u8], end: &[u8]) -> Opti
     ensures { Reads event_words IsEvent (word.now ∷ group.now ∷ argument.now ∷ end.now ∷ []) result }
 {
     if word == b"deliver".as_slice() {
-        Some(Event::Deliver(name(group)?, node_number(argument)?, side(end)?))
+        Some(Event::Deliver {
+            group: name(group)?,
+            node: node_number(argument)?,
+            side: side(end)?,
+        })
     } else if word == b"cut".as_slice() {
-        Some(Event::Cut(name(group)?, node_number(argument)?, side(end)?))
+        Some(Event::Cut {
+            group: name(group)?,
+            node: node_number(argument)?,
+            side: side(end)?,
+        })
     } else {
         None
     }

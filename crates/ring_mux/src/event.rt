@@ -26,13 +26,21 @@ pub enum Command<E> {
 pub enum Event<E> {
     /// A command of a client.
     Client(Command<E>),
-    /// One delivery, at the member of a group's running term with this number, from this side.
-    Deliver(GroupName, NodeNo, Side),
-    /// The link into the member of a group's running term with this number, from this side, is cut: nothing
-    /// moves there any more.
-    Cut(GroupName, NodeNo, Side),
+    /// One delivery, at the member with the number `node` of a group's running term, from this side.
+    Deliver {
+        group: GroupName,
+        node: NodeNo,
+        side: Side,
+    },
+    /// The link into the member with the number `node` of a group's running term, from this side, is cut:
+    /// nothing moves there any more.
+    Cut {
+        group: GroupName,
+        node: NodeNo,
+        side: Side,
+    },
     /// How many packets are in flight or stuck in a group's running term.
-    Pending(GroupName),
-    /// At most so many deliveries in a group's running term, each at the first ready link.
-    Drain(GroupName, u32),
+    Pending { group: GroupName },
+    /// At most `count` deliveries in a group's running term, each at the first ready link.
+    Drain { group: GroupName, count: u32 },
 }

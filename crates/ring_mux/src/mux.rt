@@ -69,10 +69,10 @@ impl<E: RingElection> Mux<E> {
     {
         let reply = match event {
             Event::Client(command) => self.command(alloc, command),
-            Event::Deliver(group, node, side) => self.deliver(group, node, side),
-            Event::Cut(group, node, side) => self.cut(group, node, side),
-            Event::Pending(group) => self.count(group),
-            Event::Drain(group, count) => self.drain(group, count),
+            Event::Deliver { group, node, side } => self.deliver(group, node, side),
+            Event::Cut { group, node, side } => self.cut(group, node, side),
+            Event::Pending { group } => self.count(group),
+            Event::Drain { group, count } => self.drain(group, count),
         };
         // what the type keeps holds of the new state too
         let _ = &self.worlds;

@@ -1,9 +1,8 @@
 ghost use Rattle.std.specs.Prelude.{◌≡◌, ◌+◌, ◌^◌, ◌<◌, [], IfOk, IfSome, MatchOption, OnErr, OnOk, length, slice_get, take};
 ghost use Rattle.ring_id.specs.Sides.{other};
-ghost use Rattle.ring_roster.specs.Ring.{neighbour};
-ghost use Rattle.ring_node.specs.Envelopes.{AllSendable, IsProper, IsSendable, index_after};
+ghost use Rattle.ring_node.specs.Envelopes.{AllSendable};
 ghost use Rattle.ring_election.specs.Traces.{taken_from};
-ghost use Rattle.ring_node.specs.Nodes.{Gains, HasSentFew, IsFaithful, IsFault, IsForNode, IsNext, Takes, envelope_of, known_of, member_of, news_of, next_index, receiving, report_of, sent_of, taken_of};
+ghost use Rattle.ring_node.specs.Nodes.{Gains, HasSentFew, IsComing, IsFaithful, IsFault, IsForNode, IsNext, IsSentWell, Takes, envelope_of, known_of, member_of, news_of, receiving, report_of, sent_of, taken_of};
 ghost use Rattle.ring_node.specs.Reports.{IsTruthful};
 
 use crate::charter::Charter;
@@ -118,7 +117,7 @@ impl<E: RingElection> Node<E> {
     /// The packet that it sent to a side at this place, from 0 on; none past the last.
     pub fn packet(&self, side: Side, place: usize) -> Option<Packet<E::Msg>>
         ensures value { result ≡ slice_get (sent_of E.table self.now side) place }
-        ensures sendable { IfSome result (λ packet. IsSendable (E.fits self.now.charter.algorithm) (E.winner self.now.charter.algorithm) self.now.charter.roster self.now.position side (index_after (take place (sent_of E.table self.now side)) packet) packet) }
+        ensures sendable { IfSome result (IsSentWell E.table E.fits E.winner self.now side place) }
     {
         self.port(side).nth(place)
     }
@@ -190,7 +189,7 @@ impl<E: RingElection> Node<E> {
     /// Takes the packet that comes next from a side: the leader, exactly where this receipt is the
     /// first by which the node knows it. Refused for want of memory alone; the node is then unchanged.
     pub fn accept(&mut self, from: Side, packet: Packet<E::Msg>) -> Result<Option<NodeId>, NoMemory>
-        requires { IsProper (E.fits self.old.charter.algorithm) (E.winner self.old.charter.algorithm) self.old.charter.roster (neighbour (length self.old.charter.roster) self.old.position from) (other from) (next_index self.old from packet) packet }
+        requires { IsComing E.fits E.winner self.old from packet }
         ensures journal { OnOk result (self.new ≡ receiving self.old from packet) }
         ensures gains { OnOk result (Gains E.table self.old from packet self.new) }
         ensures news { IfOk result (λ leader. leader ≡ news_of E.table self.old self.new) }

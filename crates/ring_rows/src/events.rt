@@ -83,10 +83,18 @@ pub fn event<E: RingElection>(algorithm: E, ask: Ask) -> Result<Event<E>, Fail> 
         Ask::Members => Event::Client(Command::Members(group)),
         Ask::Terms => Event::Client(Command::Terms(group)),
         Ask::Groups => Event::Client(Command::Groups),
-        Ask::Deliver(node, side) => Event::Deliver(group, number(node)?, side),
-        Ask::Cut(node, side) => Event::Cut(group, number(node)?, side),
-        Ask::Pending => Event::Pending(group),
-        Ask::Drain(count) => Event::Drain(group, count),
+        Ask::Deliver(node, side) => Event::Deliver {
+            group,
+            node: number(node)?,
+            side,
+        },
+        Ask::Cut(node, side) => Event::Cut {
+            group,
+            node: number(node)?,
+            side,
+        },
+        Ask::Pending => Event::Pending { group },
+        Ask::Drain(count) => Event::Drain { group, count },
     })
 }
 
@@ -101,7 +109,10 @@ fn with(done: u32, said: Said) -> Said {
 /// What is left of a drain that has made so many deliveries; any other event as it is.
 fn rest<E: RingElection>(event: Event<E>, done: u32) -> Event<E> {
     match event {
-        Event::Drain(group, count) => Event::Drain(group, count.saturating_sub(done)),
+        Event::Drain { group, count } => Event::Drain {
+            group,
+            count: count.saturating_sub(done),
+        },
         event => event,
     }
 }

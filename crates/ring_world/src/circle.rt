@@ -2,8 +2,7 @@ ghost use Rattle.std.specs.Prelude.{◌≡◌, ◌+◌, ◌<◌, ◌≤◌, ◌=
 ghost use Rattle.ring_id.specs.declared.side.Side.TheVariants.{Right};
 ghost use Rattle.ring_id.specs.Sides.{other, same_side};
 ghost use Rattle.ring_roster.specs.Ring.{neighbour};
-ghost use Rattle.ring_node.specs.Envelopes.{IsProper};
-ghost use Rattle.ring_node.specs.Nodes.{next_index, sent_of, told_of};
+ghost use Rattle.ring_node.specs.Nodes.{IsComing, sent_of, told_of};
 ghost use Rattle.ring_world.specs.Tallies.{HasMarked, HasMarkedSent};
 ghost use Rattle.ring_world.specs.Worlds.{IsSoundWorld, after_cut, after_receipt, is_cut, no_cuts, node_at, nodes_of, on_link};
 
@@ -142,7 +141,7 @@ impl<E: RingElection> Circle<E> {
     ) -> Result<Option<Report<E>>, NoMemory>
         requires inside { position < length self.old.charter.roster }
         requires front { slice_get (on_link E.table self.old position side) 0 ≡ Some packet }
-        requires proper { IsProper (E.fits self.old.charter.algorithm) (E.winner self.old.charter.algorithm) self.old.charter.roster (neighbour (length self.old.charter.roster) position side) (other side) (next_index (node_at self.old position) side packet) packet }
+        requires proper { IsComing E.fits E.winner (node_at self.old position) side packet }
         ensures journals { OnOk result (self.new ≡ after_receipt self.old position side packet) }
         ensures report { IfOk result (λ report. report ≡ told_of E.table (node_at self.old position) (node_at self.new position)) }
         ensures err { OnErr result (self.new ≡ self.old) }
@@ -161,7 +160,7 @@ impl<E: RingElection> Circle<E> {
         requires { position < length self.now.charter.roster }
         ensures value { option_map (λ front. front.0) result ≡ slice_get (on_link E.table self.now position side) 0 }
         ensures last { IfSome result (λ front. front.1 ≡ (length (on_link E.table self.now position side) == 1)) }
-        ensures proper { IfSome result (λ front. IsProper (E.fits self.now.charter.algorithm) (E.winner self.now.charter.algorithm) self.now.charter.roster (neighbour (length self.now.charter.roster) position side) (other side) (next_index (node_at self.now position) side front.0) front.0) }
+        ensures proper { IfSome result (λ front. IsComing E.fits E.winner (node_at self.now position) side front.0) }
     {
         let sender = self.node(self.neighbour(position, side));
         let taken = self.node(position).taken(side);

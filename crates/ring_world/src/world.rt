@@ -1,8 +1,5 @@
 ghost use Rattle.std.specs.Prelude.{◌≡◌, ◌+◌, ◌-◌, ◌^◌, ◌<◌, ◌≤◌, ◌==◌, ◌↔◌, true, [], IfNone, IfOk, OnErr, OnOk, length, replicate, slice_get};
-ghost use Rattle.ring_id.specs.Sides.{other};
-ghost use Rattle.ring_roster.specs.Ring.{neighbour};
-ghost use Rattle.ring_node.specs.Envelopes.{IsProper};
-ghost use Rattle.ring_node.specs.Nodes.{next_index, told_of};
+ghost use Rattle.ring_node.specs.Nodes.{IsComing, told_of};
 ghost use Rattle.ring_world.specs.Quiet.{AllKnow, IsEmptied};
 ghost use Rattle.ring_world.specs.Worlds.{Cuts, Delivers, IsReady, IsSoundWorld, IsUncut, after_receipt, announcements_of, delivered_of, in_flight, is_cut, most_deliveries, no_cuts, node_at, nodes_of, on_link, pending_of};
 
@@ -178,7 +175,7 @@ impl<E: RingElection> World<E> {
         requires inside { position < length self.old.charter.roster }
         requires front { slice_get (in_flight E.table self.old position side) 0 ≡ Some packet }
         requires last { is_last ≡ (length (on_link E.table self.old position side) == 1) }
-        requires proper { IsProper (E.fits self.old.charter.algorithm) (E.winner self.old.charter.algorithm) self.old.charter.roster (neighbour (length self.old.charter.roster) position side) (other side) (next_index (node_at self.old position) side packet) packet }
+        requires proper { IsComing E.fits E.winner (node_at self.old position) side packet }
         ensures journals { OnOk result (self.new ≡ after_receipt self.old position side packet) }
         ensures report { IfOk result (λ report. report ≡ told_of E.table (node_at self.old position) (node_at self.new position)) }
         ensures err { OnErr result (self.new ≡ self.old) }

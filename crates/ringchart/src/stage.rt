@@ -61,19 +61,19 @@ impl Stage {
         }
         match event {
             Event::Client(command) => self.obey(command, reply),
-            Event::Deliver(group, node, side) => match reply {
+            Event::Deliver { group, node, side } => match reply {
                 Reply::Moved => self.deliver(group, node, side),
                 _ => Ok(true),
             },
-            Event::Drain(group, _) => match reply {
+            Event::Drain { group, .. } => match reply {
                 Reply::Drained { done, .. } => self.drain(group, *done),
                 _ => Ok(true),
             },
-            Event::Cut(group, node, side) => match reply {
+            Event::Cut { group, node, side } => match reply {
                 Reply::Done => self.cut(group, node, side),
                 _ => Ok(true),
             },
-            Event::Pending(_) => Ok(true),
+            Event::Pending { .. } => Ok(true),
         }
     }
 

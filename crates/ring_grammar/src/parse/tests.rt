@@ -37,20 +37,36 @@ fn shown_command(alloc: Global, command: &Command<Any>) -> Result<String, AllocE
 fn shown(alloc: Global, event: &Event<Any>) -> Result<String, AllocError> {
     match event {
         Event::Client(command) => shown_command(alloc, command),
-        Event::Deliver(group, node, Side::Left) => {
+        Event::Deliver {
+            group,
+            node,
+            side: Side::Left,
+        } => {
             format!(in alloc; "deliver {} {} left", name(group), node.get())
         }
-        Event::Deliver(group, node, Side::Right) => {
+        Event::Deliver {
+            group,
+            node,
+            side: Side::Right,
+        } => {
             format!(in alloc; "deliver {} {} right", name(group), node.get())
         }
-        Event::Cut(group, node, Side::Left) => {
+        Event::Cut {
+            group,
+            node,
+            side: Side::Left,
+        } => {
             format!(in alloc; "cut {} {} left", name(group), node.get())
         }
-        Event::Cut(group, node, Side::Right) => {
+        Event::Cut {
+            group,
+            node,
+            side: Side::Right,
+        } => {
             format!(in alloc; "cut {} {} right", name(group), node.get())
         }
-        Event::Pending(group) => format!(in alloc; "pending {}", name(group)),
-        Event::Drain(group, count) => format!(in alloc; "drain {} {}", name(group), count),
+        Event::Pending { group } => format!(in alloc; "pending {}", name(group)),
+        Event::Drain { group, count } => format!(in alloc; "drain {} {}", name(group), count),
     }
 }
 
