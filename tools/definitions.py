@@ -1,8 +1,12 @@
 """Which definitions of specs/ a reader of the public contracts meets.
 
 A definition is an `abbrev`, a `record` or a `data` of crates/*/specs. It is met where a clause of a public function
-names it, or a ghost member or an invariant of a public type or trait, or a definition that is met itself. A lemma
-is none: what it says stands in the trait's member that it is given for, and how it is proved no reader needs.
+names it, or a ghost member of a public trait or the view of a public type, or a definition that is met itself. What
+a type keeps, its invariant, is its private word. A lemma is none: what it says stands in the trait's member that it
+is given for, and how it is proved no reader needs.
+
+What is met stands in specs itself; below it, laws has the proofs of laws that are given for a trait's members, with
+their words, and private the words of inner functions and of what types keep.
 """
 
 import collections
@@ -10,11 +14,12 @@ import re
 
 NAME = r"[A-Za-z_][\w'-]*"
 WORD = re.compile(NAME)
-USE = re.compile(r"^\s*(?:pub )?(?:ghost )?use Rattle\.(\w+)\.specs\.(\w+)\.\{(.*?)\}", re.M | re.S)
-DECLARED = re.compile(rf"(abbrev )?(?:pub )?(record |data )?(?:pub )?({NAME})(?=\s|$)")
+USE = re.compile(r"^\s*(?:pub )?(?:ghost )?use Rattle\.(\w+)\.specs\.((?:\w+\.)*\w+)\.\{(.*?)\}", re.M | re.S)
+DECLARED = re.compile(rf"(abbrev |unfoldable )?(?:pub )?(record |data )?(?:pub )?({NAME})(?=\s|$)")
 EXPORT = re.compile(r"^pub use (?:\w+::)+(?:\{(.*?)\}|(\w+));", re.M | re.S)
 IMPL = re.compile(r"^impl(?:<.*?>+)? (?:.* for )?(?:&(?:mut )?)?(?:\w+::)*(\w+)")
 ITEM = re.compile(r"^(pub )?(?:const |unsafe )*(?:struct|enum|trait|type|fn) (\w+)")
+INVARIANT = re.compile(r"^ +ghost invariant = \{.*?\};\n", re.M | re.S)
 FN = re.compile(r"^(\s*)(pub |pub\(crate\) )?(?:const |unsafe )*fn \w+")
 
 # Where a definition stands: its crate, its file, its name.
@@ -69,8 +74,9 @@ class Specs:
 
     def __init__(self, top):
         self.top, self.declared, self.imports, self.constructed = top, {}, {}, {}
-        for path in sorted(top.glob("crates/*/specs/*.antt")):
-            file = (path.parts[-3], path.stem)
+        for path in sorted(top.glob("crates/*/specs/**/*.antt")):
+            crate, _, *inner = path.relative_to(top / "crates").with_suffix("").parts
+            file = (crate, ".".join(inner))
             text = path.read_text(encoding="utf-8")
             self.imports[file] = uses(text)
             for name, one in declarations(text).items():
@@ -106,6 +112,17 @@ class Specs:
             open_ones += self.named(WORD.findall(self.declared[place].text), self.imports[file], file)
         return found
 
+    def misplaced(self, met):
+        """What stands in another folder than its own: what is met belongs in specs itself, all else below it."""
+        found = []
+        for place, one in sorted(self.declared.items()):
+            inner = "." in place.file
+            if inner and place in met:
+                found.append((place, "public contracts lead to it"))
+            elif not inner and place not in met:
+                found.append((place, "no public contract leads to it" if one.kind else "it is a lemma"))
+        return found
+
     def met_by_crate(self):
         """The definitions that each crate's public contracts lead to, by the crates' names."""
         crates = sorted(path for path in (self.top / "crates").iterdir() if (path / "src").is_dir())
@@ -135,10 +152,10 @@ def subject(line):
 def public_text(text, names):
     """The public part of a source: the headers of its public functions, and all else of its public types and traits.
 
-    It rests on rt fmt's layout. Tests are left out, and so are bodies.
+    It rests on rt fmt's layout. Tests are left out, and so are bodies and invariants.
     """
     kept, public, inherent, testing, header, shown, depth, end = [], False, False, False, False, False, 0, None
-    for line in text.splitlines():
+    for line in INVARIANT.sub("", text).splitlines():
         bare = line.strip()
         if end is not None:
             end = None if line == end else end
