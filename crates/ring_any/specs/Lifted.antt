@@ -8,7 +8,7 @@ use Rattle.ring_id.specs.Sides.{other}
 use Rattle.ring_roster.specs.Ring.{neighbour}
 use Rattle.ring_election.specs.Tables.{Table, to_side}
 use Rattle.ring_election.specs.Traces.{sent_after, state_after, taken_from}
-use Rattle.ring_election.specs.Families.{FamilyFits, Fits, IsComplete, IsSound, taken_in_all}
+use Rattle.ring_election.specs.Families.{FamilyFits, Fitting, IsComplete, IsSound, taken_in_all}
 use Rattle.ring_election.specs.Laws.{Bounded, Deciding, Lawful}
 use Rattle.ring_any.specs.Lowered.{OwnMessages, fit-lowered, length-lowered, lowered, own-fit, sent_after-lift_table, some_and, state_from-lift_table, taken_from-lowered, to_side-put_sends}
 use Rattle.ring_any.specs.Variants.{Variant, lift_fits, lift_table, of_both, put_sends}
@@ -66,7 +66,7 @@ module _ {WS S WM M : Type 0} (states : Variant WS S) (messages : Variant WM M) 
         | Some v ↦ rw (states.of_put (t.next s side v)) (stays v before)
       ])
 
-  module _ (fits : Fits M) where
+  module _ (fits : Fitting M) where
     -- what fits on the variant fits on the sum
     fits-put : (ring : List ℕ) (i : ℕ) (side : Side) (k : ℕ) (m : WM) (v : M) → m ≡ messages.put v → fits ring i side k v → lift_fits messages fits ring i side k m
     fits-put ring i side k m v is fit = rw (is, messages.of_put v) fit

@@ -11,7 +11,7 @@ use Rattle.ring_roster.specs.Ring.{neighbour}
 use Rattle.ring_election.specs.declared.sends.Sends.{Sends}
 use Rattle.ring_election.specs.Tables.{Table, nothing, to_side}
 use Rattle.ring_election.specs.Traces.{listed, sent_after, sent_from, state_from, taken_from}
-use Rattle.ring_election.specs.Families.{AllFit, Fits}
+use Rattle.ring_election.specs.Families.{AllFit, Fitting}
 use Rattle.ring_election.proofs.Members.{IsIn, in_first, in_rest}
 use Rattle.ring_any.specs.Variants.{Variant, lift_fits, lift_table, of_both, put_sends}
 
@@ -112,7 +112,7 @@ module _ {WM M : Type 0} (messages : Variant WM M) where
       rw first.1 (ap suc (length-lowered rs (own_rest r rs own)))
 
   -- what fits on the sum is the variant's own
-  pub own-fit : (fits : Fits M) (ring : List ℕ) (i : ℕ) (rs : List (Side × WM)) → AllFit (lift_fits messages fits) ring i rs → OwnMessages messages rs
+  pub own-fit : (fits : Fitting M) (ring : List ℕ) (i : ℕ) (rs : List (Side × WM)) → AllFit (lift_fits messages fits) ring i rs → OwnMessages messages rs
   own-fit fits ring i rs all = record {
     each = λ side m there.
         let found = some_and (messages.of m) (fits ring (neighbour (length ring) i side) (other side) there.place) (all.each side there.place m there.there) in
@@ -120,7 +120,7 @@ module _ {WM M : Type 0} (messages : Variant WM M) where
   }
 
   -- and fits on the variant
-  pub fit-lowered : (fits : Fits M) (ring : List ℕ) (i : ℕ) (rs : List (Side × WM)) → AllFit (lift_fits messages fits) ring i rs → AllFit fits ring i (lowered messages rs)
+  pub fit-lowered : (fits : Fitting M) (ring : List ℕ) (i : ℕ) (rs : List (Side × WM)) → AllFit (lift_fits messages fits) ring i rs → AllFit fits ring i (lowered messages rs)
   fit-lowered fits ring i rs all = record {
     each = λ side k v taken.
         let on_sum : slice_get (taken_from side rs) k ≡ Some (messages.put v) =

@@ -3,7 +3,7 @@ use Rattle.std.specs.Prelude.{◌≡◌, ℕ, List, Option, Some, None, IsSomeAn
 use Rattle.ring_id.specs.declared.side.Side.{Side}
 use Rattle.ring_election.specs.declared.sends.Sends.{Sends}
 use Rattle.ring_election.specs.Tables.{Table, nothing}
-use Rattle.ring_election.specs.Families.{Fits}
+use Rattle.ring_election.specs.Families.{Fitting}
 
 -- a variant of a sum: how its values are put into the sum, and which values of the sum are its own
 pub record Variant (Whole Part : Type 0) : Type 0 where
@@ -36,5 +36,5 @@ lift_table {WS} {S} {WM} {M} states messages t = record {
 }
 
 -- a message of another variant fits no link
-abbrev pub lift_fits : {WM M : Type 0} → Variant WM M → Fits M → List ℕ → ℕ → Side → ℕ → WM → Type 0
+abbrev pub lift_fits : {WM M : Type 0} → Variant WM M → Fitting M → List ℕ → ℕ → Side → ℕ → WM → Type 0
 lift_fits messages fits ring i side k m = IsSomeAnd (messages.of m) (fits ring i side k)

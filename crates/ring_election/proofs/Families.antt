@@ -48,7 +48,7 @@ length-taken {M} (r ∷ rs) =
     [ Left ↦ omega arith | Right ↦ omega arith ]
 
 -- where nothing fits on a left link, a position whose receipts fit has taken nothing from the right
-pub taken-none_from_right : {M : Type 0} (fits : Fits M) (ring : List ℕ) (i : ℕ) (receipts : List (Side × M)) → AllFit fits ring i receipts
+pub taken-none_from_right : {M : Type 0} (fits : Fitting M) (ring : List ℕ) (i : ℕ) (receipts : List (Side × M)) → AllFit fits ring i receipts
     → ((j k : ℕ) (m : M) → fits ring j Left k m → ⊥)
     → taken_from Right receipts ≡ []
 taken-none_from_right {M} fits ring i receipts all none = at (taken_from Right receipts) refl

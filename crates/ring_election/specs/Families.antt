@@ -9,15 +9,15 @@ use Rattle.ring_election.specs.Traces.{sent_after, state_after, taken_from}
 
 -- which messages belong on the links of a ring: the ring, the position of the sender and the side to which it sends,
 -- the message's index on that link, from 0 on, and the message
-abbrev pub Fits : Type 0 → Type 1
-Fits M = List ℕ → ℕ → Side → ℕ → M → Type 0
+abbrev pub Fitting : Type 0 → Type 1
+Fitting M = List ℕ → ℕ → Side → ℕ → M → Type 0
 
 -- each message that position i took fits as the k-th of its link, where it is the k-th from there
-pub record AllFit {M : Type 0} (fits : Fits M) (ring : List ℕ) (i : ℕ) (receipts : List (Side × M)) : Type 0 where
+pub record AllFit {M : Type 0} (fits : Fitting M) (ring : List ℕ) (i : ℕ) (receipts : List (Side × M)) : Type 0 where
   pub each : (side : Side) (k : ℕ) (m : M) → slice_get (taken_from side receipts) k ≡ Some m → fits ring (neighbour (length ring) i side) (other side) k m
 
 -- a family that fits: all that every position took does
-pub record FamilyFits {M : Type 0} (fits : Fits M) (ring : List ℕ) (family : ℕ → List (Side × M)) : Type 0 where
+pub record FamilyFits {M : Type 0} (fits : Fitting M) (ring : List ℕ) (family : ℕ → List (Side × M)) : Type 0 where
   pub at : (i : ℕ) → i < length ring → AllFit fits ring i (family i)
 
 -- a sound family: what each position took from each side is a first part of what its neighbour

@@ -5,11 +5,11 @@ use Rattle.ring_id.specs.declared.side.Side.TheVariants.{Left}
 use Rattle.ring_roster.specs.Ring.{IsRing}
 use Rattle.ring_election.specs.Tables.{Table, to_side}
 use Rattle.ring_election.specs.Traces.{sent_after, state_after}
-use Rattle.ring_election.specs.Families.{AllFit, FamilyFits, Fits, HasDecided, IsComplete, IsSound, taken_in_all}
+use Rattle.ring_election.specs.Families.{AllFit, FamilyFits, Fitting, HasDecided, IsComplete, IsSound, taken_in_all}
 
 -- The laws that keep a leader unique (Lynch, Distributed Algorithms, 3.1: at most one process
 -- outputs that it is the leader). They speak of one position and the list of its receipts.
-pub record Lawful {S M : Type 0} (two_way greatest : Bool) (t : Table S M) (fits : Fits M) (winner : List ℕ → ℕ) : Type 0 where
+pub record Lawful {S M : Type 0} (two_way greatest : Bool) (t : Table S M) (fits : Fitting M) (winner : List ℕ → ℕ) : Type 0 where
   -- a node that starts has decided nothing
   pub start_undecided : (me : ℕ) → t.decided (t.first me) ≡ None
   -- a decision once made stays
@@ -33,10 +33,10 @@ pub record Lawful {S M : Type 0} (two_way greatest : Bool) (t : Table S M) (fits
 
 -- Where all that was sent was taken, the ring is decided (Lynch, Distributed Algorithms, 3.1: some
 -- process eventually outputs that it is the leader), said without time.
-pub record Deciding {S M : Type 0} (t : Table S M) (fits : Fits M) : Type 0 where
+pub record Deciding {S M : Type 0} (t : Table S M) (fits : Fitting M) : Type 0 where
   pub complete_decides : (ring : List ℕ) (family : ℕ → List (Side × M)) → IsRing ring → FamilyFits fits ring family → IsComplete t ring family → HasDecided t ring family
 
 -- The work of an election is bounded (Lynch, Distributed Algorithms, 2.6: communication complexity).
-pub record Bounded {S M : Type 0} (t : Table S M) (fits : Fits M) (bound : ℕ → ℕ) : Type 0 where
+pub record Bounded {S M : Type 0} (t : Table S M) (fits : Fitting M) (bound : ℕ → ℕ) : Type 0 where
   pub work_is_bounded : (ring : List ℕ) (family : ℕ → List (Side × M)) → IsRing ring → FamilyFits fits ring family → IsSound t ring family →
       taken_in_all (length ring) family ≤ bound (length ring)

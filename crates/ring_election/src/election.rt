@@ -13,7 +13,7 @@ use std::alloc::Global;
 pub trait RingElection: Copy + Eq {
     ghost use Rattle.std.specs.Prelude.{ℕ, Bool, List, true};
     ghost use Rattle.ring_election.specs.Tables.{Table};
-    ghost use Rattle.ring_election.specs.Families.{Fits};
+    ghost use Rattle.ring_election.specs.Families.{Fitting};
     ghost use Rattle.ring_election.specs.Laws.{Bounded, Deciding, Lawful};
 
     /// What nodes send one another.
@@ -32,7 +32,7 @@ pub trait RingElection: Copy + Eq {
     ghost table: { Self → Table Self.State Self.Msg };
 
     // which message may be the k-th of a link of a ring
-    ghost fits: { Self → Fits Self.Msg };
+    ghost fits: { Self → Fitting Self.Msg };
 
     // who wins a ring
     ghost winner: { Self → List ℕ → ℕ };

@@ -6,7 +6,7 @@ use Rattle.std.proofs.lemmas.Map.Steps.{set_value_same}
 use Rattle.ring_id.specs.declared.refusal.Refusal.{Refusal}
 use Rattle.ring_id.specs.declared.side.Side.{Side}
 use Rattle.ring_election.specs.Tables.{Table}
-use Rattle.ring_election.specs.Families.{Fits}
+use Rattle.ring_election.specs.Families.{Fitting}
 use Rattle.ring_world.specs.Worlds.{Cuts, IsSoundWorld, Running, after_cut}
 use Rattle.ring_terms.specs.Object.{Object}
 use Rattle.ring_mux.specs.Journeys.{with_world}
@@ -14,7 +14,7 @@ use Rattle.ring_mux.specs.Views.{IsHeld, IsSoundHeld, world_in}
 use Rattle.ring_mux.proofs.Carrying.{held_silent}
 use Rattle.ring_mux.proofs.Keeping.{sound_written}
 
-module _ {E S M : Type 0} (t : E → Table S M) (fits : E → Fits M) (winner : E → List ℕ → ℕ) (object : Object E) (worlds : List (List ℕ × Running E M)) (kept : IsSoundHeld t fits winner object worlds)
+module _ {E S M : Type 0} (t : E → Table S M) (fits : E → Fitting M) (winner : E → List ℕ → ℕ) (object : Object E) (worlds : List (List ℕ × Running E M)) (kept : IsSoundHeld t fits winner object worlds)
     (name : List ℕ) (world : Running E M) (found : world_in name worlds ≡ Some world) (i : ℕ) (side : Side) where
   held_cut : (two_way : Bool) (answer : Result (Unit {0}) Refusal) (after : Running E M) → Cuts two_way world i side answer after → IsHeld t object (with_world name after worlds)
   held_cut two_way (Ok done) after cuts = rw (cuts.1) (held_silent t object worlds kept.held name world found (after_cut world i side) refl (λ j. refl))

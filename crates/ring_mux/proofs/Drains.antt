@@ -10,7 +10,7 @@ use Rattle.ring_id.specs.Identity.{number_of}
 use Rattle.ring_id.specs.Refusals.{unless_some}
 use Rattle.ring_roster.specs.Ring.{IsRing}
 use Rattle.ring_election.specs.Tables.{Table}
-use Rattle.ring_election.specs.Families.{Fits}
+use Rattle.ring_election.specs.Families.{Fitting}
 use Rattle.ring_node.specs.declared.charter.Charter.{Charter}
 use Rattle.ring_world.specs.Quiet.{IsQuiet}
 use Rattle.ring_world.specs.Worlds.{IsFirstLink, IsReady, Running, in_flight, pending_below, pending_of, size_of}
@@ -134,7 +134,7 @@ module _ {E S M : Type 0} (t : E → Table S M) (object : Object E) (worlds : Li
         )
 
 -- what so many deliveries of a drain have done, wherever the world stands among the worlds of a mux
-pub record HasDrained {E S M : Type 0} (t : E → Table S M) (fits : E → Fits M) (winner : E → List ℕ → ℕ) (greatest : E → Bool) (name : List ℕ) (n : ℕ)
+pub record HasDrained {E S M : Type 0} (t : E → Table S M) (fits : E → Fitting M) (winner : E → List ℕ → ℕ) (greatest : E → Bool) (name : List ℕ) (n : ℕ)
     (object : Object E) (worlds : List (List ℕ × Running E M)) (object' : Object E) (world' : Running E M) : Type 0 where
   pub moves : InGroup name (MovesTimes greatest n) object object'
   pub made : CarriesTimes t greatest name n (record { object = object; worlds = worlds }) (record { object = object'; worlds = with_world name world' worlds })
@@ -142,12 +142,12 @@ pub record HasDrained {E S M : Type 0} (t : E → Table S M) (fits : E → Fits 
   pub found : world_in name (with_world name world' worlds) ≡ Some world'
   pub kept : IsSoundHeld t fits winner object' (with_world name world' worlds)
 
-abbrev pub HasDrainedAmong : {E S M : Type 0} (t : E → Table S M) (fits : E → Fits M) (winner : E → List ℕ → ℕ) (greatest : E → Bool) (n : ℕ) (object : Object E) (world : Running E M) (object' : Object E) (world' : Running E M) → Type 0
+abbrev pub HasDrainedAmong : {E S M : Type 0} (t : E → Table S M) (fits : E → Fitting M) (winner : E → List ℕ → ℕ) (greatest : E → Bool) (n : ℕ) (object : Object E) (world : Running E M) (object' : Object E) (world' : Running E M) → Type 0
 HasDrainedAmong {E} {S} {M} t fits winner greatest n object world object' world' =
     (name : List ℕ) (worlds : List (List ℕ × Running E M)) → IsSoundHeld t fits winner object worlds → world_in name worlds ≡ Some world → OfGroup name (λ g. running_refusal g ≡ None) object
     → HasDrained t fits winner greatest name n object worlds object' world'
 
-module _ {E S M : Type 0} (t : E → Table S M) (fits : E → Fits M) (winner : E → List ℕ → ℕ) (greatest : E → Bool) where
+module _ {E S M : Type 0} (t : E → Table S M) (fits : E → Fitting M) (winner : E → List ℕ → ℕ) (greatest : E → Bool) where
   -- none have done nothing
   pub none_drained : (object : Object E) (world : Running E M) → HasDrainedAmong t fits winner greatest 0 object world object world
   none_drained object world = λ name worlds kept found runs.

@@ -6,7 +6,7 @@ use Rattle.std.specs.Map.{set_value}
 use Rattle.ring_id.specs.declared.side.Side.{Side}
 use Rattle.ring_election.specs.Laws.{Deciding}
 use Rattle.ring_election.specs.Tables.{Table}
-use Rattle.ring_election.specs.Families.{Fits}
+use Rattle.ring_election.specs.Families.{Fitting}
 use Rattle.ring_world.specs.Quiet.{AllKnow}
 use Rattle.ring_world.specs.Worlds.{IsSoundWorld, Running, pending_of, size_of}
 use Rattle.ring_world.proofs.Quiet.{emptied_knows, none_pending_emptied, quiet_knows}
@@ -18,7 +18,7 @@ use Rattle.ring_mux.specs.Views.{AreSound, IsSoundHeld, IsWorldOf, world_in}
 use Rattle.ring_mux.proofs.Carrying.{looked_up, running_ring}
 use Rattle.ring_mux.proofs.Drains.{the_term}
 
-module _ {E S M : Type 0} (t : E → Table S M) (fits : E → Fits M) (winner : E → List ℕ → ℕ) where
+module _ {E S M : Type 0} (t : E → Table S M) (fits : E → Fitting M) (winner : E → List ℕ → ℕ) where
   -- worlds stay sound where a sound one is put under a name and the others stay
   pub sound_updated : (name : List ℕ) (worlds after : List (List ℕ × Running E M)) (world : Running E M) → AreSound t fits winner worlds → IsSoundWorld t fits winner world
       → ((other : List ℕ) → world_in other after ≡ cond (bytes_eq name other) (Some world) (world_in other worlds))

@@ -5,7 +5,7 @@ use Rattle.std.proofs.lemmas.List.{length_push}
 use Rattle.ring_id.specs.declared.side.Side.{Side}
 use Rattle.ring_election.specs.Laws.{Bounded}
 use Rattle.ring_election.specs.Tables.{Table}
-use Rattle.ring_election.specs.Families.{Fits}
+use Rattle.ring_election.specs.Families.{Fitting}
 use Rattle.ring_node.specs.declared.packet.Packet.{Packet}
 use Rattle.ring_world.specs.Worlds.{Running, delivered_of, most_deliveries, receipts_in, size_of}
 use Rattle.ring_world.proofs.Work.{work_bounded}
@@ -56,7 +56,7 @@ module _ {E S M : Type 0} (t : E → Table S M) (name : List ℕ) where
       }
 
   -- a drain that isn't starved and is of more than the bound allows leaves nothing that can move
-  pub leaves_quiet : (fits : E → Fits M) (winner : E → List ℕ → ℕ) (bound : E → ℕ → ℕ) → ((a : E) → Bounded (t a) (fits a) (bound a)) → (greatest : E → Bool) (count done left : ℕ) (starved : Bool) (old new : Held E M)
+  pub leaves_quiet : (fits : E → Fitting M) (winner : E → List ℕ → ℕ) (bound : E → ℕ → ℕ) → ((a : E) → Bounded (t a) (fits a) (bound a)) → (greatest : E → Bool) (count done left : ℕ) (starved : Bool) (old new : Held E M)
       → AreSound t fits winner old.worlds
       → AreSound t fits winner new.worlds
       → Makes t greatest name count done starved old new

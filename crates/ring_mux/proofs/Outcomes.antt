@@ -7,7 +7,7 @@ use Rattle.std.proofs.lemmas.Map.Steps.{set_value_same}
 use Rattle.ring_id.specs.declared.side.Side.{Side}
 use Rattle.ring_roster.specs.Ring.{IsRing, position_of}
 use Rattle.ring_election.specs.Tables.{Table}
-use Rattle.ring_election.specs.Families.{Fits}
+use Rattle.ring_election.specs.Families.{Fitting}
 use Rattle.ring_node.specs.Nodes.{told_of}
 use Rattle.ring_node.specs.Reports.{Told}
 use Rattle.ring_node.specs.declared.charter.Charter.{Charter}
@@ -39,7 +39,7 @@ module _ {E S M : Type 0} (t : E → Table S M) (object : Object E) (worlds : Li
   pub view_stays : after ≡ world → (let now : Held E M = record { object = object; worlds = worlds' } in now ≡ record { object = object; worlds = worlds })
   view_stays same = ap (λ (l : List (List ℕ × Running E M)). record { object = object; worlds = l }) (stays same)
 
-  module _ (fits : E → Fits M) (winner : E → List ℕ → ℕ) (sound : IsSoundWorld t fits winner after) (report : Option (Told E)) (moved : HasMoved t world i side report after) where
+  module _ (fits : E → Fitting M) (winner : E → List ℕ → ℕ) (sound : IsSoundWorld t fits winner after) (report : Option (Told E)) (moved : HasMoved t world i side report after) where
     -- the receiver has a journal
     within : i < length world.journals
     within =

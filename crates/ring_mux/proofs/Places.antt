@@ -22,7 +22,7 @@ use Rattle.ring_id.specs.declared.side.Side.{Side}
 use Rattle.ring_id.specs.Identity.{number_of}
 use Rattle.ring_roster.specs.Ring.{IsRing}
 use Rattle.ring_election.specs.Tables.{Table}
-use Rattle.ring_election.specs.Families.{Fits}
+use Rattle.ring_election.specs.Families.{Fitting}
 use Rattle.ring_world.specs.Worlds.{IsSoundWorld, Running}
 use Rattle.ring_mux.specs.Journeys.{HasCarried, begun_of, with_world}
 use Rattle.ring_mux.specs.Steps.{MovesOf}
@@ -232,7 +232,7 @@ module _ {E M : Type 0} (object object' : Object E) (same : names object' ≡ na
   view_written = ap (λ ns. placed ns (slice_set slots place (Some world'))) same ∙ written_at name place (names object) slots world world' at there
 
   -- and what is kept of the worlds is kept of their places
-  pub kept_written : {S : Type 0} (t : E → Table S M) (fits : E → Fits M) (winner : E → List ℕ → ℕ) → length slots ≤ length (names object) →
+  pub kept_written : {S : Type 0} (t : E → Table S M) (fits : E → Fitting M) (winner : E → List ℕ → ℕ) → length slots ≤ length (names object) →
       IsSoundHeld t fits winner object' (with_world name world' (placed (names object) slots)) → IsKeptAt t fits winner object' (slice_set slots place (Some world'))
   kept_written t fits winner few kept = record {
     held = rw view_written kept;
@@ -267,7 +267,7 @@ module _ {X : Type 0} (place : ℕ) (slots grown : List (Option X)) (growth : Ha
       lookup (bytes_eq other) (placed ns (slice_set grown place (Some x))) ≡ cond (bytes_eq name other) (Some x) (lookup (bytes_eq other) (placed ns slots))
   put_seen ns name x at other = put_at name place ns grown x at growth.inside other ∙ ap (λ l. cond (bytes_eq name other) (Some x) (lookup (bytes_eq other) l)) (growth_seen ns)
 
-module _ {E S M : Type 0} (t : E → Table S M) (fits : E → Fits M) (winner : E → List ℕ → ℕ) (object : Object E) (slots grown : List (Option (Running E M))) (kept : IsKeptAt t fits winner object slots)
+module _ {E S M : Type 0} (t : E → Table S M) (fits : E → Fitting M) (winner : E → List ℕ → ℕ) (object : Object E) (slots grown : List (Option (Running E M))) (kept : IsKeptAt t fits winner object slots)
     (name : List ℕ) (place : ℕ) (at : IsAt name place (names object)) (growth : HasGrown place slots grown) where
   -- what is kept stays where the list has grown
   pub kept_grown : IsKeptAt t fits winner object grown
@@ -326,6 +326,6 @@ module _ {E M : Type 0} (object after : Object E) (slots : List (Option (Running
       record { seen = ap (λ (o : Object E). placed (names o) slots) same; few = let long = ap (λ (o : Object E). length (names o)) same in omega (arith, long, few) }
 
 -- what is kept stays where the same worlds are seen
-pub kept_sees : {E S M : Type 0} (t : E → Table S M) (fits : E → Fits M) (winner : E → List ℕ → ℕ) (object after : Object E) (slots : List (Option (Running E M))) → IsKeptAt t fits winner object slots →
+pub kept_sees : {E S M : Type 0} (t : E → Table S M) (fits : E → Fitting M) (winner : E → List ℕ → ℕ) (object after : Object E) (slots : List (Option (Running E M))) → IsKeptAt t fits winner object slots →
     SeesSame object after slots → IsHeld t after (placed (names object) slots) → IsKeptAt t fits winner after slots
 kept_sees t fits winner object after slots keeps sees held = record { held = rw sees.seen (record { held = held; sound = keeps.held.sound }); few = sees.few }

@@ -6,7 +6,7 @@ use Rattle.ring_id.specs.declared.side.Side.{Side}
 use Rattle.ring_id.specs.Refusals.{IsRefusal}
 use Rattle.ring_roster.specs.Ring.{position_of}
 use Rattle.ring_election.specs.Tables.{Table}
-use Rattle.ring_election.specs.Families.{Fits}
+use Rattle.ring_election.specs.Families.{Fitting}
 use Rattle.ring_node.specs.declared.charter.Charter.{Charter}
 use Rattle.ring_node.specs.Reports.{Told}
 use Rattle.ring_world.specs.Quiet.{IsQuiet}
@@ -55,7 +55,7 @@ Carries t two_way greatest name i side world old (Refused refusal) new =
 
 -- The same, wherever that world stands among the worlds of a mux: under whatever name it is the world
 -- of a group, and the position a seat of it.
-abbrev pub CarriesAmong : {E S M : Type 0} → (E → Table S M) → (E → Fits M) → (E → List ℕ → ℕ) → (E → Bool) → (E → Bool) → ℕ → Side → Object E → Running E M → Carried → Object E → Running E M → Type 0
+abbrev pub CarriesAmong : {E S M : Type 0} → (E → Table S M) → (E → Fitting M) → (E → List ℕ → ℕ) → (E → Bool) → (E → Bool) → ℕ → Side → Object E → Running E M → Carried → Object E → Running E M → Type 0
 CarriesAmong {E} {S} {M} t fits winner two_way greatest i side object world done object' world' =
     (name : List ℕ) (worlds : List (List ℕ × Running E M)) → IsSoundHeld t fits winner object worlds → world_in name worlds ≡ Some world → IsSeat name i object
     → Carries t two_way greatest name i side world (record { object = object; worlds = worlds }) done (record { object = object'; worlds = with_world name world' worlds })
@@ -93,7 +93,7 @@ pub record Makes {E S M : Type 0} (t : E → Table S M) (greatest : E → Bool) 
   pub stopped : starved ≡ true → (done < count) × ((w : Running E M) → world_in name new.worlds ≡ Some w → CanMove t w)
 
 -- the same, wherever that world stands among the worlds of a mux
-abbrev pub MakesAmong : {E S M : Type 0} → (E → Table S M) → (E → Fits M) → (E → List ℕ → ℕ) → (E → Bool) → ℕ → Object E → Running E M → ℕ → Bool → Object E → Running E M → Type 0
+abbrev pub MakesAmong : {E S M : Type 0} → (E → Table S M) → (E → Fitting M) → (E → List ℕ → ℕ) → (E → Bool) → ℕ → Object E → Running E M → ℕ → Bool → Object E → Running E M → Type 0
 MakesAmong {E} {S} {M} t fits winner greatest count object world done starved object' world' =
     (name : List ℕ) (worlds : List (List ℕ × Running E M)) → IsSoundHeld t fits winner object worlds → world_in name worlds ≡ Some world → OfGroup name (λ group. running_refusal group ≡ None) object
     → Makes t greatest name count done starved (record { object = object; worlds = worlds }) (record { object = object'; worlds = with_world name world' worlds })

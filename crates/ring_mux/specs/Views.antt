@@ -5,7 +5,7 @@ use Rattle.std.specs.Str.{bytes_eq}
 use Rattle.ring_election.specs.Tables.{Table}
 use Rattle.ring_node.specs.Nodes.{known_of}
 use Rattle.ring_id.specs.declared.side.Side.{Side}
-use Rattle.ring_election.specs.Families.{Fits}
+use Rattle.ring_election.specs.Families.{Fitting}
 use Rattle.ring_world.specs.Worlds.{IsSoundWorld, Running, node_at, pending_of}
 use Rattle.ring_terms.specs.Object.{GroupView, Object, OfGroup, OfLast, TermView, find, last_term, names}
 use Rattle.ring_terms.specs.Charters.{running_charter}
@@ -45,16 +45,16 @@ pub record IsHeld {E S M : Type 0} (t : E → Table S M) (object : Object E) (wo
   pub each : (name : List ℕ) (group : GroupView E) (term : TermView) → find name object ≡ Some group → last_term group ≡ Some term → IsWorldOf t name group term worlds
 
 -- each world is sound: its journals are a sound family that fits, and what a node knows is the winner
-pub record AreSound {E S M : Type 0} (t : E → Table S M) (fits : E → Fits M) (winner : E → List ℕ → ℕ) (worlds : List (List ℕ × Running E M)) : Type 0 where
+pub record AreSound {E S M : Type 0} (t : E → Table S M) (fits : E → Fitting M) (winner : E → List ℕ → ℕ) (worlds : List (List ℕ × Running E M)) : Type 0 where
   pub each : (name : List ℕ) (world : Running E M) → world_in name worlds ≡ Some world → IsSoundWorld t fits winner world
 
 -- what a mux keeps, seen as the object and its worlds
-pub record IsSoundHeld {E S M : Type 0} (t : E → Table S M) (fits : E → Fits M) (winner : E → List ℕ → ℕ) (object : Object E) (worlds : List (List ℕ × Running E M)) : Type 0 where
+pub record IsSoundHeld {E S M : Type 0} (t : E → Table S M) (fits : E → Fitting M) (winner : E → List ℕ → ℕ) (object : Object E) (worlds : List (List ℕ × Running E M)) : Type 0 where
   pub held : IsHeld t object worlds
   pub sound : AreSound t fits winner worlds
 
 -- and of its list of worlds: they stand at places of groups
-pub record IsKeptAt {E S M : Type 0} (t : E → Table S M) (fits : E → Fits M) (winner : E → List ℕ → ℕ) (object : Object E) (slots : List (Option (Running E M))) : Type 0 where
+pub record IsKeptAt {E S M : Type 0} (t : E → Table S M) (fits : E → Fitting M) (winner : E → List ℕ → ℕ) (object : Object E) (slots : List (Option (Running E M))) : Type 0 where
   pub held : IsSoundHeld t fits winner object (placed (names object) slots)
   pub few : length slots ≤ length (names object)
 

@@ -5,7 +5,7 @@ use Rattle.ring_id.specs.declared.side.Side.{Side}
 use Rattle.ring_id.specs.declared.side.Side.TheVariants.{Left, Right}
 use Rattle.ring_id.specs.Sides.{other, same_side}
 use Rattle.ring_roster.specs.Ring.{neighbour}
-use Rattle.ring_election.specs.Families.{AllFit, Fits}
+use Rattle.ring_election.specs.Families.{AllFit, Fitting}
 use Rattle.ring_election.specs.Tables.{Table, to_side}
 use Rattle.ring_election.specs.Traces.{listed, sent_after, sent_from, state_after, state_from, taken_from}
 use Rattle.ring_node.specs.declared.packet.Packet.{Packet}
@@ -147,7 +147,7 @@ each_snoc P xs m each last k x h =
       | inr here ↦ rw (here.0, ← here.1) last
     ]
 
-module _ {M : Type 0} (fits : Fits M) (ring : List ℕ) (i : ℕ) (rs : List (Side × M)) (m : M) (all : AllFit fits ring i rs) where
+module _ {M : Type 0} (fits : Fitting M) (ring : List ℕ) (i : ℕ) (rs : List (Side × M)) (m : M) (all : AllFit fits ring i rs) where
   -- the place of a message in what was taken from a side, one receipt more
   placed : (side from : Side) → fits ring (neighbour (length ring) i from) (other from) (length (taken_from from rs)) m
       → (k : ℕ) (x : M) → slice_get (taken_from side rs ++ cond (same_side side from) (m ∷ []) []) k ≡ Some x → fits ring (neighbour (length ring) i side) (other side) k x

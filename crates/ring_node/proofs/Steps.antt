@@ -6,7 +6,7 @@ use Rattle.ring_id.specs.declared.side.Side.{Side}
 use Rattle.ring_id.specs.declared.side.Side.TheVariants.{Left, Right}
 use Rattle.ring_id.specs.Sides.{other}
 use Rattle.ring_roster.specs.Ring.{IsRing, neighbour}
-use Rattle.ring_election.specs.Families.{AllFit, Fits}
+use Rattle.ring_election.specs.Families.{AllFit, Fitting}
 use Rattle.ring_election.specs.Laws.{Lawful}
 use Rattle.ring_election.specs.Tables.{Table, to_side}
 use Rattle.ring_election.specs.Traces.{taken_from}
@@ -33,7 +33,7 @@ pub port_leaders : {M : Type 0} (to from : Side) (p : Packet M) (js : List (Side
 port_leaders to from p js = ap leader_count (taken_from-append to js ((from, p) ∷ [])) ∙ leader_count-append (taken_from to js) (taken_from to ((from, p) ∷ []))
 
 -- a node that has started has sent what its algorithm sends first
-pub seated_first : {S M : Type 0} (t : Table S M) (fits : Fits M) (winner : List ℕ → ℕ) (ring : List ℕ) (position me : ℕ)
+pub seated_first : {S M : Type 0} (t : Table S M) (fits : Fitting M) (winner : List ℕ → ℕ) (ring : List ℕ) (position me : ℕ)
     → IsRing ring
     → slice_get ring position ≡ Some me
     → (state : S) → state ≡ t.first me
@@ -60,7 +60,7 @@ truthful_news winner ring position me is_ring here None wins = tt
 truthful_news winner ring position me is_ring here (Some v) wins = record { is_ring = is_ring; inside = (position, here); wins = wins v refl }
 
 -- one of packets that can be sent can be sent
-pub sendable_at : {M : Type 0} (fits : Fits M) (winner : List ℕ → ℕ) (ring : List ℕ) (from : ℕ) (side : Side) (packets : List (Packet M)) (k : ℕ)
+pub sendable_at : {M : Type 0} (fits : Fitting M) (winner : List ℕ → ℕ) (ring : List ℕ) (from : ℕ) (side : Side) (packets : List (Packet M)) (k : ℕ)
     → AllSendable fits winner ring from side packets
     → (packet : Option (Packet M)) → packet ≡ slice_get packets k
     → IfSome packet (λ p. IsSendable fits winner ring from side (index_after (take k packets) p) p)
@@ -77,7 +77,7 @@ after_all : {A : Type 0} (xs : List A) (y : A) (ys : List A) → slice_get (xs +
 after_all [] y ys = refl
 after_all (x ∷ xs) y ys = after_all xs y ys
 
-module _ {S M : Type 0} {two_way greatest : Bool} (t : Table S M) (fits : Fits M) (winner : List ℕ → ℕ) (lawful : Lawful two_way greatest t fits winner)
+module _ {S M : Type 0} {two_way greatest : Bool} (t : Table S M) (fits : Fitting M) (winner : List ℕ → ℕ) (lawful : Lawful two_way greatest t fits winner)
     (ring : List ℕ) (position me : ℕ) (state : S) (js : List (Side × Packet M)) (left right : Port M) (known : Option ℕ)
     (old : IsSeated t fits winner ring position me state js left right known) (from : Side) where
   -- what the algorithm has taken still fits

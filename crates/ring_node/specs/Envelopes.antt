@@ -1,7 +1,7 @@
 -- Envelopes: a packet on its way, with the link that it goes over and its index there.
 use Rattle.std.specs.Prelude.{◌≡◌, ◌<◌, ℕ, List, Some, length, slice_get, take}
 use Rattle.ring_id.specs.declared.side.Side.{Side}
-use Rattle.ring_election.specs.Families.{Fits}
+use Rattle.ring_election.specs.Families.{Fitting}
 use Rattle.ring_node.specs.declared.charter.Charter.{Charter}
 use Rattle.ring_node.specs.declared.packet.Packet.{Packet}
 use Rattle.ring_node.specs.declared.packet.Packet.TheVariants.{Algo, Leader}
@@ -22,15 +22,15 @@ index_after earlier (Algo m) = algo_count earlier
 index_after earlier (Leader v) = 0
 
 -- a message of the algorithm fits its link at this index; an announcement names the winner
-abbrev pub IsProper : {M : Type 0} → Fits M → (List ℕ → ℕ) → List ℕ → ℕ → Side → ℕ → Packet M → Type 0
+abbrev pub IsProper : {M : Type 0} → Fitting M → (List ℕ → ℕ) → List ℕ → ℕ → Side → ℕ → Packet M → Type 0
 IsProper fits winner ring from side index (Algo m) = fits ring from side index m
 IsProper fits winner ring from side index (Leader v) = (v ≡ winner ring) × (index ≡ 0)
 
 -- the sender is on the ring, and its packet is proper
-pub record IsSendable {M : Type 0} (fits : Fits M) (winner : List ℕ → ℕ) (ring : List ℕ) (from : ℕ) (side : Side) (index : ℕ) (packet : Packet M) : Type 0 where
+pub record IsSendable {M : Type 0} (fits : Fitting M) (winner : List ℕ → ℕ) (ring : List ℕ) (from : ℕ) (side : Side) (index : ℕ) (packet : Packet M) : Type 0 where
   pub inside : from < length ring
   pub proper : IsProper fits winner ring from side index packet
 
 -- each of these packets, sent to a side by the node at a position, is so at its index
-pub record AllSendable {M : Type 0} (fits : Fits M) (winner : List ℕ → ℕ) (ring : List ℕ) (from : ℕ) (side : Side) (packets : List (Packet M)) : Type 0 where
+pub record AllSendable {M : Type 0} (fits : Fitting M) (winner : List ℕ → ℕ) (ring : List ℕ) (from : ℕ) (side : Side) (packets : List (Packet M)) : Type 0 where
   pub each : (k : ℕ) (p : Packet M) → slice_get packets k ≡ Some p → IsSendable fits winner ring from side (index_after (take k packets) p) p

@@ -4,7 +4,7 @@ use Rattle.std.specs.Prelude.{◌≡◌, ℕ, List, [], ◌∷◌, Option, Some,
 use Rattle.ring_id.specs.declared.side.Side.{Side}
 use Rattle.ring_id.specs.declared.side.Side.TheVariants.{Left, Right}
 use Rattle.ring_roster.specs.Ring.{IsRing}
-use Rattle.ring_election.specs.Families.{AllFit, Fits}
+use Rattle.ring_election.specs.Families.{AllFit, Fitting}
 use Rattle.ring_election.specs.Tables.{Table}
 use Rattle.ring_election.specs.Traces.{state_after, taken_from}
 use Rattle.ring_node.specs.declared.packet.Packet.{Packet}
@@ -24,7 +24,7 @@ AllName leader [] = Unit {0}
 AllName leader (Algo m ∷ ps) = AllName leader ps
 AllName leader (Leader v ∷ ps) = (v ≡ leader) × AllName leader ps
 
-pub record IsSeated {S M : Type 0} (t : Table S M) (fits : Fits M) (winner : List ℕ → ℕ)
+pub record IsSeated {S M : Type 0} (t : Table S M) (fits : Fitting M) (winner : List ℕ → ℕ)
     (ring : List ℕ) (position me : ℕ) (state : S) (journal : List (Side × Packet M)) (left right : Port M) (known : Option ℕ) : Type 0 where
   pub is_ring : IsRing ring
   pub here : slice_get ring position ≡ Some me

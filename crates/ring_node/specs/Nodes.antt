@@ -4,7 +4,7 @@ use Rattle.ring_id.specs.declared.side.Side.{Side}
 use Rattle.ring_id.specs.declared.side.Side.TheVariants.{Left, Right}
 use Rattle.ring_id.specs.Sides.{other}
 use Rattle.ring_roster.specs.Ring.{IsRing, neighbour}
-use Rattle.ring_election.specs.Families.{AllFit, Fits}
+use Rattle.ring_election.specs.Families.{AllFit, Fitting}
 use Rattle.ring_election.specs.Tables.{Table}
 use Rattle.ring_election.specs.Traces.{taken_from}
 use Rattle.ring_node.specs.declared.charter.Charter.{Charter}
@@ -39,7 +39,7 @@ abbrev pub next_index : {E M : Type 0} → Seated E M → Side → Packet M → 
 next_index node side packet = index_after (taken_of node side) packet
 
 -- the packet that comes next to a node from a side is proper on its link
-abbrev pub IsComing : {E M : Type 0} → (E → Fits M) → (E → List ℕ → ℕ) → Seated E M → Side → Packet M → Type 0
+abbrev pub IsComing : {E M : Type 0} → (E → Fitting M) → (E → List ℕ → ℕ) → Seated E M → Side → Packet M → Type 0
 IsComing fits winner node from packet =
     let c = node.charter in
     IsProper (fits c.algorithm) (winner c.algorithm) c.roster (neighbour (length c.roster) node.position from) (other from) (next_index node from packet) packet
@@ -72,7 +72,7 @@ module _ {E S M : Type 0} (t : E → Table S M) where
       (slice_get (sent_of node side) place)
 
   -- the packet that it sent to a side at that place may be sent there
-  abbrev pub IsSentWell : (E → Fits M) → (E → List ℕ → ℕ) → Seated E M → Side → ℕ → Packet M → Type 0
+  abbrev pub IsSentWell : (E → Fitting M) → (E → List ℕ → ℕ) → Seated E M → Side → ℕ → Packet M → Type 0
   IsSentWell fits winner node side place packet =
       let c = node.charter in
       IsSendable (fits c.algorithm) (winner c.algorithm) c.roster node.position side (index_after (take place (sent_of node side)) packet) packet
@@ -97,7 +97,7 @@ pub record HasSentFew {E S M : Type 0} (t : E → Table S M) (node : Seated E M)
   pub each : (side : Side) → length (sent_of t node side) ≤ 1
 
 -- all that a node took fits its ring, and the leader that it knows is the ring's winner
-pub record IsFaithful {E S M : Type 0} (t : E → Table S M) (fits : E → Fits M) (winner : E → List ℕ → ℕ) (node : Seated E M) : Type 0 where
+pub record IsFaithful {E S M : Type 0} (t : E → Table S M) (fits : E → Fitting M) (winner : E → List ℕ → ℕ) (node : Seated E M) : Type 0 where
   pub is_ring : IsRing node.charter.roster
   pub inside : node.position < length node.charter.roster
   pub fitting : AllFit (fits node.charter.algorithm) node.charter.roster node.position (algo_part node.journal)

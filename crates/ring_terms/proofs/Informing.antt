@@ -6,14 +6,14 @@ use Rattle.ring_id.specs.declared.side.Side.{Side}
 use Rattle.ring_roster.specs.Ring.{IsRing, position_of}
 use Rattle.ring_election.specs.Tables.{Table}
 use Rattle.ring_election.specs.Laws.{Lawful}
-use Rattle.ring_election.specs.Families.{Fits}
+use Rattle.ring_election.specs.Families.{Fitting}
 use Rattle.ring_terms.specs.Object.{TermView}
 use Rattle.ring_terms.specs.Kept.{IsTermKept}
 use Rattle.ring_terms.specs.Moves.{IsNamed, InformsIn, LeadsAfter, inform}
 use Rattle.ring_terms.specs.Standings.{IsInformedIn}
 
 -- the winner of a ring may be named
-pub winner_named : {S M : Type 0} {two_way greatest : Bool} {t : Table S M} {fits : Fits M} {winner : List ℕ → ℕ} → Lawful two_way greatest t fits winner → (ring : List ℕ) → IsRing ring → IsNamed greatest ring (winner ring)
+pub winner_named : {S M : Type 0} {two_way greatest : Bool} {t : Table S M} {fits : Fitting M} {winner : List ℕ → ℕ} → Lawful two_way greatest t fits winner → (ring : List ℕ) → IsRing ring → IsNamed greatest ring (winner ring)
 winner_named laws ring is_ring = record {
   inside = laws.winner_is_member ring is_ring;
   tops = λ promised i v there. laws.winner_is_greatest promised ring i v is_ring there;

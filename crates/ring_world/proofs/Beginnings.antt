@@ -6,7 +6,7 @@ use Rattle.ring_id.specs.declared.side.Side.{Side}
 use Rattle.ring_roster.specs.Ring.{IsRing}
 use Rattle.ring_election.specs.Tables.{Table}
 use Rattle.ring_election.specs.Traces.{taken_from}
-use Rattle.ring_election.specs.Families.{Fits}
+use Rattle.ring_election.specs.Families.{Fitting}
 use Rattle.ring_node.specs.declared.charter.Charter.{Charter}
 use Rattle.ring_node.specs.declared.packet.Packet.{Packet}
 use Rattle.ring_node.specs.Nodes.{IsFaithful, Seated}
@@ -34,7 +34,7 @@ started_more {E} {M} charter n node is =
 pub started_journals : {E M : Type 0} (charter : Charter E) (n : ℕ) (nodes : List (Seated E M)) → nodes ≡ nodes_from charter 0 (replicate n []) → journals_of nodes ≡ replicate n []
 started_journals charter n nodes are = ap journals_of are ∙ journals_of-nodes_from charter 0 (replicate n [])
 
-module _ {E S M : Type 0} (t : E → Table S M) (fits : E → Fits M) (winner : E → List ℕ → ℕ) (charter : Charter E) (is_ring : IsRing charter.roster)
+module _ {E S M : Type 0} (t : E → Table S M) (fits : E → Fitting M) (winner : E → List ℕ → ℕ) (charter : Charter E) (is_ring : IsRing charter.roster)
     (faithful : (i : ℕ) → i < length charter.roster → IsFaithful t fits winner (record { charter = charter; position = i; journal = [] })) (cut : List Bool) (each_link : length cut ≡ 2 * length charter.roster) where
   -- a world in which nothing was received is sound
   started_sound : IsSoundWorld t fits winner (record { charter = charter; journals = replicate (length charter.roster) []; cut = cut })

@@ -7,7 +7,7 @@ use Rattle.std.proofs.lemmas.Bool.Decides.{nat_tests}
 use Rattle.ring_id.specs.declared.side.Side.{Side}
 use Rattle.ring_id.specs.declared.side.Side.TheVariants.{Left, Right}
 use Rattle.ring_election.specs.Tables.{Table}
-use Rattle.ring_election.specs.Families.{Fits}
+use Rattle.ring_election.specs.Families.{Fitting}
 use Rattle.ring_node.specs.declared.charter.Charter.{Charter}
 use Rattle.ring_node.specs.Nodes.{Seated}
 use Rattle.ring_world.specs.LinkSets.{bit_of, bits_from}
@@ -167,7 +167,7 @@ module _ {E S M : Type 0} (t : E → Table S M) (world : Running E M) (i : ℕ) 
       omega (arith, cut_pending n, left, right)
 
   -- it is as sound as before
-  pub cut_sound : (fits : E → Fits M) (winner : E → List ℕ → ℕ) → IsSoundWorld t fits winner world → IsSoundWorld t fits winner (after_cut world i side)
+  pub cut_sound : (fits : E → Fitting M) (winner : E → List ℕ → ℕ) → IsSoundWorld t fits winner world → IsSoundWorld t fits winner (after_cut world i side)
   cut_sound fits winner sound = record {
     is_ring = sound.is_ring;
     count = sound.count;
@@ -177,7 +177,7 @@ module _ {E S M : Type 0} (t : E → Table S M) (world : Running E M) (i : ℕ) 
   }
 
 -- the nodes of a world are those of the world after a cut
-pub world_cut : {E S M : Type 0} (t : E → Table S M) (fits : E → Fits M) (winner : E → List ℕ → ℕ) (charter : Charter E) (nodes : List (Seated E M)) (cut : List Bool) (i : ℕ) (side : Side)
+pub world_cut : {E S M : Type 0} (t : E → Table S M) (fits : E → Fitting M) (winner : E → List ℕ → ℕ) (charter : Charter E) (nodes : List (Seated E M)) (cut : List Bool) (i : ℕ) (side : Side)
     → IsWorld t fits winner charter nodes cut → IsWorld t fits winner charter nodes (slice_set cut (link_place i side) true)
 world_cut t fits winner charter nodes cut i side world = record {
   nodes_are = world.nodes_are;

@@ -8,7 +8,7 @@ use Rattle.ring_id.specs.declared.side.Side.TheVariants.{Left, Right}
 use Rattle.ring_id.specs.Sides.{other, same_side}
 use Rattle.ring_roster.specs.Ring.{neighbour}
 use Rattle.ring_election.specs.Tables.{Table}
-use Rattle.ring_election.specs.Families.{Fits}
+use Rattle.ring_election.specs.Families.{Fitting}
 use Rattle.ring_node.specs.declared.charter.Charter.{Charter}
 use Rattle.ring_node.specs.declared.packet.Packet.{Packet}
 use Rattle.ring_node.specs.Journals.{news}
@@ -117,7 +117,7 @@ module _ {E S M : Type 0} (t : E → Table S M) (world : Running E M) (i : ℕ) 
   }
 
   -- The world after a delivery is sound, if the receiver is faithful.
-  pub sound_after : (fits : E → Fits M) (winner : E → List ℕ → ℕ) → IsSoundWorld t fits winner world
+  pub sound_after : (fits : E → Fitting M) (winner : E → List ℕ → ℕ) → IsSoundWorld t fits winner world
       → slice_get (on_link t world i side) 0 ≡ Some p
       → IsFaithful t fits winner (receiving (node_at world i) side p)
       → IsSoundWorld t fits winner (after_receipt world i side p)
@@ -136,7 +136,7 @@ module _ {E S M : Type 0} (t : E → Table S M) (world : Running E M) (i : ℕ) 
       }
 
 -- the nodes of a world, one of which has received the front packet of a link, are those of the world after it
-pub world_after : {E S M : Type 0} (t : E → Table S M) (fits : E → Fits M) (winner : E → List ℕ → ℕ) (charter : Charter E) (nodes : List (Seated E M)) (cut : List Bool)
+pub world_after : {E S M : Type 0} (t : E → Table S M) (fits : E → Fitting M) (winner : E → List ℕ → ℕ) (charter : Charter E) (nodes : List (Seated E M)) (cut : List Bool)
     → (world : IsWorld t fits winner charter nodes cut)
     → (i : ℕ) → i < length nodes → (side : Side) (p : Packet M)
     → slice_get (on_link t (record { charter = charter; journals = journals_of nodes; cut = cut }) i side) 0 ≡ Some p
@@ -172,7 +172,7 @@ pub report_of_receipt : {E S M : Type 0} (t : E → Table S M) (node : Seated E 
 report_of_receipt t node side p v h =
     ap (option_map (λ (leader : ℕ). record { charter = node.charter; member = member_of node; leader = leader })) (news-known (known_of t node) (known_of t (receiving node side p)) v h ∙ sym h)
 
-module _ {E S M : Type 0} (t : E → Table S M) (fits : E → Fits M) (winner : E → List ℕ → ℕ) (charter : Charter E) (nodes : List (Seated E M)) (cut : List Bool)
+module _ {E S M : Type 0} (t : E → Table S M) (fits : E → Fitting M) (winner : E → List ℕ → ℕ) (charter : Charter E) (nodes : List (Seated E M)) (cut : List Bool)
     (world : IsWorld t fits winner charter nodes cut) (i : ℕ) (inside : i < length charter.roster) where
   -- a world has a node for each position
   pub place_within : i < length nodes

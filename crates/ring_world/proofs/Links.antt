@@ -5,7 +5,7 @@ use Rattle.std.proofs.Math.Seq.{take-append_seam, drop-append_seam}
 use Rattle.ring_id.specs.declared.side.Side.{Side}
 use Rattle.ring_id.specs.declared.side.Side.TheVariants.{Left, Right}
 use Rattle.ring_election.specs.Traces.{taken_from}
-use Rattle.ring_election.specs.Families.{Fits}
+use Rattle.ring_election.specs.Families.{Fitting}
 use Rattle.ring_node.specs.declared.charter.Charter.{Charter}
 use Rattle.ring_node.specs.declared.packet.Packet.{Packet}
 use Rattle.ring_node.specs.Envelopes.{IsProper, index_after}
@@ -76,7 +76,7 @@ pub first_part : {A : Type 0} (taken rest sent : List A) → taken ++ rest ≡ s
 first_part taken rest sent whole = ap (λ l. taken ++ l) (ap (drop (length taken)) (sym whole) ∙ drop-append_seam taken rest) ∙ whole
 
 -- what is at the front of a link is proper at the receiver's next index
-pub front_proper : {M : Type 0} (fits : Fits M) (winner : List ℕ → ℕ) (ring : List ℕ) (from : ℕ) (side : Side) (taken sent : List (Packet M)) (p : Packet M)
+pub front_proper : {M : Type 0} (fits : Fitting M) (winner : List ℕ → ℕ) (ring : List ℕ) (from : ℕ) (side : Side) (taken sent : List (Packet M)) (p : Packet M)
     → taken ++ drop (length taken) sent ≡ sent
     → IsProper fits winner ring from side (index_after (take (length taken) sent) p) p
     → IsProper fits winner ring from side (index_after taken p) p

@@ -7,7 +7,7 @@ use Rattle.ring_id.specs.declared.side.Side.{Side}
 use Rattle.ring_id.specs.declared.side.Side.TheVariants.{Left, Right}
 use Rattle.ring_id.specs.Sides.{other}
 use Rattle.ring_roster.specs.Ring.{IsRing, neighbour, right_of}
-use Rattle.ring_election.specs.Families.{FamilyFits, Fits, IsComplete}
+use Rattle.ring_election.specs.Families.{FamilyFits, Fitting, IsComplete}
 use Rattle.ring_election.specs.Laws.{Deciding}
 use Rattle.ring_election.specs.Tables.{Table}
 use Rattle.ring_election.specs.Traces.{taken_from}
@@ -35,7 +35,7 @@ pub record IsInformed {S M : Type 0} (t : Table S M) (ring : List ℕ) (journals
   pub leader : ℕ
   pub knows : known_after t (get_or ring i 0) (journals i) ≡ Some leader
 
-module _ {S M : Type 0} (t : Table S M) (fits : Fits M) (ring : List ℕ) (journals : ℕ → List (Side × Packet M)) (matched : IsMatched t ring journals) where
+module _ {S M : Type 0} (t : Table S M) (fits : Fitting M) (ring : List ℕ) (journals : ℕ → List (Side × Packet M)) (matched : IsMatched t ring journals) where
   -- the receipts of the algorithms are a complete family
   matched_complete : IsComplete t ring (λ i. algo_part (journals i))
   matched_complete = record {
@@ -72,7 +72,7 @@ module _ {S M : Type 0} (t : Table S M) (fits : Fits M) (ring : List ℕ) (journ
       let start : IsInformed t ring journals first.position = record { leader = known.0; knows = ap (λ (me : ℕ). known_after t me (journals first.position)) (get_or_from_slice_get ring first.position first.me 0 first.there) ∙ known.1 } in
       around (length ring) first.position (IsInformed t ring journals) inside (informs_next first.position inside start) (λ j low differ informed. informs_next j low informed) i below
 
-module _ {E S M : Type 0} (t : E → Table S M) (fits : E → Fits M) (winner : E → List ℕ → ℕ) (world : Running E M) where
+module _ {E S M : Type 0} (t : E → Table S M) (fits : E → Fitting M) (winner : E → List ℕ → ℕ) (world : Running E M) where
   -- in a sound world where nothing stands on a link, all that was sent was taken
   emptied_matched : IsSoundWorld t fits winner world → IsEmptied t world → IsMatched (t world.charter.algorithm) world.charter.roster (λ i. get_or world.journals i [])
   emptied_matched sound emptied = record {

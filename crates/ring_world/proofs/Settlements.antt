@@ -8,7 +8,7 @@ use Rattle.ring_id.specs.declared.side.Side.{Side}
 use Rattle.ring_id.specs.declared.side.Side.TheVariants.{Left, Right}
 use Rattle.ring_id.specs.Sides.{other, same_side}
 use Rattle.ring_roster.specs.Ring.{IsRing, neighbour}
-use Rattle.ring_election.specs.Families.{FamilyFits, Fits}
+use Rattle.ring_election.specs.Families.{FamilyFits, Fitting}
 use Rattle.ring_election.specs.Laws.{Deciding}
 use Rattle.ring_election.specs.Tables.{Table}
 use Rattle.ring_election.specs.Traces.{taken_from}
@@ -168,7 +168,7 @@ record IsAtRest {E S M : Type 0} (t : E → Table S M) (charter : Charter E) (no
 node_alone : {E M : Type 0} (charter : Charter E) (nodes : List (Seated E M)) (position : ℕ) (node : Seated E M) → IsAlone charter nodes position node → node ≡ record { charter = charter; position = position; journal = node.journal }
 node_alone {E} charter nodes position node only = ap₂ (λ (c : Charter E) (p : ℕ). record { charter = c; position = p; journal = node.journal }) only.charter_is only.position_is
 
-module _ {E S M : Type 0} (t : E → Table S M) (fits : E → Fits M) (winner : E → List ℕ → ℕ) (charter : Charter E) (nodes : List (Seated E M)) where
+module _ {E S M : Type 0} (t : E → Table S M) (fits : E → Fitting M) (winner : E → List ℕ → ℕ) (charter : Charter E) (nodes : List (Seated E M)) where
   module _ (node_at : ℕ → Seated E M) (rest : (i : ℕ) → i < length charter.roster → IsAtRest t charter nodes i (node_at i)) where
     -- all that was sent on a link was taken
     rest_matched : IsMatched (t charter.algorithm) charter.roster (λ i. (node_at i).journal)

@@ -11,7 +11,7 @@ use Rattle.ring_id.specs.Sides.{other, same_side}
 use Rattle.ring_roster.specs.Ring.{left_of, neighbour, right_of}
 use Rattle.ring_election.specs.Tables.{Table}
 use Rattle.ring_election.proofs.Rings.{neighbour-below, neighbour-neighbour}
-use Rattle.ring_election.specs.Families.{Fits}
+use Rattle.ring_election.specs.Families.{Fitting}
 use Rattle.ring_node.specs.declared.packet.Packet.{Packet}
 use Rattle.ring_node.specs.Nodes.{Seated, sent_of, taken_of}
 use Rattle.ring_world.specs.LinkSets.{IsFirst, bit_of}
@@ -402,7 +402,7 @@ pending_few t world words marked (suc n) low =
 
 -- ---- A world after a receipt
 
-module _ {E S M : Type 0} (t : E → Table S M) (fits : E → Fits M) (winner : E → List ℕ → ℕ) (world : Running E M) (pending : ℕ) (words : List ℕ)
+module _ {E S M : Type 0} (t : E → Table S M) (fits : E → Fitting M) (winner : E → List ℕ → ℕ) (world : Running E M) (pending : ℕ) (words : List ℕ)
     (tallied : IsTallied t world fits winner pending words) (i : ℕ) (inside : i < size_of world) (side : Side) (p : Packet M) (front : slice_get (on_link t world i side) 0 ≡ Some p)
     (new : Running E M) (moved : new ≡ after_receipt world i side p) where
   place_within : i < length world.journals
@@ -475,7 +475,7 @@ cut_marks {M = M} t world words new i side inside each_link marked cleared other
 }
 
 -- what is kept is kept where a link was cut and its bit cleared
-pub tally_cut : {E S M : Type 0} (t : E → Table S M) (fits : E → Fits M) (winner : E → List ℕ → ℕ) (world : Running E M) (pending : ℕ) (words new : List ℕ) (i : ℕ) (side : Side)
+pub tally_cut : {E S M : Type 0} (t : E → Table S M) (fits : E → Fitting M) (winner : E → List ℕ → ℕ) (world : Running E M) (pending : ℕ) (words new : List ℕ) (i : ℕ) (side : Side)
     → IsTallied t world fits winner pending words → i < size_of world
     → bit_of new (link_place i side) ≡ 0
     → ((place : ℕ) → place ≢ link_place i side → bit_of new place ≡ bit_of words place)

@@ -7,7 +7,7 @@ use Rattle.ring_id.specs.declared.side.Side.{Side}
 use Rattle.ring_id.specs.declared.side.Side.TheVariants.{Left, Right}
 use Rattle.ring_id.specs.Sides.{other}
 use Rattle.ring_roster.specs.Ring.{neighbour}
-use Rattle.ring_election.specs.Families.{Fits, IsSound, taken_in_all}
+use Rattle.ring_election.specs.Families.{Fitting, IsSound, taken_in_all}
 use Rattle.ring_election.specs.Laws.{Bounded}
 use Rattle.ring_election.specs.Tables.{Table}
 use Rattle.ring_election.specs.Traces.{taken_from}
@@ -49,7 +49,7 @@ one_leader : (M : Type 0) (o : Option ℕ) → length (all_leaders {M = M} o) �
 one_leader M None = omega arith
 one_leader M (Some v) = omega arith
 
-module _ {E S M : Type 0} (t : E → Table S M) (fits : E → Fits M) (winner : E → List ℕ → ℕ) (world : Running E M) (sound : IsSoundWorld t fits winner world) where
+module _ {E S M : Type 0} (t : E → Table S M) (fits : E → Fitting M) (winner : E → List ℕ → ℕ) (world : Running E M) (sound : IsSoundWorld t fits winner world) where
   -- the receipts of the algorithms are a sound family
   sound_family : IsSound (t world.charter.algorithm) world.charter.roster (λ i. algo_part (get_or world.journals i []))
   sound_family = record {

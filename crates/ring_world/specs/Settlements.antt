@@ -6,7 +6,7 @@ use Rattle.ring_id.specs.declared.side.Side.{Side}
 use Rattle.ring_id.specs.Sides.{other}
 use Rattle.ring_roster.specs.Ring.{neighbour}
 use Rattle.ring_election.specs.Tables.{Table}
-use Rattle.ring_election.specs.Families.{Fits}
+use Rattle.ring_election.specs.Families.{Fitting}
 use Rattle.ring_node.specs.declared.charter.Charter.{Charter}
 use Rattle.ring_node.specs.declared.packet.Packet.{Packet}
 use Rattle.ring_node.specs.Nodes.{IsFaithful, Seated, known_of, report_of, sent_of, taken_of}
@@ -53,7 +53,7 @@ module _ {E S M : Type 0} (t : E → Table S M) where
     pub each : (i member : ℕ) → slice_get charter.roster i ≡ Some member → HasReport winner charter nodes i member
 
   -- what the type of each of these nodes keeps
-  pub record AllFaithful (fits : E → Fits M) (winner : E → List ℕ → ℕ) (nodes : List (Seated E M)) : Type 0 where
+  pub record AllFaithful (fits : E → Fitting M) (winner : E → List ℕ → ℕ) (nodes : List (Seated E M)) : Type 0 where
     pub each : (k : ℕ) (node : Seated E M) → slice_get nodes k ≡ Some node → IsFaithful t fits winner node
 
 -- the first packet of this sort from a place on, with its place, if there is one

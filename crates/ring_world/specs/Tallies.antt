@@ -5,7 +5,7 @@ use Rattle.ring_id.specs.declared.side.Side.{Side}
 use Rattle.ring_id.specs.Sides.{other}
 use Rattle.ring_roster.specs.Ring.{neighbour}
 use Rattle.ring_election.specs.Tables.{Table}
-use Rattle.ring_election.specs.Families.{Fits}
+use Rattle.ring_election.specs.Families.{Fitting}
 use Rattle.ring_world.specs.LinkSets.{bit_of}
 use Rattle.ring_world.specs.Worlds.{IsSoundWorld, Running, in_flight, link_place, on_link, pending_of, size_of}
 
@@ -42,7 +42,7 @@ module _ {E S M : Type 0} (t : E → Table S M) (world : Running E M) where
 
   -- what the type of a world keeps: it is sound, the number is what is in flight or stuck, and the bits
   -- are the links that aren't cut and have something on them
-  pub record IsTallied (fits : E → Fits M) (winner : E → List ℕ → ℕ) (pending : ℕ) (words : List ℕ) : Type 0 where
+  pub record IsTallied (fits : E → Fitting M) (winner : E → List ℕ → ℕ) (pending : ℕ) (words : List ℕ) : Type 0 where
     pub sound : IsSoundWorld t fits winner world
     pub counted : pending ≡ pending_of t world
     pub marked : IsMarkedAll words

@@ -9,7 +9,7 @@ use Rattle.ring_id.specs.Refusals.{IsRefusal, first_of}
 use Rattle.ring_id.specs.Sides.{other, same_side}
 use Rattle.ring_roster.specs.Ring.{IsRing, neighbour}
 use Rattle.ring_election.specs.Tables.{Table}
-use Rattle.ring_election.specs.Families.{Fits}
+use Rattle.ring_election.specs.Families.{Fitting}
 use Rattle.ring_node.specs.declared.charter.Charter.{Charter}
 use Rattle.ring_node.specs.declared.packet.Packet.{Packet}
 use Rattle.ring_node.specs.declared.packet.Packet.TheVariants.{Algo, Leader}
@@ -148,7 +148,7 @@ module _ {E S M : Type 0} (t : E → Table S M) where
     pub taken_first : (i : ℕ) (side : Side) → i < size_of world → taken_at world i side ++ on_link world i side ≡ sent_into world i side
 
   -- At every moment the journals are a sound family that fits, and what a node knows is the winner.
-  pub record IsSoundWorld (fits : E → Fits M) (winner : E → List ℕ → ℕ) (world : Running E M) : Type 0 where
+  pub record IsSoundWorld (fits : E → Fitting M) (winner : E → List ℕ → ℕ) (world : Running E M) : Type 0 where
     pub is_ring : IsRing world.charter.roster
     pub count : length world.journals ≡ size_of world
     pub each_link : length world.cut ≡ 2 * size_of world
@@ -156,7 +156,7 @@ module _ {E S M : Type 0} (t : E → Table S M) where
     pub faithful : (i : ℕ) → i < size_of world → IsFaithful t fits winner (node_at world i)
 
   -- what the type of a world keeps of its nodes: they are the charter's, in order, in a sound world
-  pub record IsWorld (fits : E → Fits M) (winner : E → List ℕ → ℕ) (charter : Charter E) (nodes : List (Seated E M)) (cut : List Bool) : Type 0 where
+  pub record IsWorld (fits : E → Fitting M) (winner : E → List ℕ → ℕ) (charter : Charter E) (nodes : List (Seated E M)) (cut : List Bool) : Type 0 where
     pub nodes_are : nodes ≡ nodes_from charter 0 (journals_of nodes)
     pub sound : IsSoundWorld fits winner (record { charter = charter; journals = journals_of nodes; cut = cut })
 
