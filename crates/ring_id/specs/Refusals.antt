@@ -37,8 +37,8 @@ word_in_table NoMemory = codes "no-memory"
 word_in_table SeatSpent = codes "seat-spent"
 
 -- this refusal where the test holds, else the first of the rest
-abbrev pub first_of : Bool → Refusal → Option Refusal → Option Refusal
-first_of test refusal rest = cond test (Some refusal) rest
+abbrev pub refused_if : Bool → Refusal → Option Refusal → Option Refusal
+refused_if test refusal rest = cond test (Some refusal) rest
 
 -- this refusal where there is no value, else what the value says
 abbrev pub unless_some : {A : Type 0} → Option A → Refusal → (A → Option Refusal) → Option Refusal

@@ -6,7 +6,7 @@ use Rattle.std.proofs.lemmas.List.Concat.{flat_map-append}
 use Rattle.ring_lines.specs.Ends.{Reading, Writing, bytes_of, goes_on, Wrote, WroteFront}
 use Rattle.ring_lines.specs.Lines.{has_lf, whole_lines_of}
 use Rattle.ring_lines.specs.Buffer.{BufferView}
-use Rattle.ring_lines.specs.Reader.{Answers, Begins, Cuts, GivesAt, GivesNext, Repeats, Shows, Stops, most_bytes}
+use Rattle.ring_lines.specs.Reader.{AnswersOpen, BeginsText, CutsLines, GivesAt, GivesNext, Repeats, ShowsLine, Stops, most_bytes}
 use Rattle.ring_lines.specs.Pages.{Closes, Passes}
 use Rattle.ring_lines.specs.Rounds.{AnswersLines, AreInTurn, Round, Rounds, RunOf, WroteAll, calls_of, read_in, text_of, written_in}
 use Rattle.ring_lines.specs.Sequences.{bytes_of-append}
@@ -36,7 +36,7 @@ pub record Answering {S V A B : Type 0} (reading : S → Reading → S → Type 
   pub whole : written_in rounds ++ page ≡ text_of spelling given
   pub spent : length (calls_of rounds) + buffer.reads ≡ reads
   pub stops : Stops buffer.phase (calls_of rounds) buffer.reads
-  pub cuts : Cuts buffer.phase (read_in rounds) lines buffer.held
+  pub cuts : CutsLines buffer.phase (read_in rounds) lines buffer.held
   pub counted : count ≡ length lines
   pub fewer : length lines + most_bytes buffer ≤ 4096 * reads
 
@@ -46,7 +46,7 @@ pub record AnsweringNext {S V A B : Type 0} (reading : S → Reading → S → T
   pub lines : List (List ℕ)
   pub given : List B
   pub come : List (List ℕ)
-  pub shows : Shows said come buffer.phase
+  pub shows : ShowsLine said come buffer.phase
   pub run : RunOf answers old lines given now
   pub legal : All is_legal given
   pub made : Rounds reading writing reader writer rounds reader_now writer_now
@@ -54,7 +54,7 @@ pub record AnsweringNext {S V A B : Type 0} (reading : S → Reading → S → T
   pub whole : written_in rounds ++ page ≡ text_of spelling given
   pub spent : length (calls_of rounds) + buffer.reads ≡ reads
   pub stops : Stops buffer.phase (calls_of rounds) buffer.reads
-  pub cuts : Cuts buffer.phase (read_in rounds) (lines ++ come) buffer.held
+  pub cuts : CutsLines buffer.phase (read_in rounds) (lines ++ come) buffer.held
   pub counted : count ≡ length lines
   pub fewer : length (lines ++ come) + most_bytes buffer ≤ 4096 * reads
 
@@ -73,14 +73,14 @@ pub record Turned {A B : Type 0} (answers : List ℕ → A → B → A → Type 
   pub answered : answers line now answer new
 
 module _ {A B : Type 0} (answers : List ℕ → A → B → A → Type 0) where
-  pub turned_line : (come : List (List ℕ)) (after : Phase) (text line : List ℕ) (said : Next) (now : A) (answer : B) (new : A) → said ≡ next.Line line → Shows said come after → text ≡ line → answers text now answer new → Turned answers come now answer new
+  pub turned_line : (come : List (List ℕ)) (after : Phase) (text line : List ℕ) (said : Next) (now : A) (answer : B) (new : A) → said ≡ next.Line line → ShowsLine said come after → text ≡ line → answers text now answer new → Turned answers come now answer new
   turned_line come after text line said now answer new is shows same answered =
-      let s : Shows (next.Line line) come after = subst (λ (n : Next). Shows n come after) is shows in
+      let s : ShowsLine (next.Line line) come after = subst (λ (n : Next). ShowsLine n come after) is shows in
       record { line = line; is_come = s.0; answered = subst (λ (l : List ℕ). answers l now answer new) same answered }
 
-  pub turned_long : (come : List (List ℕ)) (after : Phase) (said : Next) (now : A) (answer : B) (new : A) → said ≡ next.Long → Shows said come after → ((line : List ℕ) → 128 < length line → answers line now answer new) → Turned answers come now answer new
+  pub turned_long : (come : List (List ℕ)) (after : Phase) (said : Next) (now : A) (answer : B) (new : A) → said ≡ next.Long → ShowsLine said come after → ((line : List ℕ) → 128 < length line → answers line now answer new) → Turned answers come now answer new
   turned_long come after said now answer new is shows answered =
-      let s : Shows next.Long come after = subst (λ (n : Next). Shows n come after) is shows in
+      let s : ShowsLine next.Long come after = subst (λ (n : Next). ShowsLine n come after) is shows in
       record { line = s.0; is_come = s.1; answered = answered s.0 s.2 }
 
 module _ {S V A B : Type 0} (reading : S → Reading → S → Type 0) (writing : V → Writing → V → Type 0) (answers : List ℕ → A → B → A → Type 0) (spelling : B → List ℕ) (is_legal : B → Type 0) (reader : S) (writer : V) (old : A) (reads : ℕ) where
@@ -120,7 +120,7 @@ module _ {S V A B : Type 0} (reading : S → Reading → S → Type 0) (writing 
     -- nothing stands on the page before the first round
     none_on_page : a.rounds ≡ [] → page ≡ []
     none_on_page none =
-        let cuts : Cuts buffer.phase [] a.lines buffer.held = subst (λ (rounds : List Round). Cuts buffer.phase (read_in rounds) a.lines buffer.held) none a.cuts in
+        let cuts : CutsLines buffer.phase [] a.lines buffer.held = subst (λ (rounds : List Round). CutsLines buffer.phase (read_in rounds) a.lines buffer.held) none a.cuts in
         let lines : a.lines ≡ [] = cuts_none buffer.phase a.lines buffer.held cuts in
         no_answer answers spelling a.given page (run_length answers old a.lines a.given now a.run ∙ ap length lines) (sym (ap (λ (rounds : List Round). written_in rounds ++ page) none) ∙ a.whole)
 
@@ -144,7 +144,7 @@ module _ {S V A B : Type 0} (reading : S → Reading → S → Type 0) (writing 
               ∙ a.whole;
           spent = ap (λ (log : List Reading). length log + buffer.reads) calls ∙ a.spent;
           stops = subst (λ (log : List Reading). Stops buffer.phase log buffer.reads) (sym calls) a.stops;
-          cuts = subst (λ (log : List Reading). Cuts buffer.phase (bytes_of log) a.lines buffer.held) (sym calls) a.cuts;
+          cuts = subst (λ (log : List Reading). CutsLines buffer.phase (bytes_of log) a.lines buffer.held) (sym calls) a.cuts;
           counted = a.counted;
           fewer = a.fewer;
         }
@@ -158,10 +158,10 @@ module _ {S V A B : Type 0} (reading : S → Reading → S → Type 0) (writing 
     emptied writer_then wrote still = flushed writer_then [] (record { written = page; wrote = wrote; whole = refl }) still
 
     -- the next answer of the buffer, while more lines may come
-    next_open : (said : Next) (after : S) (new : BufferView) → (has_lf buffer.held ≡ false → page ≡ []) → buffer.phase ≡ phase.Open → Answers reading reader_now buffer said after new → AnsweringNext reading writing answers spelling is_legal reader writer old reads count after writer_now said new page now
+    next_open : (said : Next) (after : S) (new : BufferView) → (has_lf buffer.held ≡ false → page ≡ []) → buffer.phase ≡ phase.Open → AnswersOpen reading reader_now buffer said after new → AnsweringNext reading writing answers spelling is_legal reader writer old reads count after writer_now said new page now
     next_open said after new none opened n =
         let on : list_all goes_on (calls_of a.rounds) ≡ true = subst (λ (p : Phase). Stops p (calls_of a.rounds) buffer.reads) opened a.stops in
-        let begins : Begins (read_in a.rounds) a.lines buffer.held = subst (λ (p : Phase). Cuts p (read_in a.rounds) a.lines buffer.held) opened a.cuts in
+        let begins : BeginsText (read_in a.rounds) a.lines buffer.held = subst (λ (p : Phase). CutsLines p (read_in a.rounds) a.lines buffer.held) opened a.cuts in
         let calls : calls_of (add_calls a.rounds n.log) ≡ calls_of a.rounds ++ n.log = calls_of-add_calls a.rounds n.log in
         let text : read_in (add_calls a.rounds n.log) ≡ read_in a.rounds ++ bytes_of n.log = ap bytes_of calls ∙ bytes_of-append (calls_of a.rounds) n.log in
         record {
@@ -179,13 +179,13 @@ module _ {S V A B : Type 0} (reading : S → Reading → S → Type 0) (writing 
           whole = ap (λ (l : List ℕ). l ++ page) (written-add_calls a.rounds n.log) ∙ a.whole;
           spent = omega (arith, ap length calls, length-append (calls_of a.rounds) n.log, a.spent, n.reads);
           stops = subst (λ (log : List Reading). Stops new.phase log new.reads) (sym calls) (stops-append new.phase (calls_of a.rounds) n.log new.reads on n.stops);
-          cuts = subst (λ (bytes : List ℕ). Cuts new.phase bytes (a.lines ++ n.given) new.held) (sym text) (cuts-append new.phase (read_in a.rounds) (bytes_of n.log) a.lines n.given buffer.held new.held begins n.cuts);
+          cuts = subst (λ (bytes : List ℕ). CutsLines new.phase bytes (a.lines ++ n.given) new.held) (sym text) (cuts-append new.phase (read_in a.rounds) (bytes_of n.log) a.lines n.given buffer.held new.held begins n.cuts);
           counted = a.counted;
           fewer = omega (arith, length-append a.lines n.given, a.fewer, n.fewer);
         }
 
     -- and after the last
-    next_again : (final said : Next) (after : S) (new : BufferView) → Repeats reader_now buffer final said after new → Shows final [] buffer.phase → AnsweringNext reading writing answers spelling is_legal reader writer old reads count after writer_now said new page now
+    next_again : (final said : Next) (after : S) (new : BufferView) → Repeats reader_now buffer final said after new → ShowsLine final [] buffer.phase → AnsweringNext reading writing answers spelling is_legal reader writer old reads count after writer_now said new page now
     next_again final said after new r shows = rw (r.reader, r.buffer, r.same) (record {
       rounds = a.rounds;
       lines = a.lines;
@@ -199,7 +199,7 @@ module _ {S V A B : Type 0} (reading : S → Reading → S → Type 0) (writing 
       whole = a.whole;
       spent = a.spent;
       stops = a.stops;
-      cuts = subst (λ (lines : List (List ℕ)). Cuts buffer.phase (read_in a.rounds) lines buffer.held) (sym (append-nil a.lines)) a.cuts;
+      cuts = subst (λ (lines : List (List ℕ)). CutsLines buffer.phase (read_in a.rounds) lines buffer.held) (sym (append-nil a.lines)) a.cuts;
       counted = a.counted;
       fewer = omega (arith, ap length (append-nil a.lines), a.fewer);
     })
@@ -244,7 +244,7 @@ module _ {S V A B : Type 0} (reading : S → Reading → S → Type 0) (writing 
       in_turn = a.in_turn;
       answered = (
         subst (λ (p : Phase). Stops p (calls_of a.rounds) buffer.reads) ended a.stops,
-        sym (subst (λ (p : Phase). Cuts p (read_in a.rounds) a.lines buffer.held) ended a.cuts),
+        sym (subst (λ (p : Phase). CutsLines p (read_in a.rounds) a.lines buffer.held) ended a.cuts),
         a.counted,
       );
       writes = wrote_all;
@@ -289,7 +289,7 @@ module _ {S V A B : Type 0} (reading : S → Reading → S → Type 0) (writing 
         let b = emptied count reader_now writer_now buffer page now a writer_then done.1 still in
         rw done.0 (faults count reader_now writer_then buffer now b faulted
         (subst (λ (p : Phase). Stops p (calls_of b.rounds) buffer.reads) is b.stops)
-        (subst (λ (p : Phase). Cuts p (read_in b.rounds) b.lines buffer.held) is b.cuts))
+        (subst (λ (p : Phase). CutsLines p (read_in b.rounds) b.lines buffer.held) is b.cuts))
     closes_fault faulted result writer_then is (inr failed) still = rw failed.0 (fails count reader_now writer_now buffer page now a writer_then failed.1)
 
   module _ (count : ℕ) (reader_now : S) (writer_now : V) (said : Next) (buffer : BufferView) (page : List ℕ) (now : A) (n : AnsweringNext reading writing answers spelling is_legal reader writer old reads count reader_now writer_now said buffer page now) where
@@ -308,7 +308,7 @@ module _ {S V A B : Type 0} (reading : S → Reading → S → Type 0) (writing 
           whole = n.whole;
           spent = n.spent;
           stops = n.stops;
-          cuts = subst (λ (lines : List (List ℕ)). Cuts buffer.phase (read_in n.rounds) lines buffer.held) same n.cuts;
+          cuts = subst (λ (lines : List (List ℕ)). CutsLines buffer.phase (read_in n.rounds) lines buffer.held) same n.cuts;
           counted = n.counted;
           fewer = omega (arith, ap length same, n.fewer);
         }
@@ -328,7 +328,7 @@ module _ {S V A B : Type 0} (reading : S → Reading → S → Type 0) (writing 
           whole = text_more spelling (written_in n.rounds) page n.given answer n.whole;
           spent = n.spent;
           stops = n.stops;
-          cuts = subst (λ (lines : List (List ℕ)). Cuts buffer.phase (read_in n.rounds) lines buffer.held) same n.cuts;
+          cuts = subst (λ (lines : List (List ℕ)). CutsLines buffer.phase (read_in n.rounds) lines buffer.held) same n.cuts;
           counted = omega (arith, length-append n.lines (t.line ∷ []), n.counted);
           fewer = omega (arith, ap length same, n.fewer);
         }
@@ -338,7 +338,7 @@ module _ {S V A B : Type 0} (reading : S → Reading → S → Type 0) (writing 
     answering_passed answer new writer_then page_then t told p =
         let a = answering_line answer new t told in
         let later : a.rounds ≡ [] → writer_then ≡ writer_now = λ none.
-        let lines : a.lines ≡ [] = cuts_none buffer.phase a.lines buffer.held (subst (λ (rounds : List Round). Cuts buffer.phase (read_in rounds) a.lines buffer.held) none a.cuts) in
+        let lines : a.lines ≡ [] = cuts_none buffer.phase a.lines buffer.held (subst (λ (rounds : List Round). CutsLines buffer.phase (read_in rounds) a.lines buffer.held) none a.cuts) in
         absurd (omega (arith, ap length lines, length-append n.lines (t.line ∷ []))) in
         moved (count + 1) reader_now writer_now buffer (page ++ spelling answer) new a writer_then page_then
         (record { written = p.written; wrote = p.wrote; whole = p.whole ∙ sym (append-nil (page ++ spelling answer)) }) later
@@ -355,7 +355,7 @@ module _ {S V A B : Type 0} (reading : S → Reading → S → Type 0) (writing 
           legal = tt;
           granted = omega (arith, n.spent);
           in_turn = in_turn-append spelling n.given answer n.rounds n.in_turn;
-          answered = owed_first buffer.phase (calls_of n.rounds) buffer.reads (n.lines ++ t.line ∷ []) buffer.held n.stops (subst (λ (lines : List (List ℕ)). Cuts buffer.phase (read_in n.rounds) lines buffer.held) same n.cuts);
+          answered = owed_first buffer.phase (calls_of n.rounds) buffer.reads (n.lines ++ t.line ∷ []) buffer.held n.stops (subst (λ (lines : List (List ℕ)). CutsLines buffer.phase (read_in n.rounds) lines buffer.held) same n.cuts);
           writes = record {
             out = writer_now;
             made = n.made;

@@ -3,7 +3,7 @@ use Rattle.std.proofs.Common.{◌≡◌, ℕ, ◌≤◌, true, false, length, ar
 use Rattle.std.specs.List.{list_all}
 use Rattle.std.proofs.lemmas.List.Folds.{list_all-append}
 use Rattle.std.proofs.lemmas.Bool.{and_from, and_parts}
-use Rattle.ring_lines.specs.Ends.{Calls, Reading, bytes_in, bytes_of, goes_on, LastOf}
+use Rattle.ring_lines.specs.Ends.{CallsLead, Reading, bytes_in, bytes_of, goes_on, LastOf}
 use Rattle.ring_lines.specs.Lines.{has_lf}
 use Rattle.ring_lines.specs.Reader.{Waits}
 
@@ -34,7 +34,7 @@ waits-append held (call ∷ first) second on a b =
 
 -- what an end holds after calls that each add their bytes to it
 pub Calls-add : {S E : Type 0} (gives : S → Result (List ℕ) E → S → Type 0) (held : S → List ℕ) → ((from : S) (answer : Result (List ℕ) E) (to : S) → gives from answer to → held to ≡ held from ++ bytes_in answer) →
-    (from : S) (log : List (Result (List ℕ) E)) (to : S) → Calls gives from log to → held to ≡ held from ++ bytes_of log
+    (from : S) (log : List (Result (List ℕ) E)) (to : S) → CallsLead gives from log to → held to ≡ held from ++ bytes_of log
 Calls-add gives held adds from [] to c = ap held c ∙ sym (append-nil (held from))
 Calls-add gives held adds from (answer ∷ log) to c =
     Calls-add gives held adds c.0 log to c.2 ∙ ap (λ (front : List ℕ). front ++ bytes_of log) (adds from answer c.0 c.1) ∙ append_assoc (held from) (bytes_in answer) (bytes_of log)

@@ -3,10 +3,10 @@ use Rattle.std.proofs.Common.{◌≡◌, ℕ, ◌+◌, ◌*◌, ◌<◌, ◌≤�
 use Rattle.std.specs.List.{list_all}
 use Rattle.std.proofs.lemmas.Bool.{ltb-true, ltb-false, true≢false}
 use Rattle.std.proofs.lemmas.List.Folds.{list_any-append}
-use Rattle.ring_lines.specs.Ends.{Reading, Calls, bytes_of, goes_on}
+use Rattle.ring_lines.specs.Ends.{Reading, CallsLead, bytes_of, goes_on}
 use Rattle.ring_lines.specs.Lines.{lines_of, has_lf}
 use Rattle.ring_lines.specs.Buffer.{BufferView}
-use Rattle.ring_lines.specs.Reader.{Answers, Stops, Begins, Shows, MayGive, Waits}
+use Rattle.ring_lines.specs.Reader.{AnswersOpen, Stops, BeginsText, ShowsLine, MayGive, Waits}
 use Rattle.ring_lines.specs.Filling.{IsCutAt, answer_of, last_of, Fills}
 use Rattle.ring_lines.specs.declared.answers.LineFault.{LineFault}
 use Rattle.ring_lines.specs.declared.answers.LineFault.TheVariants as fault
@@ -25,7 +25,7 @@ IsDropped false dropped = dropped ≡ []
 -- Read calls, one after another: what was held and read is what was dropped and what is held now.
 pub record Reaches {S : Type 0} (gives : S → Reading → S → Type 0) (from : S) (old : BufferView) (long : Bool) (to : S) (new : BufferView) : Type 0 where
   pub log : List Reading
-  pub calls : Calls gives from log to
+  pub calls : CallsLead gives from log to
   pub reads : length log + new.reads ≡ old.reads
   pub few : length (bytes_of log) ≤ 4096 * length log
   pub dropped : List ℕ
@@ -64,11 +64,11 @@ stops-append (phase.Faulted fault.Write) first second reads on stops = stops
 stops-append (phase.Faulted fault.NoMemory) first second reads on stops = stops
 
 -- what is answered for a line of which the first part was dropped
-shows_line : (long : Bool) (dropped line : List ℕ) (after : Phase) → IsDropped long dropped → MayGive after → Shows (answer_of long line) ((dropped ++ line) ∷ []) after
+shows_line : (long : Bool) (dropped line : List ℕ) (after : Phase) → IsDropped long dropped → MayGive after → ShowsLine (answer_of long line) ((dropped ++ line) ∷ []) after
 shows_line true dropped line after is may = (dropped ++ line, refl, omega (arith, length-append dropped line, is), may)
 shows_line false dropped line after is may =
-    subst (λ (front : List ℕ). Shows (answer_of false line) ((front ++ line) ∷ []) after) (sym is)
-    (elim (nat_lt 128 (length line)) as (λ b. nat_lt 128 (length line) ≡ b → Shows (if b then next.Long else next.Line line) (line ∷ []) after) [
+    subst (λ (front : List ℕ). ShowsLine (answer_of false line) ((front ++ line) ∷ []) after) (sym is)
+    (elim (nat_lt 128 (length line)) as (λ b. nat_lt 128 (length line) ≡ b → ShowsLine (if b then next.Long else next.Line line) (line ∷ []) after) [
       | true ↦ λ more. (line, refl, ltb-true _ _ more, may)
       | false ↦ λ fits. (refl, ltb-false _ _ fits, may)
     ] refl)
@@ -79,7 +79,7 @@ rest_lines [] = []
 rest_lines (byte ∷ line) = (byte ∷ line) ∷ []
 
 -- what is answered for them
-shows_rest : (long : Bool) (dropped held : List ℕ) → IsDropped long dropped → Shows (last_of long held) (rest_lines (dropped ++ held)) phase.Ended
+shows_rest : (long : Bool) (dropped held : List ℕ) → IsDropped long dropped → ShowsLine (last_of long held) (rest_lines (dropped ++ held)) phase.Ended
 shows_rest true [] held is = absurd (omega arith)
 shows_rest true (byte ∷ dropped) [] is = (byte ∷ dropped ++ [], refl, omega (arith, length-append dropped [], is), tt)
 shows_rest true (byte ∷ dropped) (first ∷ held) is = shows_line true (byte ∷ dropped) (first ∷ held) phase.Ended is tt
@@ -157,7 +157,7 @@ module _ {S : Type 0} (gives : S → Reading → S → Type 0) (from : S) (old :
   }
 
   -- where an LF is held, the line before it is answered
-  pub answers_line : (long : Bool) (to : S) (mid : BufferView) (len : ℕ) → Gathers gives from old long to mid → IsCutAt mid.held len → Answers gives from old (answer_of long (take len mid.held)) to (record mid { held = drop (len + 1) mid.held })
+  pub answers_line : (long : Bool) (to : S) (mid : BufferView) (len : ℕ) → Gathers gives from old long to mid → IsCutAt mid.held len → AnswersOpen gives from old (answer_of long (take len mid.held)) to (record mid { held = drop (len + 1) mid.held })
   answers_line long to mid len g at =
       let r = g.reached in
       let line = r.dropped ++ take len mid.held in
@@ -174,7 +174,7 @@ module _ {S : Type 0} (gives : S → Reading → S → Type 0) (from : S) (old :
         given = line ∷ [];
         shows = shows_line long r.dropped (take len mid.held) mid.phase r.is_dropped (rw g.still_open tt);
         cuts =
-            let begins : Begins (old.held ++ bytes_of r.log) (line ∷ []) rest = record {
+            let begins : BeginsText (old.held ++ bytes_of r.log) (line ∷ []) rest = record {
               lines = λ later. rw (text, append_assoc line (10 ∷ rest) later) (lines_of-line line (rest ++ later) uncut);
               whole_lines = λ later. rw (text, append_assoc line (10 ∷ rest) later) (whole_lines_of-line line (rest ++ later) uncut);
             } in
@@ -183,7 +183,7 @@ module _ {S : Type 0} (gives : S → Reading → S → Type 0) (from : S) (old :
       }
 
   -- at the end of the input, what is held is answered, unless there is nothing
-  pub answers_rest : (long : Bool) (to after : S) (mid new : BufferView) → Gathers gives from old long to mid → has_lf mid.held ≡ false → Fills gives to mid after new → new.phase ≡ phase.Ended → Answers gives from old (last_of long new.held) after (record new { held = [] })
+  pub answers_rest : (long : Bool) (to after : S) (mid new : BufferView) → Gathers gives from old long to mid → has_lf mid.held ≡ false → Fills gives to mid after new → new.phase ≡ phase.Ended → AnswersOpen gives from old (last_of long new.held) after (record new { held = [] })
   answers_rest long to after mid new g none f ended =
       let r = reaches_more long to after mid new g.reached f in
       let same : new.held ≡ mid.held = f.closed (λ e. absurd (let no : phase.Ended ≡ phase.Open → ⊥ = λ same. cc in no (sym ended ∙ e))) in
@@ -201,7 +201,7 @@ module _ {S : Type 0} (gives : S → Reading → S → Type 0) (from : S) (old :
       }
 
   -- at a fault nothing more is answered
-  pub answers_fault : (long : Bool) (to after : S) (mid new : BufferView) (fault : LineFault) → Gathers gives from old long to mid → has_lf mid.held ≡ false → Fills gives to mid after new → new.phase ≡ phase.Faulted fault → Answers gives from old (next.Fault fault) after new
+  pub answers_fault : (long : Bool) (to after : S) (mid new : BufferView) (fault : LineFault) → Gathers gives from old long to mid → has_lf mid.held ≡ false → Fills gives to mid after new → new.phase ≡ phase.Faulted fault → AnswersOpen gives from old (next.Fault fault) after new
   answers_fault long to after mid new fault g none f faulted =
       let r = reaches_more long to after mid new g.reached f in
       let same : new.held ≡ mid.held = f.closed (λ e. absurd (let no : phase.Faulted fault ≡ phase.Open → ⊥ = λ same. cc in no (sym faulted ∙ e))) in

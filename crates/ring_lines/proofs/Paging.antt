@@ -1,7 +1,7 @@
 -- What is put on a page, and what is written of it.
 use Rattle.std.proofs.Common.{◌≡◌, ◌≤◌, ℕ, List, ◌++◌, ◌∷◌, [], length, take, refl, ap, sym, ◌∙◌, arith, length-append}
 use Rattle.std.proofs.lemmas.List.{take_at}
-use Rattle.ring_lines.specs.Ends.{Writing, Calls, bytes_of, Wrote, WroteFront}
+use Rattle.ring_lines.specs.Ends.{Writing, CallsLead, bytes_of, Wrote, WroteFront}
 use Rattle.ring_lines.specs.Page.{PageView, PageTakes}
 use Rattle.ring_lines.proofs.Calling.{Calls-add}
 use Rattle.ring_lines.specs.Sequences.{wrote_none}
@@ -10,7 +10,7 @@ use Rattle.ring_lines.specs.Pages.{Passes}
 use Rattle.ring_grammar.specs.Appending.{AppendsFront}
 
 -- the calls add their bytes to the text on a page
-page_text : (from : PageView) (log : List Writing) (to : PageView) → Calls PageTakes from log to → to.text ≡ from.text ++ bytes_of log
+page_text : (from : PageView) (log : List Writing) (to : PageView) → CallsLead PageTakes from log to → to.text ≡ from.text ++ bytes_of log
 page_text = Calls-add PageTakes (λ page. page.text) (λ from answer to takes. takes.text)
 
 -- what was put on a page stands behind its text

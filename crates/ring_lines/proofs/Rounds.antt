@@ -2,9 +2,9 @@
 use Rattle.std.proofs.Common.{◌≡◌, ◌||◌, ℕ, Bool, true, false, List, [], ◌∷◌, ◌++◌, length, Ok, Err, refl, ap, sym, ◌∙◌, subst, arith, append-nil, append_assoc, inl, inr}
 use Rattle.std.specs.List.{list_all, list_any}
 use Rattle.std.proofs.lemmas.List.Folds.{list_any-append}
-use Rattle.ring_lines.specs.Ends.{Calls, Reading, Writing, bytes_in, bytes_of, goes_on, LastOf, Wrote}
+use Rattle.ring_lines.specs.Ends.{CallsLead, Reading, Writing, bytes_in, bytes_of, goes_on, LastOf, Wrote}
 use Rattle.ring_lines.specs.Lines.{has_lf, whole_lines_of}
-use Rattle.ring_lines.specs.Reader.{Begins, Cuts, Stops, Waits}
+use Rattle.ring_lines.specs.Reader.{BeginsText, CutsLines, Stops, Waits}
 use Rattle.ring_lines.specs.Rounds.{AreFirst, AreInTurn, MayRead, Round, Rounds, RunOf, calls_of, is_end, lines_owed, read_in, text_of, written_in}
 use Rattle.ring_lines.specs.Sequences.{bytes_of-append, wrote_none, wrote_then}
 use Rattle.ring_lines.specs.declared.answers.LineFault.TheVariants as fault
@@ -56,7 +56,7 @@ module _ {S V : Type 0} (reading : S → Reading → S → Type 0) (writing : V 
   rounds-add_text text (round ∷ earlier) reader_now out writer_now made wrote still = (made.0, made.1, made.2, made.3, wrote_then made.4 wrote)
 
   -- more read calls were made after rounds
-  pub rounds-add_calls : (rounds : List Round) (log : List Reading) (mid after : S) (out : V) → Rounds reading writing reader writer rounds mid out → Calls reading mid log after → Rounds reading writing reader writer (add_calls rounds log) after out
+  pub rounds-add_calls : (rounds : List Round) (log : List Reading) (mid after : S) (out : V) → Rounds reading writing reader writer rounds mid out → CallsLead reading mid log after → Rounds reading writing reader writer (add_calls rounds log) after out
   rounds-add_calls rounds [] mid after out made calls = subst (λ (s : S). Rounds reading writing reader writer rounds s out) (sym calls) made
   rounds-add_calls rounds (call ∷ log) mid after out made calls =
       rounds-add_calls (silent call ∷ rounds) log calls.0 after out (mid, out, made, calls.1, wrote_none writing out) calls.2
@@ -83,7 +83,7 @@ module _ {B : Type 0} (spelling : B → List ℕ) where
   )
 
   -- read calls that wait for a line are in turn, where all answers are written before them
-  pub in_turn_more : (given : List B) (rounds : List Round) (lines : List (List ℕ)) (rest : List ℕ) (log : List Reading) → AreInTurn spelling given rounds → (has_lf rest ≡ false → written_in rounds ≡ text_of spelling given) → length given ≡ length lines → list_all goes_on (calls_of rounds) ≡ true → Begins (read_in rounds) lines rest → Waits rest log → AreInTurn spelling given (add_calls rounds log)
+  pub in_turn_more : (given : List B) (rounds : List Round) (lines : List (List ℕ)) (rest : List ℕ) (log : List Reading) → AreInTurn spelling given rounds → (has_lf rest ≡ false → written_in rounds ≡ text_of spelling given) → length given ≡ length lines → list_all goes_on (calls_of rounds) ≡ true → BeginsText (read_in rounds) lines rest → Waits rest log → AreInTurn spelling given (add_calls rounds log)
   in_turn_more given rounds lines rest [] in_turn written counted on begins waits = in_turn
   in_turn_more given rounds lines rest (call ∷ log) in_turn written counted on begins waits =
       let now : List Round = silent call ∷ rounds in
@@ -101,7 +101,7 @@ module _ {B : Type 0} (spelling : B → List ℕ) where
             let all : list_all goes_on (calls_of now) ≡ true = went_on-append (calls_of rounds) (call ∷ []) on (rw goes refl) in
             let text : read_in now ≡ read_in rounds ++ bytes_in call = bytes_of-append (calls_of rounds) (call ∷ []) ∙ ap (λ (bytes : List ℕ). read_in rounds ++ bytes) (append-nil (bytes_in call)) in
             in_turn_more given now lines (rest ++ bytes_in call) log (may, in_turn) (λ _. append-nil (written_in rounds) ∙ written waits.0) counted all
-            (subst (λ (bytes : List ℕ). Begins bytes lines (rest ++ bytes_in call)) (sym text) (begins_more (read_in rounds) (bytes_in call) lines rest begins)) waits.2
+            (subst (λ (bytes : List ℕ). BeginsText bytes lines (rest ++ bytes_in call)) (sym text) (begins_more (read_in rounds) (bytes_in call) lines rest begins)) waits.2
       ]
 
 module _ {A B : Type 0} (answers : List ℕ → A → B → A → Type 0) where
@@ -137,7 +137,7 @@ last_end : (log : List Reading) (last : Reading) → LastOf log last → list_an
 last_end log last ends = ap (list_any is_end) ends.whole ∙ list_any-append is_end ends.before (last ∷ []) ∙ ap (λ (b : Bool). b || list_any is_end (last ∷ [])) (no_end ends.before ends.went_on) ∙ or-false (is_end last)
 
 -- the lines that were given are the first of those that are owed an answer
-pub owed_first : (after : Phase) (log : List Reading) (reads : ℕ) (lines : List (List ℕ)) (rest : List ℕ) → Stops after log reads → Cuts after (bytes_of log) lines rest → AreFirst lines (lines_owed log)
+pub owed_first : (after : Phase) (log : List Reading) (reads : ℕ) (lines : List (List ℕ)) (rest : List ℕ) → Stops after log reads → CutsLines after (bytes_of log) lines rest → AreFirst lines (lines_owed log)
 owed_first phase.Open log reads lines rest stops cuts = record {
   others = whole_lines_of rest;
   whole = rw (no_end log stops) (ap (λ (held : List ℕ). lines ++ whole_lines_of held) (sym (append-nil rest)) ∙ sym (cuts.whole_lines []) ∙ ap whole_lines_of (append-nil (bytes_of log)));

@@ -1,7 +1,7 @@
 -- Texts written one after another.
 use Rattle.std.proofs.Common.{◌≡◌, ◌<◌, ℕ, length, List, [], ◌∷◌, ◌++◌, take, drop, Result, Ok, Err, refl, ap, sym, ◌∙◌, append_assoc, append-nil}
 use Rattle.std.proofs.lemmas.List.{take-append-drop}
-use Rattle.ring_lines.specs.Ends.{Writing, writing, Calls, bytes_in, bytes_of, Wrote, WroteFront}
+use Rattle.ring_lines.specs.Ends.{Writing, writing, CallsLead, bytes_in, bytes_of, Wrote, WroteFront}
 use Rattle.std.specs.Prelude.{OnErr, OnOk}
 use Rattle.std.specs.Result.{result_unwrap_or}
 use Rattle.ring_lines.specs.declared.ends.WriteFailed.{WriteFailed}
@@ -10,7 +10,7 @@ use Rattle.ring_lines.specs.Sequences.{Calls-append, bytes_of-append}
 -- The calls so far took a front of a text, and this rest of it is left.
 pub record Puts {S : Type 0} (gives : S → Writing → S → Type 0) (from : S) (text : List ℕ) (to : S) (rest : List ℕ) : Type 0 where
   pub log : List Writing
-  pub calls : Calls gives from log to
+  pub calls : CallsLead gives from log to
   pub whole : bytes_of log ++ rest ≡ text
 
 -- what a call took, and what it left

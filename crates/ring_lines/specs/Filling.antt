@@ -1,6 +1,6 @@
 -- What the steps inside a call of `next` do.
 use Rattle.std.specs.Prelude.{◌≡◌, ℕ, ◌+◌, ◌*◌, ◌<◌, ◌≤◌, Bool, false, ◌||◌, List, [], ◌∷◌, ◌++◌, length, take, drop, nat_lt, Option, Some, None, Result, Ok, Err, ◌==◌, if◌then◌else◌}
-use Rattle.ring_lines.specs.Ends.{Reading, Calls, bytes_of}
+use Rattle.ring_lines.specs.Ends.{Reading, CallsLead, bytes_of}
 use Rattle.ring_lines.specs.Lines.{has_lf}
 use Rattle.ring_lines.specs.Buffer.{BufferView}
 use Rattle.ring_lines.specs.Reader.{Stops}
@@ -41,7 +41,7 @@ phase_of (Err read_fault.Failed) = phase.Faulted fault.Read
 -- One read call, or none where none is left.
 pub record Fills {S : Type 0} (gives : S → Reading → S → Type 0) (from : S) (old : BufferView) (to : S) (new : BufferView) : Type 0 where
   pub log : List Reading
-  pub calls : Calls gives from log to
+  pub calls : CallsLead gives from log to
   pub once : length log ≤ 1
   pub reads : length log + new.reads ≡ old.reads
   pub stops : Stops new.phase log new.reads

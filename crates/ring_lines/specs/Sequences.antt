@@ -2,12 +2,12 @@
 use Rattle.std.proofs.Common.{◌≡◌, ℕ, length-append, arith, List, [], ◌∷◌, ◌++◌, Result, refl, ap, sym, ◌∙◌, subst, append_assoc, append-nil}
 use Rattle.std.proofs.lemmas.List.Concat.{flat_map-append}
 use Rattle.ring_grammar.specs.Sinks.{IsSequence}
-use Rattle.ring_lines.specs.Ends.{Writing, Calls, bytes_in, bytes_of, Wrote, WroteFront}
+use Rattle.ring_lines.specs.Ends.{Writing, CallsLead, bytes_in, bytes_of, Wrote, WroteFront}
 use Rattle.ring_lines.specs.Pages.{Passes}
 
 -- calls, and then more calls
-pub Calls-append : {S A : Type 0} (gives : S → A → S → Type 0) (from mid to : S) (first second : List A) → Calls gives from first mid → Calls gives mid second to → Calls gives from (first ++ second) to
-Calls-append gives from mid to [] second a b = subst (λ s. Calls gives s second to) a b
+pub Calls-append : {S A : Type 0} (gives : S → A → S → Type 0) (from mid to : S) (first second : List A) → CallsLead gives from first mid → CallsLead gives mid second to → CallsLead gives from (first ++ second) to
+Calls-append gives from mid to [] second a b = subst (λ s. CallsLead gives s second to) a b
 Calls-append gives from mid to (answer ∷ first) second a b = (a.0, a.1, Calls-append gives a.0 mid to first second a.2 b)
 
 -- the bytes of two lists of calls

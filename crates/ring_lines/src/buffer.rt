@@ -37,7 +37,7 @@ impl Model for LineBuffer {
 impl LineBuffer {
     ghost use Rattle.ring_lines.specs.Filling.{Fills, FindsLine, answer_of, last_of};
     ghost use Rattle.ring_lines.specs.Lines.{has_lf};
-    ghost use Rattle.ring_lines.specs.Reader.{Answers, GivesNext};
+    ghost use Rattle.ring_lines.specs.Reader.{AnswersOpen, GivesNext};
     ghost use Rattle.ring_lines.specs.declared.answers.Phase.TheVariants as phase;
 
     /// An empty buffer for lines that may make so many read calls.
@@ -78,7 +78,7 @@ impl LineBuffer {
     // Reads on until a line is held whole, the input ends, or a fault comes.
     fn gather<R: Intake>(&mut self, reader: &mut R) -> Next
         requires { self.old.phase ≡ phase.Open }
-        ensures { Answers R.read_gives reader.old self.old result reader.new self.new }
+        ensures { AnswersOpen R.read_gives reader.old self.old result reader.new self.new }
     {
         let mut long = false;
         loop {

@@ -21,7 +21,7 @@ use Rattle.ring_terms.specs.Commands.{Answers, Creates, Joins, Leaves, StartsWit
 use Rattle.ring_terms.specs.Object.{GroupView, InGroup, Object, OfGroup, TermView, find, last_term, new_group, new_term, with_group}
 use Rattle.ring_mux.specs.Journeys.{begun_of}
 use Rattle.ring_mux.specs.Views.{IsHeld, IsWorldOf, world_in}
-use Rattle.ring_mux.specs.WorldSteps.{Begins}
+use Rattle.ring_mux.specs.WorldSteps.{BeginsWorld}
 
 -- two names that are equal as bytes are one
 pub same_name : (name other : List ℕ) → bytes_eq name other ≡ true → name ≡ other
@@ -182,7 +182,7 @@ running_started name charter old new starts =
 pub begins : {E M : Type 0} (object : Object E) (worlds : List (List ℕ × Running E M)) (name : List ℕ) (planned started : Charter E) (world : Running E M) (after : Object E) (worlds_after : List (List ℕ × Running E M)) →
     OfGroup name (λ g. planned ≡ next_charter name g) object → InGroup name (StartsWith name started) object after →
     world ≡ begun_of planned → ((other : List ℕ) → world_in other worlds_after ≡ cond (bytes_eq name other) (Some world) (world_in other worlds)) →
-    Begins name (record { object = object; worlds = worlds }) (record { object = after; worlds = worlds_after })
+    BeginsWorld name (record { object = object; worlds = worlds }) (record { object = after; worlds = worlds_after })
 begins {E} {M} object worlds name planned started world after worlds_after plans starts made updates =
     let one : plans.group ≡ starts.before = same_Some plans.group starts.before (sym plans.found ∙ starts.found) in
     let same : planned ≡ started = plans.says ∙ ap (next_charter name) one ∙ sym starts.does.chartered in

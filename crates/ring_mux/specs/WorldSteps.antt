@@ -25,14 +25,14 @@ use Rattle.ring_mux.specs.Steps.{Step}
 use Rattle.ring_mux.specs.Views.{Held, IsPendingIn, world_in}
 
 -- the world of the term that a group has started, before any delivery and any cut; every other group's stays
-pub record Begins {E M : Type 0} (name : List ℕ) (old new : Held E M) : Type 0 where
+pub record BeginsWorld {E M : Type 0} (name : List ℕ) (old new : Held E M) : Type 0 where
   pub charter : Charter E
   pub started : OfGroup name (λ group. running_charter name group ≡ Some charter) new.object
   pub worlds : (other : List ℕ) → world_in other new.worlds ≡ cond (bytes_eq name other) (Some (begun_of charter)) (world_in other old.worlds)
 
 -- start: a term that is answered has its new world
 abbrev pub StartOfWorlds : {E M : Type 0} → List ℕ → Held E M → Reply → Held E M → Type 0
-StartOfWorlds name old (reply.Term term) new = Begins name old new
+StartOfWorlds name old (reply.Term term) new = BeginsWorld name old new
 StartOfWorlds name old other new = new.worlds ≡ old.worlds
 
 -- a command of a client

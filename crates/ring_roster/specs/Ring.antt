@@ -6,7 +6,7 @@ use Rattle.ring_id.specs.declared.refusal.Refusal.TheVariants as refused
 use Rattle.ring_id.specs.declared.side.Side.{Side}
 use Rattle.ring_id.specs.declared.side.Side.TheVariants.{Left, Right}
 use Rattle.ring_id.specs.Identity.{number_of}
-use Rattle.ring_id.specs.Refusals.{first_of}
+use Rattle.ring_id.specs.Refusals.{refused_if}
 
 -- whether the member has this number
 abbrev pub is_numbered : ℕ → ℕ → Bool
@@ -34,9 +34,9 @@ pub record IsRing (ring : List ℕ) : Type 0 where
 -- the first reason why these identities are no ring
 abbrev pub ring_refusal : List ℕ → Option Refusal
 ring_refusal members =
-    first_of (length members == 0) refused.Empty
-    (first_of (nat_lt 256 (length members)) refused.RingFull
-    (first_of (has_repeat members) refused.Member None))
+    refused_if (length members == 0) refused.Empty
+    (refused_if (nat_lt 256 (length members)) refused.RingFull
+    (refused_if (has_repeat members) refused.Member None))
 
 -- in a ring of n, the next position; right of the last is the first
 abbrev pub right_of : ℕ → ℕ → ℕ

@@ -6,7 +6,7 @@ use Rattle.ring_any.specs.declared.any.Any.{Any}
 use Rattle.ring_mux.specs.declared.event.Command.{Command}
 use Rattle.ring_mux.specs.declared.event.Event.TheVariants.{Client}
 use Rattle.ring_grammar.specs.Spelling.{Spells}
-use Rattle.ring_service.specs.Accesses.{Answers}
+use Rattle.ring_service.specs.Accesses.{AnswersAtSeat}
 use Rattle.ring_service.specs.Places.{PlacesIn}
 use Rattle.ring_service.specs.declared.access.Answer.{Answer}
 use Rattle.ring_service.specs.declared.access.Answer.TheVariants.{Placed, Unplaced}
@@ -16,7 +16,7 @@ use Rattle.ring_service.proofs.Replying.{answers_line, long_line, unread_line}
 
 -- a line that spells a command is answered by what the access answers to it
 pub places_line : (session : ℕ) (line : List ℕ) (command : Command Any) (mine : List (Entry Any)) (answer : Answer) (now : List (Entry Any)) →
-    Spells line (Client command) → Answers any_two_way any_greatest session command mine answer now → PlacesIn session line mine answer now
+    Spells line (Client command) → AnswersAtSeat any_two_way any_greatest session command mine answer now → PlacesIn session line mine answer now
 places_line session line command mine (Placed reply place) now spelled a = (answers_line session line command mine (Placed reply place) now spelled a, (Call session command reply, a.1))
 places_line session line command mine (Unplaced refusal) now spelled a = (answers_line session line command mine (Unplaced refusal) now spelled a, a.1)
 

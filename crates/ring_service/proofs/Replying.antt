@@ -10,7 +10,7 @@ use Rattle.ring_mux.specs.declared.reply.Reply.{Reply}
 use Rattle.ring_mux.specs.declared.reply.Reply.TheVariants.{Refused}
 use Rattle.ring_node.specs.declared.charter.Charter.{Charter}
 use Rattle.ring_grammar.specs.Spelling.{Spells}
-use Rattle.ring_service.specs.Accesses.{Answers, Begins, reply_of}
+use Rattle.ring_service.specs.Accesses.{AnswersAtSeat, BeginsAtSeat, reply_of}
 use Rattle.ring_service.specs.Sessions.{AnswersIn}
 use Rattle.ring_service.specs.declared.access.Answer.{Answer}
 use Rattle.ring_service.specs.declared.access.Answer.TheVariants.{Placed, Unplaced}
@@ -20,13 +20,13 @@ use Rattle.ring_service.proofs.Speaking.{step_not}
 
 -- a start, as a call
 pub begins_answers : (session : ℕ) (group : List ℕ) (copies : ℕ) (mine : List (Entry Any)) (answer : Answer) (charters : List (Charter Any)) (now : List (Entry Any)) →
-    Begins any_two_way any_greatest session group copies mine answer charters now → Answers any_two_way any_greatest session (Start group) mine answer now
+    BeginsAtSeat any_two_way any_greatest session group copies mine answer charters now → AnswersAtSeat any_two_way any_greatest session (Start group) mine answer now
 begins_answers session group copies mine (Placed reply place) charters now b = (record { old = b.0.old; new = b.0.new; call = b.0.call }, b.1)
 begins_answers session group copies mine (Unplaced refusal) charters now b = (b.0, b.2)
 
 -- a line that spells a command is answered by what the access answers to it
 pub answers_line : (session : ℕ) (line : List ℕ) (command : Command Any) (mine : List (Entry Any)) (answer : Answer) (now : List (Entry Any)) →
-    Spells line (Client command) → Answers any_two_way any_greatest session command mine answer now → AnswersIn session line mine (reply_of answer) now
+    Spells line (Client command) → AnswersAtSeat any_two_way any_greatest session command mine answer now → AnswersIn session line mine (reply_of answer) now
 answers_line session line command mine (Placed reply place) now spelled a = (
   Call session command reply ∷ [],
   inl (record {

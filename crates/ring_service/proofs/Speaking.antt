@@ -4,7 +4,7 @@ use Rattle.std.specs.Prelude.{is_some, nat_le, not, ◌==◌}
 use Rattle.std.specs.List.{list_any}
 use Rattle.ring_id.specs.declared.refusal.Refusal.{Refusal}
 use Rattle.ring_id.specs.declared.refusal.Refusal.TheVariants as refused
-use Rattle.ring_id.specs.Refusals.{IsRefusal, first_of, unless_some}
+use Rattle.ring_id.specs.Refusals.{IsRefusal, refused_if, unless_some}
 use Rattle.ring_roster.specs.Ring.{has_number, is_numbered, position_of}
 use Rattle.ring_terms.specs.Commands.{create_refusal, in_group, join_refusal, leave_refusal, member_refusal, never_refused, start_refusal, who_refusal}
 use Rattle.ring_terms.specs.Object.{GroupView, Object, find, last_term}
@@ -25,7 +25,7 @@ nothing = record { never = λ grows is. let memory : refused.BadLine ≡ refused
 just : (refusal : Refusal) → (refused.BadLine ≡ refusal → ⊥) → IsNoBadLine (Some refusal)
 just refusal other = record { never = λ grows is. other is }
 
-first : (test : Bool) (refusal : Refusal) (rest : Option Refusal) → (refused.BadLine ≡ refusal → ⊥) → IsNoBadLine rest → IsNoBadLine (first_of test refusal rest)
+first : (test : Bool) (refusal : Refusal) (rest : Option Refusal) → (refused.BadLine ≡ refusal → ⊥) → IsNoBadLine rest → IsNoBadLine (refused_if test refusal rest)
 first true refusal rest other not = just refusal other
 first false refusal rest other not = not
 

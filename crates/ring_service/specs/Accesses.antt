@@ -41,9 +41,9 @@ pub record HasStep {E : Type 0} (two_way greatest : E → Bool) (command : Comma
 
 -- A call, given the seat's own entries before it and after it. Placed: the reply is a step's, and the
 -- call with its reply is the one entry that was added. Unplaced: nothing was added.
-abbrev pub Answers : {E : Type 0} → (E → Bool) → (E → Bool) → ℕ → Command E → List (Entry E) → Answer → List (Entry E) → Type 0
-Answers two_way greatest session command mine (Placed answer place) now = HasStep two_way greatest command answer × (now ≡ mine ++ Call session command answer ∷ [])
-Answers two_way greatest session command mine (Unplaced refusal) now = LeavesOut refusal × (now ≡ mine)
+abbrev pub AnswersAtSeat : {E : Type 0} → (E → Bool) → (E → Bool) → ℕ → Command E → List (Entry E) → Answer → List (Entry E) → Type 0
+AnswersAtSeat two_way greatest session command mine (Placed answer place) now = HasStep two_way greatest command answer × (now ≡ mine ++ Call session command answer ∷ [])
+AnswersAtSeat two_way greatest session command mine (Unplaced refusal) now = LeavesOut refusal × (now ≡ mine)
 
 -- Some book took this start with this reply as a step, and the charters are those that go with it.
 pub record HasStarted {E : Type 0} (two_way greatest : E → Bool) (group : List ℕ) (copies : ℕ) (answer : Reply) (charters : List (Charter E)) : Type 0 where
@@ -53,9 +53,9 @@ pub record HasStarted {E : Type 0} (two_way greatest : E → Bool) (group : List
   pub hands : GivesCharters group copies answer charters new
 
 -- a start, in the same way; one that is unplaced has no charters
-abbrev pub Begins : {E : Type 0} → (E → Bool) → (E → Bool) → ℕ → List ℕ → ℕ → List (Entry E) → Answer → List (Charter E) → List (Entry E) → Type 0
-Begins two_way greatest session group copies mine (Placed answer place) charters now = HasStarted two_way greatest group copies answer charters × (now ≡ mine ++ Call session (Start group) answer ∷ [])
-Begins two_way greatest session group copies mine (Unplaced refusal) charters now = LeavesOut refusal × (charters ≡ []) × (now ≡ mine)
+abbrev pub BeginsAtSeat : {E : Type 0} → (E → Bool) → (E → Bool) → ℕ → List ℕ → ℕ → List (Entry E) → Answer → List (Charter E) → List (Entry E) → Type 0
+BeginsAtSeat two_way greatest session group copies mine (Placed answer place) charters now = HasStarted two_way greatest group copies answer charters × (now ≡ mine ++ Call session (Start group) answer ∷ [])
+BeginsAtSeat two_way greatest session group copies mine (Unplaced refusal) charters now = LeavesOut refusal × (charters ≡ []) × (now ≡ mine)
 
 -- A report that some book noted: what became of it is the answer, and its filing is the one entry that
 -- was added.

@@ -37,7 +37,7 @@ impl Answer {
 pub trait Access<E: RingElection> {
     ghost use Rattle.std.specs.Prelude.{List, map};
     ghost use Rattle.ring_mux.specs.declared.event.Command.{Command};
-    ghost use Rattle.ring_service.specs.Accesses.{Answers, Begins, Reports};
+    ghost use Rattle.ring_service.specs.Accesses.{AnswersAtSeat, BeginsAtSeat, Reports};
     ghost use Rattle.ring_service.specs.declared.entry.Entry.{Entry};
 
     /// What a caller holds to make calls.
@@ -60,7 +60,7 @@ pub trait Access<E: RingElection> {
     ) -> Answer
         requires { has_seat self.now seat.old }
         ensures seat { has_seat self.now seat.new }
-        ensures entry { Answers E.is_two_way E.is_greatest session command (mine seat.old) result (mine seat.new) };
+        ensures entry { AnswersAtSeat E.is_two_way E.is_greatest session command (mine seat.old) result (mine seat.new) };
 
     /// A start, with so many copies of the new term's charter. Where no term was started there are
     /// none.
@@ -74,7 +74,7 @@ pub trait Access<E: RingElection> {
     ) -> (Answer, Vec<Arc<Charter<E>>>)
         requires { has_seat self.now seat.old }
         ensures seat { has_seat self.now seat.new }
-        ensures entry { Begins E.is_two_way E.is_greatest session group copies (mine seat.old) result.0 (map (λ charter. charter.value) result.1.items) (mine seat.new) };
+        ensures entry { BeginsAtSeat E.is_two_way E.is_greatest session group copies (mine seat.old) result.0 (map (λ charter. charter.value) result.1.items) (mine seat.new) };
 
     /// Files a report. What became of it is the answer, and the one entry that the seat gains; where
     /// it was refused, the seat gains none.

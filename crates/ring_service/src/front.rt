@@ -1,7 +1,7 @@
 ghost use Rattle.std.specs.Prelude.{◌≡◌};
 ghost use Rattle.ring_any.specs.Any.{any_greatest, any_two_way};
 ghost use Rattle.ring_mux.specs.declared.event.Command.TheVariants as command;
-ghost use Rattle.ring_service.specs.Accesses.{Answers};
+ghost use Rattle.ring_service.specs.Accesses.{AnswersAtSeat};
 ghost use Rattle.ring_service.specs.Places.{ServesPlaced};
 ghost use Rattle.ring_service.specs.Sessions.{Serves};
 
@@ -129,7 +129,7 @@ impl<A: Access<Any> + Drop> Front<A> {
     ) -> Answer
         requires { A.has_seat self.now seat.old }
         ensures seat { A.has_seat self.now seat.new }
-        ensures entry { Answers any_two_way any_greatest session command (A.mine seat.old) result (A.mine seat.new) }
+        ensures entry { AnswersAtSeat any_two_way any_greatest session command (A.mine seat.old) result (A.mine seat.new) }
     {
         match command {
             Command::Start(group) => self.begin(rt, seat, session, group),
@@ -146,7 +146,7 @@ impl<A: Access<Any> + Drop> Front<A> {
     fn begin<R: Wait>(&self, rt: &R, seat: &mut A::Seat, session: u32, group: GroupName) -> Answer
         requires { A.has_seat self.now seat.old }
         ensures seat { A.has_seat self.now seat.new }
-        ensures entry { Answers any_two_way any_greatest session (command.Start group) (A.mine seat.old) result (A.mine seat.new) }
+        ensures entry { AnswersAtSeat any_two_way any_greatest session (command.Start group) (A.mine seat.old) result (A.mine seat.new) }
     {
         let mut posts = self.posts.lock(rt);
         posts.try_waiting(rt);

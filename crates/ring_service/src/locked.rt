@@ -1,5 +1,5 @@
 ghost use Rattle.std.specs.Prelude.{◌≡◌, ◌<◌, ◌≤◌, List, [], ◌∷◌, ◌++◌, IfOk, length, map, replicate, vec_capacity, vec_len};
-ghost use Rattle.ring_service.specs.Accesses.{Answers, Begins, Reports};
+ghost use Rattle.ring_service.specs.Accesses.{AnswersAtSeat, BeginsAtSeat, Reports};
 ghost use Rattle.ring_service.specs.Locks.{AddsCall, AddsFiling, AddsStart};
 ghost use Rattle.ring_service.specs.declared.entry.Entry.{Entry};
 
@@ -154,7 +154,7 @@ impl<E: RingElection> Access<E> for LockedTable<E> {
         command: Command<E>,
     ) -> Answer
         ensures seat { Unit {0} }
-        ensures entry { Answers E.is_two_way E.is_greatest session command seat.old result seat.new }
+        ensures entry { AnswersAtSeat E.is_two_way E.is_greatest session command seat.old result seat.new }
     {
         seat.call(&mut self.table.lock(rt), session, command)
     }
@@ -168,7 +168,7 @@ impl<E: RingElection> Access<E> for LockedTable<E> {
         copies: usize,
     ) -> (Answer, Vec<Arc<Charter<E>>>)
         ensures seat { Unit {0} }
-        ensures entry { Begins E.is_two_way E.is_greatest session group copies seat.old result.0 (map (λ charter. charter.value) result.1.items) seat.new }
+        ensures entry { BeginsAtSeat E.is_two_way E.is_greatest session group copies seat.old result.0 (map (λ charter. charter.value) result.1.items) seat.new }
     {
         seat.begin(&mut self.table.lock(rt), session, group, copies)
     }

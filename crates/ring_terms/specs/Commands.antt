@@ -4,7 +4,7 @@ use Rattle.std.specs.Prelude.{◌≡◌, ◌+◌, ◌==◌, ℕ, Bool, not, nat_
 use Rattle.std.specs.List.{list_any}
 use Rattle.ring_id.specs.declared.refusal.Refusal.{Refusal}
 use Rattle.ring_id.specs.declared.refusal.Refusal.TheVariants as refused
-use Rattle.ring_id.specs.Refusals.{first_of, unless_some, IsRefusal}
+use Rattle.ring_id.specs.Refusals.{refused_if, unless_some, IsRefusal}
 use Rattle.ring_roster.specs.Ring.{has_number, is_numbered, position_of}
 use Rattle.ring_node.specs.declared.charter.Charter.{Charter}
 use Rattle.ring_terms.specs.Object.{GroupView, Object, TermView, find, last_term, new_group, new_term}
@@ -28,24 +28,24 @@ in_group name first object = unless_some (find name object) refused.NoGroup firs
 -- create: a group has this name; 256 groups stand
 abbrev pub create_refusal : {E : Type 0} → List ℕ → Object E → Option Refusal
 create_refusal name object =
-    first_of (is_some (find name object)) refused.Exists
-    (first_of (nat_le 256 (length object)) refused.GroupLimit None)
+    refused_if (is_some (find name object)) refused.Exists
+    (refused_if (nat_le 256 (length object)) refused.GroupLimit None)
 
 -- join: its number is a member's, whatever that one weighs; 256 members stand
 abbrev pub join_refusal : {E : Type 0} → ℕ → GroupView E → Option Refusal
 join_refusal node group =
-    first_of (list_any (has_number node) group.members) refused.Member
-    (first_of (nat_le 256 (length group.members)) refused.RingFull None)
+    refused_if (list_any (has_number node) group.members) refused.Member
+    (refused_if (nat_le 256 (length group.members)) refused.RingFull None)
 
 -- leave: the number is no member's
 abbrev pub leave_refusal : {E : Type 0} → ℕ → GroupView E → Option Refusal
-leave_refusal node group = first_of (not (list_any (is_numbered node) group.members)) refused.NotMember None
+leave_refusal node group = refused_if (not (list_any (is_numbered node) group.members)) refused.NotMember None
 
 -- start: no members; 1000 terms were started
 abbrev pub start_refusal : {E : Type 0} → GroupView E → Option Refusal
 start_refusal group =
-    first_of (length group.members == 0) refused.Empty
-    (first_of (nat_le 1000 (length group.terms)) refused.TermLimit None)
+    refused_if (length group.members == 0) refused.Empty
+    (refused_if (nat_le 1000 (length group.terms)) refused.TermLimit None)
 
 -- the number is not in the ring of this term
 abbrev pub member_refusal : ℕ → TermView → Option Refusal

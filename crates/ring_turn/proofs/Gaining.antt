@@ -4,7 +4,7 @@ use Rattle.ring_id.specs.declared.refusal.Refusal.{Refusal}
 use Rattle.ring_node.specs.declared.charter.Charter.{Charter}
 use Rattle.ring_terms.specs.Object.{Object}
 use Rattle.ring_mux.specs.declared.event.Command.{Command}
-use Rattle.ring_service.specs.Accesses.{Answers, Begins, LeavesOut}
+use Rattle.ring_service.specs.Accesses.{AnswersAtSeat, BeginsAtSeat, LeavesOut}
 use Rattle.ring_service.specs.Histories.{Follows, IsEntry}
 use Rattle.ring_service.specs.declared.access.Answer.{Answer}
 use Rattle.ring_service.specs.declared.access.Answer.TheVariants.{Placed, Unplaced}
@@ -37,14 +37,14 @@ none_mine : {E : Type 0} (refusal : Refusal) (v w : SeatView E) → AddsNone ref
 none_mine {E} refusal v w (inl starved) = (inl starved.0, ap (λ (u : SeatView E). u.mine) starved.1.is)
 none_mine {E} refusal v w (inr spent) = (inr spent.0, ap (λ (u : SeatView E). u.mine) spent.1.same)
 
-pub answers_of : {E : Type 0} (two_way greatest : E → Bool) (session : ℕ) (command : Command E) (v : SeatView E) (answer : Answer) (w : SeatView E) → Called two_way greatest session command v answer w → Answers two_way greatest session command v.mine answer w.mine
+pub answers_of : {E : Type 0} (two_way greatest : E → Bool) (session : ℕ) (command : Command E) (v : SeatView E) (answer : Answer) (w : SeatView E) → Called two_way greatest session command v answer w → AnswersAtSeat two_way greatest session command v.mine answer w.mine
 answers_of two_way greatest session command v (Placed answer place) w called =
     let step = turn_step two_way greatest v w _ place called.0 called.1 in
     (record { old = step.0; new = called.0; call = step.1 }, turn_mine two_way greatest v w _ place called.0 called.1)
 answers_of two_way greatest session command v (Unplaced refusal) w called = none_mine refusal v w called
 
 pub begins_of : {E : Type 0} (two_way greatest : E → Bool) (session : ℕ) (group : List ℕ) (copies : ℕ) (v : SeatView E) (answer : Answer) (charters : List (Charter E)) (w : SeatView E) → Begun two_way greatest session group copies v answer charters w
-    → Begins two_way greatest session group copies v.mine answer charters w.mine
+    → BeginsAtSeat two_way greatest session group copies v.mine answer charters w.mine
 begins_of two_way greatest session group copies v (Placed answer place) charters w begun =
     let step = turn_step two_way greatest v w _ place begun.0 begun.1 in
     (record { old = step.0; new = begun.0; call = step.1; hands = begun.2 }, turn_mine two_way greatest v w _ place begun.0 begun.1)

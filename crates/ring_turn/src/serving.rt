@@ -1,6 +1,6 @@
 //! The turn lock as an access to its table.
 ghost use Rattle.std.specs.Prelude.{◌≡◌, map};
-ghost use Rattle.ring_service.specs.Accesses.{Answers, Begins, Reports};
+ghost use Rattle.ring_service.specs.Accesses.{AnswersAtSeat, BeginsAtSeat, Reports};
 
 use crate::lock::TurnLock;
 use crate::seat::Seat;
@@ -21,7 +21,7 @@ impl<E: RingElection> Access<E> for TurnLock<E> {
     fn call<R: Wait>(&self, rt: &R, seat: &mut Seat<E>, session: u32, command: Command<E>) -> Answer
         requires { seat.old.lock ≡ self.now.id }
         ensures seat { seat.new.lock ≡ self.now.id }
-        ensures entry { Answers E.is_two_way E.is_greatest session command seat.old.mine result seat.new.mine }
+        ensures entry { AnswersAtSeat E.is_two_way E.is_greatest session command seat.old.mine result seat.new.mine }
     {
         TurnLock::call(self, rt, seat, session, command)
     }
@@ -36,7 +36,7 @@ impl<E: RingElection> Access<E> for TurnLock<E> {
     ) -> (Answer, Vec<Arc<Charter<E>>>)
         requires { seat.old.lock ≡ self.now.id }
         ensures seat { seat.new.lock ≡ self.now.id }
-        ensures entry { Begins E.is_two_way E.is_greatest session group copies seat.old.mine result.0 (map (λ charter. charter.value) result.1.items) seat.new.mine }
+        ensures entry { BeginsAtSeat E.is_two_way E.is_greatest session group copies seat.old.mine result.0 (map (λ charter. charter.value) result.1.items) seat.new.mine }
     {
         TurnLock::begin(self, rt, seat, session, group, copies)
     }

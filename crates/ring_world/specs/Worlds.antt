@@ -5,7 +5,7 @@ use Rattle.ring_id.specs.declared.refusal.Refusal.{Refusal}
 use Rattle.ring_id.specs.declared.refusal.Refusal.TheVariants as refused
 use Rattle.ring_id.specs.declared.side.Side.{Side}
 use Rattle.ring_id.specs.declared.side.Side.TheVariants.{Left, Right}
-use Rattle.ring_id.specs.Refusals.{IsRefusal, first_of}
+use Rattle.ring_id.specs.Refusals.{IsRefusal, refused_if}
 use Rattle.ring_id.specs.Sides.{other, same_side}
 use Rattle.ring_roster.specs.Ring.{IsRing, neighbour}
 use Rattle.ring_election.specs.Tables.{Table}
@@ -75,7 +75,7 @@ pub record IsUncut {E M : Type 0} (world : Running E M) : Type 0 where
 
 -- nothing arrives from the right under an algorithm that isn't two-way
 abbrev pub link_refusal : Bool → Side → Option Refusal
-link_refusal two_way side = first_of (same_side side Right && not two_way) refused.OneWay None
+link_refusal two_way side = refused_if (same_side side Right && not two_way) refused.OneWay None
 
 -- what `cut` answers, and the world after it
 abbrev pub Cuts : {E M : Type 0} → Bool → Running E M → ℕ → Side → Result (Unit {0}) Refusal → Running E M → Type 0

@@ -1,5 +1,5 @@
 use Rattle.std.proofs.Common.{subst}
-use Rattle.ring_lines.specs.Reader.{Shows}
+use Rattle.ring_lines.specs.Reader.{ShowsLine}
 use Rattle.ring_lines.specs.declared.answers.Next.{Next}
 use Rattle.ring_lines.specs.declared.answers.Next.TheVariants as next
 use Rattle.ring_lines.proofs.AnsweringLines.{Answering, AnsweringNext, Turned, answering_none, answering_over, answering_passed, answers_none, closes_end, closes_fault, fails, fails_line, flushed, next_answer, turned_line, turned_long}
@@ -30,13 +30,13 @@ returns-in_default-write_before_reading-clause-lines g c = fails _ _ _ _ _ _ _ _
 pub returns-in-End-clause-lines : goal.returns-in-End-clause-lines
 returns-in-End-clause-lines g c =
     let n = come g (goal.at.returns-in-End-clause-lines g c).After-next in
-    let shows : Shows next.End n.come c.next.new.self.phase = subst (λ (said : Next). Shows said n.come c.next.new.self.phase) c.in-End.is n.shows in
+    let shows : ShowsLine next.End n.come c.next.new.self.phase = subst (λ (said : Next). ShowsLine said n.come c.next.new.self.phase) c.in-End.is n.shows in
     closes_end _ _ _ _ _ _ _ _ _ _ _ _ _ _ _ (answering_over _ _ _ _ _ _ _ _ _ _ _ _ _ _ _ _ n shows.0) _ _ shows.1 c.close.ensures.closes c.close.ensures.still
 
 pub returns-in-Fault-clause-lines : goal.returns-in-Fault-clause-lines
 returns-in-Fault-clause-lines g c =
     let n = come g (goal.at.returns-in-Fault-clause-lines g c).After-next in
-    let shows : Shows (next.Fault c.in-Fault.fault) n.come c.next.new.self.phase = subst (λ (said : Next). Shows said n.come c.next.new.self.phase) c.in-Fault.is n.shows in
+    let shows : ShowsLine (next.Fault c.in-Fault.fault) n.come c.next.new.self.phase = subst (λ (said : Next). ShowsLine said n.come c.next.new.self.phase) c.in-Fault.is n.shows in
     closes_fault _ _ _ _ _ _ _ _ _ _ _ _ _ _ _ (answering_over _ _ _ _ _ _ _ _ _ _ _ _ _ _ _ _ n shows.0) _ _ _ shows.1 c.close-in-Fault.ensures.closes c.close-in-Fault.ensures.still
 
 -- the answer to the line that came
