@@ -8,7 +8,7 @@ use Rattle.ring_id.specs.Sides.{same_side}
 use Rattle.ring_roster.specs.Ring.{neighbour, right_of}
 use Rattle.ring_election.specs.Tables.{Table}
 use Rattle.ring_election.specs.Traces.{sent_after, taken_from}
-use Rattle.ring_election.specs.Families.{AllFit, IsComplete, taken_in_all}
+use Rattle.ring_election.specs.Families.{AllFit, Fitting, IsComplete, taken_in_all}
 use Rattle.ring_election.proofs.Members.{IsIn}
 use Rattle.ring_election.proofs.Rings.{around, left_of-right_of, neighbour-below}
 
