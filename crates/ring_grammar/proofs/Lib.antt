@@ -1,4 +1,5 @@
 mod Cutting
+mod Digits
 mod Identities
 mod Numbers
 mod OneEvent

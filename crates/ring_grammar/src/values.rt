@@ -6,10 +6,11 @@ ghost use Rattle.ring_grammar.specs.Identities.{IsNode, IsNumber, IsWeight, node
 ghost use Rattle.ring_grammar.specs.Spelling.{side_word};
 
 use crate::parts::cut;
-use itoa::Buffer;
 use ring_any::Any;
 use ring_id::{GroupName, NodeId, NodeNo, Side};
-use std::str;
+
+/// The greatest number of digits of a number of 32 bits.
+const MOST_DIGITS: usize = 10;
 
 /// The greatest number of deliveries that a line can ask for.
 const MOST_DELIVERIES: u32 = 1_000_000_000;
@@ -18,16 +19,23 @@ const MOST_DELIVERIES: u32 = 1_000_000_000;
 fn number(text: &[u8]) -> Option<u32>
     ensures { Reads decimal IsShortNumber text.now result }
 {
-    let Ok(digits) = str::from_utf8(text) else {
-        return None;
-    };
-    let Ok(number) = digits.parse::<u32>() else {
-        return None;
-    };
-    if Buffer::new().format(number).as_bytes() != text {
+    if text.is_empty() || text.len() > MOST_DIGITS {
         return None;
     }
-    Some(number)
+    if text.len() > 1 && text[0] == b'0' {
+        return None;
+    }
+    let mut value: u64 = 0;
+    for byte in text {
+        if *byte < b'0' || *byte > b'9' {
+            return None;
+        }
+        value = value * 10 + (*byte - b'0') as u64;
+    }
+    if value > u32::MAX as u64 {
+        return None;
+    }
+    Some(value as u32)
 }
 
 /// The number of a node that this word spells.

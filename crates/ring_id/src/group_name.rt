@@ -79,7 +79,8 @@ impl PartialEq for GroupName {
     ghost laws = { partial_equiv_from_equiv nat_list_eq_equiv };
 
     fn eq(&self, other: &GroupName) -> bool {
-        self.bytes() == other.bytes()
+        // the zeros behind a name say its length, so all of it is compared, in two words
+        self.bytes == other.bytes
     }
 }
 
@@ -93,12 +94,13 @@ impl Hash for GroupName {
     ghost use Rattle.std.specs.Prelude.{List, ℕ, ◌∷◌, []};
     ghost use Rattle.std.proofs.Common.{ap};
     ghost use Rattle.std.proofs.lemmas.Slice.Eq.{bytes_eq-Decides};
+    ghost use Rattle.ring_id.specs.GroupName.{padded};
 
-    ghost hash_input = { λ name. name ∷ [] };
+    ghost hash_input = { λ name. padded name ∷ [] };
 
-    ghost respects_eq = { λ x y h. ap (λ (b : List ℕ). b ∷ []) ((bytes_eq-Decides x y).0 h) };
+    ghost respects_eq = { λ x y h. ap (λ (b : List ℕ). padded b ∷ []) ((bytes_eq-Decides x y).0 h) };
 
     fn hash<H: Hasher>(&self, state: &mut H) {
-        state.write(self.bytes());
+        state.write(&self.bytes);
     }
 }

@@ -1,21 +1,16 @@
 -- What is put on a page, and what is written of it.
-use Rattle.std.proofs.Common.{◌≡◌, ◌≤◌, ℕ, List, ◌++◌, ◌∷◌, [], length, take, refl, ap, sym, ◌∙◌, arith, length-append}
+use Rattle.std.proofs.Common.{◌≡◌, ◌≤◌, ℕ, List, ◌++◌, ◌∷◌, [], length, take, refl, arith, length-append}
 use Rattle.std.proofs.lemmas.List.{take_at}
 use Rattle.ring_lines.specs.Ends.{Writing, CallsLead, bytes_of, Wrote, WroteFront}
 use Rattle.ring_lines.specs.Page.{PageView, PageTakes}
 use Rattle.ring_lines.proofs.Calling.{Calls-add}
 use Rattle.ring_lines.specs.Sequences.{wrote_none}
-use Rattle.ring_lines.proofs.Writing.{bytes_before}
 use Rattle.ring_lines.specs.Pages.{Passes}
 use Rattle.ring_grammar.specs.Appending.{AppendsFront}
 
 -- the calls add their bytes to the text on a page
 page_text : (from : PageView) (log : List Writing) (to : PageView) → CallsLead PageTakes from log to → to.text ≡ from.text ++ bytes_of log
 page_text = Calls-add PageTakes (λ page. page.text) (λ from answer to takes. takes.text)
-
--- what was put on a page stands behind its text
-pub text-wrote : (from to : PageView) (text : List ℕ) → Wrote PageTakes from text to → to.text ≡ from.text ++ text
-text-wrote from to text w = page_text from w.log to w.calls ∙ ap (λ (more : List ℕ). from.text ++ more) w.taken
 
 -- what was put on it in part can be cut off again
 pub take-wrote_front : (from to : PageView) (text : List ℕ) → WroteFront PageTakes from text to → take (length from.text) to.text ≡ from.text
@@ -24,15 +19,6 @@ take-wrote_front from to text w = rw (page_text from (w.before ++ w.last ∷ [])
 pub length-wrote_front : (from to : PageView) (text : List ℕ) → WroteFront PageTakes from text to → length from.text ≤ length to.text
 length-wrote_front from to text w =
     rw (page_text from (w.before ++ w.last ∷ []) to w.calls) (omega (arith, length-append from.text (bytes_of (w.before ++ w.last ∷ []))))
-
--- a text that was put on a page in part is a front of it
-pub appends_front-wrote_front : (from to : PageView) (text : List ℕ) → WroteFront PageTakes from text to → AppendsFront from.text text to.text
-appends_front-wrote_front from to text w = record {
-  front = bytes_of w.before;
-  rest = w.rest;
-  whole = sym w.whole;
-  appended = page_text from (w.before ++ w.last ∷ []) to w.calls ∙ ap (λ (more : List ℕ). from.text ++ more) (bytes_before w);
-}
 
 -- the page is as it was once a front that was put on it is cut off
 pub take-appends_front : (from text to : List ℕ) → AppendsFront from text to → take (length from) to ≡ from

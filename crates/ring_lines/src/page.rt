@@ -90,10 +90,14 @@ impl Sink for Page {
     ghost laws = { appends_in_sequence (λ page. page.text) };
 
     fn put(&mut self, bytes: &[u8]) -> Result<(), SinkFailed> {
-        match put(self, bytes) {
-            Ok(()) => Ok(()),
-            Err(WriteFailed) => Err(SinkFailed),
+        // it keeps its size, so a text for which there is no room isn't begun
+        if bytes.len() > self.bytes.capacity() - self.bytes.len() {
+            return Err(SinkFailed);
         }
+        let Ok(()) = self.bytes.extend_from_slice(bytes) else {
+            return Err(SinkFailed);
+        };
+        Ok(())
     }
 }
 

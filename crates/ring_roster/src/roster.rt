@@ -3,6 +3,7 @@ ghost use Rattle.std.specs.List.{list_any};
 ghost use Rattle.ring_id.specs.Refusals.{IsRefusal};
 ghost use Rattle.ring_roster.specs.Ring.{IsRing, has_number, has_repeat, neighbour, position_of, ring_refusal};
 
+use crate::order::{order_of, position_in};
 use ring_id::{NoMemory, NodeId, NodeNo, Refusal, Side, same_ids};
 use std::alloc::Global;
 use std::marker::Model;
@@ -15,17 +16,20 @@ use std::marker::Model;
 #[derive(Debug, Drop)]
 pub struct Roster {
     members: Vec<NodeId>,
+    // the positions in the order of numbers, in which `position` looks
+    order: Vec<u8>,
 }
 
 impl Model for Roster {
     ghost use Rattle.std.specs.Prelude.{List, ℕ};
+    ghost use Rattle.ring_roster.specs.Order.{IsOrder};
     ghost use Rattle.ring_roster.specs.Ring.{IsRing};
 
     ghost Value = { List ℕ };
 
     ghost view = { λ a. a.members.items };
 
-    ghost invariant = { λ a. IsRing a.members.items };
+    ghost invariant = { λ a. IsRing a.members.items × IsOrder a.members.items a.order.items };
 }
 
 impl Roster {
@@ -61,10 +65,11 @@ impl Roster {
         requires { IsRing members.now }
         ensures { IfOk result (λ ring. ring ≡ members.now) }
     {
+        let order = order_of(alloc, members)?;
         let Ok(members) = Vec::from_slice(alloc, members) else {
             return Err(NoMemory);
         };
-        Ok(Roster { members })
+        Ok(Roster { members, order })
     }
 
     /// The number of members, from 1 to 256.
@@ -87,9 +92,10 @@ impl Roster {
     pub fn position(&self, node: NodeNo) -> Option<usize>
         ensures { result ≡ position_of node self.now }
     {
-        self.members
-            .iter()
-            .position(|member| member.number() == node)
+        match position_in(&self.members, &self.order, node) {
+            Some(position) => Some(position as usize),
+            None => None,
+        }
     }
 
     /// The position next to this one at that side. In a ring of one it is the node itself; in a
