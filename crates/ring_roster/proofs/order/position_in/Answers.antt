@@ -12,4 +12,4 @@ returns-in-Ok-clause-some c =
 pub returns-in-Err-clause-none : goal.returns-in-Err-clause-none
 returns-in-Err-clause-none c =
     let by_number = c.in-Err.ensures.position (number_at c.args.members.now) (always_returns_same _ _ _ (λ a r f called. search rules)) in
-    absent_in_order c.args.members.now c.args.order.now c.args.node c.in-Err.field-0 c.requires (rw c.get.ensures.value at by_number)
+    absent_in_order c.args.members.now c.args.order.now c.args.node _ c.requires (rw c.get.ensures.value at by_number)
