@@ -117,67 +117,94 @@ fn refusals(rt: HostRuntime) -> Result<(), Fail> {
     Ok(())
 }
 
+// The lists that a book answers.
+#[derive(Clone, Copy)]
+enum List {
+    Members,
+    Terms,
+    Groups,
+}
+
+// Adds members to the group.
+fn join(book: &mut Book<Any>, group: GroupName) -> Result<(), Refusal> {
+    for (number, weight) in [(3, 0), (4294967295, 10000), (1, 9)] {
+        let node = NodeId::weighted(number, weight).ok_or(Refusal::BadLine)?;
+        book.join(group, node)?;
+    }
+    Ok(())
+}
+
+// Gives the group `a` members and two terms.
+fn fill(alloc: Global, book: &mut Book<Any>) -> Result<(), Refusal> {
+    let full = GroupName::from_bytes(b"a")?;
+    book.create(alloc, full, Any::Chang)?;
+    join(book, full)?;
+    for _ in 0..2 {
+        book.start(alloc, full)?;
+    }
+    Ok(())
+}
+
 // A book of the group `a`, with members and two terms, and of the group `b-2`, with neither.
 fn book(alloc: Global) -> Result<Book<Any>, Refusal> {
     let mut book = Book::new(alloc);
-    let full = GroupName::from_bytes(b"a")?;
-    book.create(alloc, full, Any::Chang)?;
-    for (number, weight) in [(3, 0), (4294967295, 10000), (1, 9)] {
-        let node = NodeId::weighted(number, weight).ok_or(Refusal::BadLine)?;
-        book.join(full, node)?;
-    }
-    book.start(alloc, full)?;
-    book.start(alloc, full)?;
+    fill(alloc, &mut book)?;
     book.create(alloc, GroupName::from_bytes(b"b-2")?, Any::LeLann)?;
     Ok(book)
 }
 
+// The same, made again where memory is refused.
+fn book_again(alloc: Global) -> Result<Book<Any>, Refusal> {
+    match book(alloc) {
+        Ok(book) => Ok(book),
+        Err(_) => book(alloc),
+    }
+}
+
+// The reply that is this list of a group.
+fn reply(alloc: Global, book: &Book<Any>, group: GroupName, list: List) -> Result<Reply, Refusal> {
+    Ok(match list {
+        List::Members => Reply::Members(book.members(alloc, group)?),
+        List::Terms => Reply::Terms(book.terms(alloc, group)?),
+        List::Groups => Reply::Groups(book.groups(alloc)?),
+    })
+}
+
+// What is printed of it; asked for again where memory is refused.
+fn line(alloc: Global, book: &Book<Any>, group: &str, list: List) -> Result<Vec<u8>, Fail> {
+    let group = GroupName::from_bytes(group.as_bytes())?;
+    let reply = match reply(alloc, book, group, list) {
+        Ok(reply) => reply,
+        Err(_) => reply(alloc, book, group, list)?,
+    };
+    Ok(printed(alloc, &reply)?)
+}
+
 #[test]
 fn replies_with_lists(rt: HostRuntime) -> Result<(), Fail> {
-    let alloc = rt.alloc();
-    let book = book(alloc).or_else(|_| book(alloc))?;
-    let full = GroupName::from_bytes(b"a")?;
-    let members = book
-        .members(alloc, full)
-        .or_else(|_| book.members(alloc, full))?;
-    assert_eq!(rt;
-        printed(alloc, &Reply::Members(members))?.as_slice(),
-        b"members 3 4294967295/10000 1/9\n".as_slice()
-    );
-    let terms = book
-        .terms(alloc, full)
-        .or_else(|_| book.terms(alloc, full))?;
-    assert_eq!(rt;
-        printed(alloc, &Reply::Terms(terms))?.as_slice(),
-        b"terms 1:- 2:-\n".as_slice()
-    );
-    let groups = book.groups(alloc).or_else(|_| book.groups(alloc))?;
-    assert_eq!(rt;
-        printed(alloc, &Reply::Groups(groups))?.as_slice(),
-        b"groups a b-2\n".as_slice()
-    );
+    let book = book_again(rt.alloc())?;
+    for (list, text) in [
+        (List::Members, "members 3 4294967295/10000 1/9\n"),
+        (List::Terms, "terms 1:- 2:-\n"),
+        (List::Groups, "groups a b-2\n"),
+    ] {
+        assert_eq!(rt;
+            line(rt.alloc(), &book, "a", list)?.as_slice(),
+            text.as_bytes()
+        );
+    }
     Ok(())
 }
 
 #[test]
 fn lists_with_nothing(rt: HostRuntime) -> Result<(), Fail> {
-    let alloc = rt.alloc();
-    let book = book(alloc).or_else(|_| book(alloc))?;
-    let empty = GroupName::from_bytes(b"b-2")?;
-    let members = book
-        .members(alloc, empty)
-        .or_else(|_| book.members(alloc, empty))?;
-    assert_eq!(rt;
-        printed(alloc, &Reply::Members(members))?.as_slice(),
-        b"members\n".as_slice()
-    );
-    let terms = book
-        .terms(alloc, empty)
-        .or_else(|_| book.terms(alloc, empty))?;
-    assert_eq!(rt;
-        printed(alloc, &Reply::Terms(terms))?.as_slice(),
-        b"terms\n".as_slice()
-    );
+    let book = book_again(rt.alloc())?;
+    for (list, text) in [(List::Members, "members\n"), (List::Terms, "terms\n")] {
+        assert_eq!(rt;
+            line(rt.alloc(), &book, "b-2", list)?.as_slice(),
+            text.as_bytes()
+        );
+    }
     Ok(())
 }
 

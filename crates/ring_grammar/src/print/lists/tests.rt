@@ -4,19 +4,53 @@ use ring_id::{GroupName, NodeId};
 use ring_terms::Book;
 use std::alloc::Global;
 
-// The lines of the members, the terms and the groups of a book of one group with a term; none where
-// memory is refused.
-fn lines(alloc: Global) -> Option<Vec<u8>> {
-    let mut book: Book<Any> = Book::new(alloc);
-    let group = GroupName::from_bytes(b"a").ok()?;
+// The lists of the group `a` and of its book.
+#[derive(Clone, Copy)]
+enum List {
+    Members,
+    Terms,
+    Groups,
+}
+
+// Adds a member to the group.
+fn join(book: &mut Book<Any>, group: GroupName, number: u32) -> Option<()> {
+    book.join(group, NodeId::new(number)?).ok()
+}
+
+// A book of one group with a term; none where memory is refused.
+fn book(alloc: Global, group: GroupName) -> Option<Book<Any>> {
+    let mut book = Book::new(alloc);
     book.create(alloc, group, Any::Chang).ok()?;
-    book.join(group, NodeId::new(7)?).ok()?;
-    book.join(group, NodeId::new(5)?).ok()?;
+    for number in [7, 5] {
+        join(&mut book, group, number)?;
+    }
     book.start(alloc, group).ok()?;
+    Some(book)
+}
+
+// Puts the line of a list behind a text; none where memory is refused.
+fn put(
+    alloc: Global,
+    book: &Book<Any>,
+    group: GroupName,
+    list: List,
+    out: &mut Vec<u8>,
+) -> Option<()> {
+    match list {
+        List::Members => print_members(&book.members(alloc, group).ok()?, out).ok(),
+        List::Terms => print_terms(&book.terms(alloc, group).ok()?, out).ok(),
+        List::Groups => print_groups(&book.groups(alloc).ok()?, out).ok(),
+    }
+}
+
+// The lines of the members, the terms and the groups of that book; none where memory is refused.
+fn lines(alloc: Global) -> Option<Vec<u8>> {
+    let group = GroupName::from_bytes(b"a").ok()?;
+    let book = book(alloc, group)?;
     let mut out = Vec::new(alloc);
-    print_members(&book.members(alloc, group).ok()?, &mut out).ok()?;
-    print_terms(&book.terms(alloc, group).ok()?, &mut out).ok()?;
-    print_groups(&book.groups(alloc).ok()?, &mut out).ok()?;
+    for list in [List::Members, List::Terms, List::Groups] {
+        put(alloc, &book, group, list, &mut out)?;
+    }
     Some(out)
 }
 
