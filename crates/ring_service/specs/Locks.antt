@@ -14,6 +14,7 @@ use Rattle.ring_service.specs.declared.access.Answer.TheVariants.{Placed, Unplac
 use Rattle.ring_service.specs.declared.entry.Entry.{Entry}
 use Rattle.ring_service.specs.declared.entry.Entry.TheVariants.{Call}
 use Rattle.ring_workers.specs.declared.desk.Filed.{Filed}
+use Rattle.ring_workers.specs.declared.desk.Filed.TheVariants as filed
 
 -- A call that was made: the table has it, its place is the length of the history after it, and the
 -- seat has it too.
@@ -52,3 +53,15 @@ pub record HasMissed {E : Type 0} (old : TableView E) (mine : List (Entry E)) (a
 -- a report
 abbrev pub AddsFiling : {E : Type 0} → (E → Bool) → Told E → TableView E → List (Entry E) → Filed → TableView E → List (Entry E) → Type 0
 AddsFiling greatest report old mine answer new now = HasGained greatest report old mine answer new now ⊎ HasMissed old mine answer new now
+
+-- what is left out was refused memory: no seat of this table is ever spent
+abbrev pub OutForMemory : Answer → Type 0
+OutForMemory (Placed reply place) = Unit {0}
+OutForMemory (Unplaced refusal) = refusal ≡ NoMemory
+
+-- and so with a report
+abbrev pub RefusedForMemory : Filed → Type 0
+RefusedForMemory filed.Noted = Unit {0}
+RefusedForMemory filed.Known = Unit {0}
+RefusedForMemory filed.Stale = Unit {0}
+RefusedForMemory (filed.Refused refusal) = refusal ≡ NoMemory

@@ -1,4 +1,4 @@
-ghost use Rattle.std.specs.Prelude.{◌≡◌, ◌+◌, ◌<◌, ◌≤◌, IfOk, OnOk, vec_capacity, vec_len};
+ghost use Rattle.std.specs.Prelude.{◌≡◌, ◌+◌, ◌<◌, ◌≤◌, IfErr, IfOk, OnOk, vec_capacity, vec_len};
 
 use crate::access::Access;
 use crate::service::StartFault;
@@ -48,6 +48,7 @@ impl Crew {
         requires threads { vec_len self.old.threads < vec_capacity self.old.threads }
         requires handed { vec_len self.old.threads + vec_len self.old.handed < vec_capacity self.old.handed }
         ensures started { OnOk result (vec_len self.new.threads ≡ vec_len self.old.threads + 1) }
+        ensures refused { IfErr result (λ fault. (fault ≡ StartFault.Thread) × (vec_len self.new.threads ≡ vec_len self.old.threads)) }
         ensures room { (vec_capacity self.new.threads ≡ vec_capacity self.old.threads) × (vec_capacity self.new.handed ≡ vec_capacity self.old.handed) × (vec_len self.new.handed ≡ vec_len self.old.handed) }
     {
         let rt = kit.rt;
@@ -59,7 +60,9 @@ impl Crew {
     }
 
     /// Waits for each thread to end: what they hand over. Takes no memory.
-    pub(crate) fn join<R: Threads + Wait>(self, rt: &R) -> Vec<Handed<Any>> {
+    pub(crate) fn join<R: Threads + Wait>(self, rt: &R) -> Vec<Handed<Any>>
+        ensures { vec_len result ≡ vec_len self.threads + vec_len self.handed }
+    {
         let Crew { threads, handed } = self;
         let (mut threads, mut handed) = (threads, handed);
         while let Some(thread) = threads.pop() {

@@ -1,6 +1,6 @@
 ghost use Rattle.std.specs.Prelude.{◌≡◌, ◌<◌, ◌≤◌, List, [], ◌∷◌, ◌++◌, IfOk, length, map, replicate, vec_capacity, vec_len};
 ghost use Rattle.ring_service.specs.Accesses.{AnswersAtSeat, BeginsAtSeat, Reports};
-ghost use Rattle.ring_service.specs.Locks.{AddsCall, AddsFiling, AddsStart};
+ghost use Rattle.ring_service.specs.Locks.{AddsCall, AddsFiling, AddsStart, OutForMemory, RefusedForMemory};
 ghost use Rattle.ring_service.specs.declared.entry.Entry.{Entry};
 
 use crate::access::{Access, Answer};
@@ -155,6 +155,7 @@ impl<E: RingElection> Access<E> for LockedTable<E> {
     ) -> Answer
         ensures seat { Unit {0} }
         ensures entry { AnswersAtSeat E.is_two_way E.is_greatest session command seat.old result seat.new }
+        ensures unspent { OutForMemory result }
     {
         seat.call(&mut self.table.lock(rt), session, command)
     }
@@ -169,6 +170,7 @@ impl<E: RingElection> Access<E> for LockedTable<E> {
     ) -> (Answer, Vec<Arc<Charter<E>>>)
         ensures seat { Unit {0} }
         ensures entry { BeginsAtSeat E.is_two_way E.is_greatest session group copies seat.old result.0 (map (λ charter. charter.value) result.1.items) seat.new }
+        ensures unspent { OutForMemory result.0 }
     {
         seat.begin(&mut self.table.lock(rt), session, group, copies)
     }
@@ -176,6 +178,7 @@ impl<E: RingElection> Access<E> for LockedTable<E> {
     fn report<R: Wait>(&self, rt: &R, seat: &mut LockedSeat<E>, report: &Report<E>) -> Filed
         ensures seat { Unit {0} }
         ensures entry { Reports E.is_greatest report.now seat.old result seat.new }
+        ensures unspent { RefusedForMemory result }
     {
         seat.report(&mut self.table.lock(rt), report)
     }

@@ -1,4 +1,4 @@
-ghost use Rattle.std.specs.Prelude.{◌≡◌, ◌<◌, ◌≤◌, ◌+◌, ◌⊎◌, [], ◌++◌, All, OnOk, vec_len};
+ghost use Rattle.std.specs.Prelude.{◌≡◌, ◌<◌, ◌≤◌, ◌+◌, ◌⊎◌, ◌↔◌, [], ◌++◌, All, IsTrue, OnOk, vec_len};
 ghost use Rattle.std.specs.VecDeque.{deque_capacity, deque_len};
 ghost use Rattle.ring_service.specs.Posts.{PutsBegin, Tries, begins_from};
 
@@ -32,7 +32,8 @@ pub(crate) struct Posts {
 impl Posts {
     /// Nothing waits for these passes. Takes no memory.
     pub(crate) fn new(alloc: Global, passes: Vec<SenderPass<Item<Any>>>) -> Posts
-        ensures { result.waiting.items ≡ [] }
+        ensures waiting { result.waiting.items ≡ [] }
+        ensures passes { result.passes ≡ passes }
     {
         Posts {
             passes,
@@ -48,7 +49,9 @@ impl Posts {
     }
 
     /// Whether nothing waits. Takes no memory.
-    pub(crate) fn is_idle(&self) -> bool {
+    pub(crate) fn is_idle(&self) -> bool
+        ensures { IsTrue result ↔ (self.now.waiting.items ≡ []) }
+    {
         self.waiting.is_empty()
     }
 

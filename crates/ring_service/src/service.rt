@@ -1,4 +1,4 @@
-ghost use Rattle.std.specs.Prelude.{◌≡◌, ◌≤◌, ◌+◌, All, IfOk, length, vec_capacity, vec_len};
+ghost use Rattle.std.specs.Prelude.{◌≡◌, ◌≤◌, ◌+◌, All, IfOk, OnOk, length, vec_capacity, vec_len};
 
 use crate::access::Access;
 use crate::crew::{Crew, Kit, SeatDesk};
@@ -160,6 +160,7 @@ where
     requires seats { All (A.has_seat access.now.value) seats.items }
     requires threads { vec_len crew.old.threads + vec_len seats ≤ vec_capacity crew.old.threads }
     requires handed { vec_len crew.old.threads + vec_len crew.old.handed + vec_len seats ≤ vec_capacity crew.old.handed }
+    ensures started { OnOk result (vec_len crew.new.threads ≡ vec_len crew.old.threads + vec_len seats) }
 {
     let workers = seats.len();
     let (mut mesh, mut seats) = (mesh, seats);
