@@ -1,7 +1,9 @@
 //! Where pictures go.
 use crate::fault::{Fault, written};
+use crate::svg::Picture;
 use crate::tale::Tale;
 use crate::{svg, text};
+use std::alloc::{AllocError, Global};
 use std::fs;
 use std::rt::Files;
 
@@ -18,20 +20,27 @@ pub fn print_texts(rt: &(impl Print + AllocGlobal), tales: &[Tale]) -> Result<()
 
 /// Prints one SVG with the pictures of all terms below one another.
 pub fn print_svg(rt: &(impl Print + AllocGlobal), tales: &[Tale]) -> Result<(), Fault> {
-    let alloc = rt.alloc();
-    let mut all = String::new(alloc);
-    let mut widest = 0u64;
-    let mut top = 0u64;
-    for tale in tales {
-        let picture = svg::draw(alloc, tale, top)?;
-        all.push_str(picture.svg.as_str())?;
-        widest = widest.max(picture.width);
-        top = top.saturating_add(picture.height);
-    }
+    let Picture { svg, width, height } = below_one_another(rt.alloc(), tales)?;
     written(println!(rt;
-        "<svg xmlns=\"http://www.w3.org/2000/svg\" width=\"{widest}\" height=\"{top}\" viewBox=\"0 0 {widest} {top}\">"
+        "<svg xmlns=\"http://www.w3.org/2000/svg\" width=\"{width}\" height=\"{height}\" viewBox=\"0 0 {width} {height}\">"
     ))?;
-    written(println!(rt; "{all}</svg>"))
+    written(println!(rt; "{svg}</svg>"))
+}
+
+// The pictures of all terms below one another, and how large they are together.
+fn below_one_another(alloc: Global, tales: &[Tale]) -> Result<Picture, AllocError> {
+    let mut all = Picture {
+        svg: String::new(alloc),
+        width: 0,
+        height: 0,
+    };
+    for tale in tales {
+        let picture = svg::draw(alloc, tale, all.height)?;
+        all.svg.push_str(picture.svg.as_str())?;
+        all.width = all.width.max(picture.width);
+        all.height = all.height.saturating_add(picture.height);
+    }
+    Ok(all)
 }
 
 /// Writes the picture of each term to a file in a folder, and prints the files' names.
@@ -40,12 +49,25 @@ pub fn write_files(
     folder: &str,
     tales: &[Tale],
 ) -> Result<(), Fault> {
-    let alloc = rt.alloc();
     for tale in tales {
-        let name = format!(in alloc; "{folder}/{}-{}.svg", tale.group_text(), tale.term)?;
-        let picture = svg::draw(alloc, tale, 0)?;
-        written(fs::write(rt, name.as_str(), picture.svg.as_str()))?;
-        written(println!(rt; "{name}"))?;
+        write_file(rt, folder, tale)?;
     }
     Ok(())
+}
+
+// Writes the picture of a term, and prints the file's name.
+fn write_file(
+    rt: &(impl Files + Print + AllocGlobal),
+    folder: &str,
+    tale: &Tale,
+) -> Result<(), Fault> {
+    let name = file_name(rt.alloc(), folder, tale)?;
+    let picture = svg::draw(rt.alloc(), tale, 0)?;
+    written(fs::write(rt, name.as_str(), picture.svg.as_str()))?;
+    written(println!(rt; "{name}"))
+}
+
+// The name of the file that shows a term.
+fn file_name(alloc: Global, folder: &str, tale: &Tale) -> Result<String, AllocError> {
+    format!(in alloc; "{folder}/{}-{}.svg", tale.group_text(), tale.term)
 }

@@ -3,8 +3,9 @@ use crate::fault::Fault;
 use crate::label;
 use crate::tale::{Arrow, Kind, Step, Tale};
 use ring_any::{Any, AnyMsg};
-use ring_id::{GroupName, NodeNo, Refusal, Side};
+use ring_id::{GroupName, NodeId, NodeNo, Refusal, Side};
 use ring_node::{Charter, Packet};
+use ring_roster::Roster;
 use ring_world::{Delivery, World};
 use std::alloc::{AllocError, Global};
 use std::sync::Arc;
@@ -23,12 +24,8 @@ impl Recorder {
     /// The world of a charter, in which every node has started.
     pub fn begin(alloc: Global, charter: Arc<Charter<Any>>) -> Result<Recorder, Fault> {
         let world = World::begin(alloc, charter)?;
-        let mut left = Vec::new(alloc);
-        let mut right = Vec::new(alloc);
-        for node in world.nodes() {
-            left.push(at_start(alloc, node.sent(Side::Left))?)?;
-            right.push(at_start(alloc, node.sent(Side::Right))?)?;
-        }
+        let left = starts(alloc, &world, Side::Left)?;
+        let right = starts(alloc, &world, Side::Right)?;
         Ok(Recorder {
             world,
             steps: Vec::new(alloc),
@@ -161,12 +158,7 @@ impl Recorder {
     pub fn tale(self, alloc: Global) -> Result<Tale, AllocError> {
         let flying = self.flying(alloc)?;
         let charter = self.world.charter();
-        let mut ring = Vec::new(alloc);
-        for position in 0..charter.roster().len() {
-            if let Some(member) = charter.roster().at(position) {
-                ring.push(member)?;
-            }
-        }
+        let ring = members(alloc, charter.roster())?;
         Ok(Tale {
             group: charter.group(),
             term: charter.term().get(),
@@ -205,6 +197,17 @@ impl Recorder {
     }
 }
 
+// The members of a ring, by their positions.
+fn members(alloc: Global, roster: &Roster) -> Result<Vec<NodeId>, AllocError> {
+    let mut ring = Vec::new(alloc);
+    for position in 0..roster.len() {
+        if let Some(member) = roster.at(position) {
+            ring.push(member)?;
+        }
+    }
+    Ok(ring)
+}
+
 // The arrow of a packet that goes to a position from a side, between neighbouring columns.
 fn arrow(
     alloc: Global,
@@ -230,6 +233,15 @@ fn arrow(
         kind,
         sent,
     })
+}
+
+// By which delivery the packets of each position to a side were sent: all at the start.
+fn starts(alloc: Global, world: &World<Any>, side: Side) -> Result<Vec<Vec<u64>>, AllocError> {
+    let mut marks = Vec::new(alloc);
+    for node in world.nodes() {
+        marks.push(at_start(alloc, node.sent(side))?)?;
+    }
+    Ok(marks)
 }
 
 // So many packets, all sent at the start.

@@ -11,7 +11,7 @@ use ring_any::Any;
 use ring_grammar::print_reply;
 use ring_id::{GroupName, NodeNo, Refusal, Side};
 use ring_mux::{Command, Event, Mux, Reply};
-use std::alloc::Global;
+use std::alloc::{AllocError, Global};
 use std::str;
 
 /// What happened in each term of a schedule, in the order in which they were started.
@@ -143,12 +143,17 @@ impl Stage {
         if terms.is_empty() {
             return Err(Fault::NoTerm);
         }
-        let mut tales = Vec::new(alloc);
-        for recorder in terms {
-            tales.push(recorder.tale(alloc)?)?;
-        }
-        Ok(tales)
+        Ok(tales_of(alloc, terms)?)
     }
+}
+
+// What happened in each of these terms.
+fn tales_of(alloc: Global, terms: Vec<Recorder>) -> Result<Vec<Tale>, AllocError> {
+    let mut tales = Vec::new(alloc);
+    for recorder in terms {
+        tales.push(recorder.tale(alloc)?)?;
+    }
+    Ok(tales)
 }
 
 // The recorder of a group's last term.

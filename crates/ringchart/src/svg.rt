@@ -57,37 +57,70 @@ struct Drawing {
 /// The picture of a term, to stand so many pixels below the top of a larger one.
 pub fn draw(alloc: Global, tale: &Tale, top: u64) -> Result<Picture, AllocError> {
     let title = tale.title(alloc)?;
-    let frame = Frame::of(tale, title.len());
     let mut drawing = Drawing {
         out: String::new(alloc),
-        frame,
+        frame: Frame::of(tale, title.len()),
     };
-    let (width, height) = (frame.width(), frame.height());
-    writeln!(
-        drawing.out,
-        "<svg xmlns=\"http://www.w3.org/2000/svg\" y=\"{top}\" width=\"{width}\" height=\"{height}\" viewBox=\"0 0 {width} {height}\">"
-    )?;
-    drawing.out.push_str(STYLE)?;
-    writeln!(
-        drawing.out,
-        "<rect width=\"{width}\" height=\"{height}\" fill=\"white\"/>"
-    )?;
-    drawing.words(24, 34, "title", title.as_str())?;
-    drawing.words(24, 58, "small", tale.outcome(alloc)?.as_str())?;
-    drawing.columns(tale)?;
-    drawing.knowing(tale)?;
-    drawing.delivered(tale)?;
-    drawing.flying(tale)?;
-    drawing.delivered_labels(tale)?;
-    drawing.flying_labels(tale)?;
-    drawing.notes(tale)?;
-    drawing.legend()?;
+    drawing.ground(top)?;
+    drawing.head(tale, title.as_str())?;
+    drawing.lines(tale)?;
+    drawing.captions(tale)?;
     drawing.out.push_str("</svg>\n")?;
-    let Drawing { out: svg, frame: _ } = drawing;
-    Ok(Picture { svg, width, height })
+    let Drawing { out: svg, frame } = drawing;
+    Ok(Picture {
+        svg,
+        width: frame.width(),
+        height: frame.height(),
+    })
 }
 
 impl Drawing {
+    // The place and the size of the picture, how things look, and a white ground.
+    fn ground(&mut self, top: u64) -> Result<(), AllocError> {
+        let (width, height) = (self.frame.width(), self.frame.height());
+        self.open(top, width, height)?;
+        self.out.push_str(STYLE)?;
+        writeln!(
+            self.out,
+            "<rect width=\"{width}\" height=\"{height}\" fill=\"white\"/>"
+        )
+    }
+
+    // The first line of the picture.
+    fn open(&mut self, top: u64, width: u64, height: u64) -> Result<(), AllocError> {
+        write!(
+            self.out,
+            "<svg xmlns=\"http://www.w3.org/2000/svg\" y=\"{top}\""
+        )?;
+        writeln!(
+            self.out,
+            " width=\"{width}\" height=\"{height}\" viewBox=\"0 0 {width} {height}\">"
+        )
+    }
+
+    // The title, and what came of the term.
+    fn head(&mut self, tale: &Tale, title: &str) -> Result<(), AllocError> {
+        let outcome = tale.outcome(*self.out.allocator())?;
+        self.words(24, 34, "title", title)?;
+        self.words(24, 58, "small", outcome.as_str())
+    }
+
+    // All lines and arrows.
+    fn lines(&mut self, tale: &Tale) -> Result<(), AllocError> {
+        self.columns(tale)?;
+        self.knowing(tale)?;
+        self.delivered(tale)?;
+        self.flying(tale)
+    }
+
+    // What stands beside them.
+    fn captions(&mut self, tale: &Tale) -> Result<(), AllocError> {
+        self.delivered_labels(tale)?;
+        self.flying_labels(tale)?;
+        self.notes(tale)?;
+        self.legend()
+    }
+
     // Words at a place.
     fn words(&mut self, x: u64, y: u64, class: &str, words: &str) -> Result<(), AllocError> {
         writeln!(
@@ -129,18 +162,7 @@ impl Drawing {
         let y = self.frame.y_names();
         let number = label::of_member(*self.out.allocator(), member)?;
         let width = (number.len() as u64).saturating_mul(9).saturating_add(18);
-        let fill = if leads { "#ffd75e" } else { "white" };
-        let dashes = if again {
-            " stroke-dasharray=\"2 3\""
-        } else {
-            ""
-        };
-        writeln!(
-            self.out,
-            "<rect x=\"{}\" y=\"{}\" width=\"{width}\" height=\"24\" rx=\"6\" fill=\"{fill}\" stroke=\"#666\"{dashes}/>",
-            x.saturating_sub(width / 2),
-            y.saturating_sub(24)
-        )?;
+        self.name_box(x.saturating_sub(width / 2), width, leads, again)?;
         self.words(x, y.saturating_sub(7), "name", number.as_str())?;
         if leads && !again {
             self.words(
@@ -151,6 +173,21 @@ impl Drawing {
             )?;
         }
         Ok(())
+    }
+
+    // The box of a name. The leader's is coloured, and dashed where the name stands again.
+    fn name_box(&mut self, x: u64, width: u64, leads: bool, again: bool) -> Result<(), AllocError> {
+        let y = self.frame.y_names().saturating_sub(24);
+        let fill = if leads { "#ffd75e" } else { "white" };
+        write!(
+            self.out,
+            "<rect x=\"{x}\" y=\"{y}\" width=\"{width}\" height=\"24\" rx=\"6\" fill=\"{fill}\" stroke=\"#666\""
+        )?;
+        self.out.push_str(if again {
+            " stroke-dasharray=\"2 3\"/>\n"
+        } else {
+            "/>\n"
+        })
     }
 
     // The lines of members from when they know the leader.
@@ -257,22 +294,32 @@ impl Drawing {
         for step in &tale.steps {
             now = now.saturating_add(1);
             let y = frame.y(now).saturating_add(4);
-            writeln!(
-                self.out,
-                "<text class=\"tick\" x=\"58\" y=\"{y}\">{now}</text>"
-            )?;
+            self.tick(y, now)?;
             if let (Some(member), Some(leader)) = (tale.member(step.position), step.learned) {
-                let x = frame.x_margin();
-                let alloc = *self.out.allocator();
-                writeln!(
-                    self.out,
-                    "<text class=\"note\" x=\"{x}\" y=\"{y}\">{} knows {}</text>",
-                    label::of_member(alloc, member)?,
-                    label::of_member(alloc, leader)?
-                )?;
+                self.note(y, member, leader)?;
             }
         }
         self.end(tale)
+    }
+
+    // The number of a delivery.
+    fn tick(&mut self, y: u64, now: u64) -> Result<(), AllocError> {
+        writeln!(
+            self.out,
+            "<text class=\"tick\" x=\"58\" y=\"{y}\">{now}</text>"
+        )
+    }
+
+    // Who knew the leader by it.
+    fn note(&mut self, y: u64, member: NodeId, leader: NodeId) -> Result<(), AllocError> {
+        let x = self.frame.x_margin();
+        let alloc = *self.out.allocator();
+        let member = label::of_member(alloc, member)?;
+        let leader = label::of_member(alloc, leader)?;
+        writeln!(
+            self.out,
+            "<text class=\"note\" x=\"{x}\" y=\"{y}\">{member} knows {leader}</text>"
+        )
     }
 
     // The line above what is in flight at the end.

@@ -85,21 +85,23 @@ impl Tale {
 
     /// The line below it: what came of the term.
     pub fn outcome(&self, alloc: Global) -> Result<String, AllocError> {
-        let size = self.ring.len();
-        let mut outcome = match self.leader() {
-            Some(leader) => format!(in alloc;
-                "leader {}, known to {} of {size}",
-                label::of_member(alloc, leader)?,
-                self.informed()
-            )?,
-            None => String::from_str(alloc, "undecided")?,
-        };
+        let mut outcome = self.known(alloc)?;
         write!(outcome, " after {} deliveries", self.steps.len())?;
         match self.flying.len() {
             0 => outcome.push_str("; nothing in flight")?,
             flying => write!(outcome, "; {flying} in flight at the end")?,
         }
         Ok(outcome)
+    }
+
+    // Who leads, and how many members knew it.
+    fn known(&self, alloc: Global) -> Result<String, AllocError> {
+        let Some(leader) = self.leader() else {
+            return String::from_str(alloc, "undecided");
+        };
+        let leader = label::of_member(alloc, leader)?;
+        let (informed, size) = (self.informed(), self.ring.len());
+        format!(in alloc; "leader {leader}, known to {informed} of {size}")
     }
 
     /// How many characters the longest name of a member has.

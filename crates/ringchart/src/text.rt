@@ -1,6 +1,6 @@
 //! A term as a picture of characters.
 use crate::label;
-use crate::tale::{Arrow, Tale};
+use crate::tale::{Arrow, Step, Tale};
 use ring_id::NodeId;
 use std::alloc::{AllocError, Global};
 
@@ -26,12 +26,8 @@ pub fn draw(alloc: Global, tale: &Tale) -> Result<String, AllocError> {
         knows: Vec::new(alloc),
     };
     drawing.knows.resize(tale.ring.len(), false)?;
-    writeln!(drawing.out, "{}", tale.title(alloc)?)?;
-    writeln!(drawing.out, "{}", tale.outcome(alloc)?)?;
-    drawing.out.push('\n')?;
-    drawing.names(tale)?;
-    drawing.steps(tale)?;
-    drawing.flying(tale)?;
+    drawing.head(tale)?;
+    drawing.rows(tale)?;
     Ok(drawing.out)
 }
 
@@ -45,6 +41,21 @@ struct Drawing {
 }
 
 impl Drawing {
+    // The title, what came of the term, and an empty line.
+    fn head(&mut self, tale: &Tale) -> Result<(), AllocError> {
+        let alloc = *self.out.allocator();
+        self.end(tale.title(alloc)?.as_str())?;
+        self.end(tale.outcome(alloc)?.as_str())?;
+        self.end("")
+    }
+
+    // The names, and all rows below them.
+    fn rows(&mut self, tale: &Tale) -> Result<(), AllocError> {
+        self.names(tale)?;
+        self.steps(tale)?;
+        self.flying(tale)
+    }
+
     // The members above their columns; the leader in brackets.
     fn names(&mut self, tale: &Tale) -> Result<(), AllocError> {
         let alloc = *self.out.allocator();
@@ -63,43 +74,33 @@ impl Drawing {
 
     // A row for the start, and one for each delivery.
     fn steps(&mut self, tale: &Tale) -> Result<(), AllocError> {
-        let alloc = *self.out.allocator();
         self.row("start", Gap::Empty, "")?;
         let mut now = 0u64;
         for step in &tale.steps {
             now = now.saturating_add(1);
-            if step.learned.is_some()
-                && let Some(knows) = self.knows.get_mut(step.position)
-            {
-                *knows = true;
-            }
-            let mut note = String::new(alloc);
-            if step.arrow.sent.saturating_add(1) < now {
-                match step.arrow.sent {
-                    0 => note.push_str("sent at the start")?,
-                    sent => write!(note, "sent at {sent}")?,
-                }
-            }
-            if let (Some(member), Some(leader)) = (tale.member(step.position), step.learned) {
-                let comma = if note.is_empty() { "" } else { ", " };
-                let member = label::of_member(alloc, member)?;
-                let leader = label::of_member(alloc, leader)?;
-                write!(note, "{comma}{member} knows {leader}")?;
-            }
-            let number = format!(in alloc; "{now}")?;
-            self.row(number.as_str(), Gap::Taken(&step.arrow), note.as_str())?;
+            self.step(tale, step, now)?;
         }
         Ok(())
+    }
+
+    // The row of a delivery.
+    fn step(&mut self, tale: &Tale, step: &Step, now: u64) -> Result<(), AllocError> {
+        let alloc = *self.out.allocator();
+        if step.learned.is_some()
+            && let Some(knows) = self.knows.get_mut(step.position)
+        {
+            *knows = true;
+        }
+        let note = note(alloc, tale, step, now)?;
+        let number = format!(in alloc; "{now}")?;
+        self.row(number.as_str(), Gap::Taken(&step.arrow), note.as_str())
     }
 
     // A row for each packet in flight at the end.
     fn flying(&mut self, tale: &Tale) -> Result<(), AllocError> {
         let alloc = *self.out.allocator();
         for arrow in &tale.flying {
-            let mut note = String::from_str(alloc, "sent at the start")?;
-            if arrow.sent > 0 {
-                note = format!(in alloc; "sent at {}", arrow.sent)?;
-            }
+            let note = sent_at(alloc, arrow.sent)?;
             self.row("flying", Gap::Flying(arrow), note.as_str())?;
         }
         Ok(())
@@ -181,6 +182,43 @@ impl Drawing {
         self.out.push_str(text)?;
         self.out.push('\n')
     }
+}
+
+// The words beside a delivery: by which one its packet was sent, unless by the one before, and who knew the leader
+// by it.
+fn note(alloc: Global, tale: &Tale, step: &Step, now: u64) -> Result<String, AllocError> {
+    let mut note = if step.arrow.sent.saturating_add(1) < now {
+        sent_at(alloc, step.arrow.sent)?
+    } else {
+        String::new(alloc)
+    };
+    if let (Some(member), Some(leader)) = (tale.member(step.position), step.learned) {
+        if !note.is_empty() {
+            note.push_str(", ")?;
+        }
+        add_knows(alloc, &mut note, member, leader)?;
+    }
+    Ok(note)
+}
+
+// By which delivery a packet was sent.
+fn sent_at(alloc: Global, sent: u64) -> Result<String, AllocError> {
+    match sent {
+        0 => String::from_str(alloc, "sent at the start"),
+        sent => format!(in alloc; "sent at {sent}"),
+    }
+}
+
+// Says that a member knows the leader.
+fn add_knows(
+    alloc: Global,
+    note: &mut String,
+    member: NodeId,
+    leader: NodeId,
+) -> Result<(), AllocError> {
+    let member = label::of_member(alloc, member)?;
+    let leader = label::of_member(alloc, leader)?;
+    write!(note, "{member} knows {leader}")
 }
 
 // The name of a member.

@@ -1,6 +1,6 @@
 //! The words of the command line, and what they ask for.
 use clap::error::ErrorKind;
-use clap::{Arg, ArgAction, Command};
+use clap::{Arg, ArgAction, ArgMatches, Command};
 use std::alloc::{AllocError, Global};
 use thiserror::Error;
 
@@ -54,12 +54,21 @@ impl From<AllocError> for WordsFault {
 
 // The program's command line.
 fn command<'a>(alloc: Global) -> Result<Command<'a>, AllocError> {
+    let command = bare_command(alloc).arg(schedule_arg(alloc))?;
+    with_pictures(alloc, command)
+}
+
+// It without its words.
+fn bare_command<'a>(alloc: Global) -> Command<'a> {
     Command::new(alloc, "ringchart")
         .about("Draws what a schedule does: a picture of each term, message by message")
         .after_help(NOTES)
-        .arg(schedule_arg(alloc))?
-        .arg(into_arg(alloc)?)?
-        .arg(text_arg(alloc))
+}
+
+// A command line, with the words for where the pictures go and how they are drawn.
+fn with_pictures<'a>(alloc: Global, command: Command<'a>) -> Result<Command<'a>, AllocError> {
+    let into = into_arg(alloc)?;
+    command.arg(into)?.arg(text_arg(alloc))
 }
 
 // The file of the schedule.
@@ -94,6 +103,11 @@ pub fn not_text(alloc: Global) -> Result<clap::Error, AllocError> {
 /// Reads the words of a command line, of which the first is the program's name.
 pub fn read_words(alloc: Global, words: &[String]) -> Result<Order, WordsFault> {
     let matches = command(alloc)?.try_get_matches_from(words)?;
+    Ok(order_of(alloc, &matches)?)
+}
+
+// The order that was given.
+fn order_of(alloc: Global, matches: &ArgMatches<'_>) -> Result<Order, AllocError> {
     Ok(Order {
         path: owned(alloc, matches.get_str("schedule"))?,
         folder: owned(alloc, matches.get_str("into"))?,
