@@ -1,8 +1,4 @@
 pub mod Any
-pub mod Bounded
-pub mod Deciding
 pub mod Kinds
-pub mod Lawful
-pub mod Lifted
-pub mod Lowered
 pub mod Variants
+pub mod laws

@@ -82,9 +82,9 @@ impl Any {
 
 impl RingElection for Any {
     ghost use Rattle.std.proofs.Common.{rules};
-    ghost use Rattle.ring_any.specs.Bounded.{any_bounded};
-    ghost use Rattle.ring_any.specs.Deciding.{any_deciding};
-    ghost use Rattle.ring_any.specs.Lawful.{any_lawful};
+    ghost use Rattle.ring_any.specs.laws.Bounded.{any_bounded};
+    ghost use Rattle.ring_any.specs.laws.Deciding.{any_deciding};
+    ghost use Rattle.ring_any.specs.laws.Lawful.{any_lawful};
     ghost use Rattle.ring_any.specs.Any.{any_bound, any_fits, any_winner};
 
     type Msg = AnyMsg;

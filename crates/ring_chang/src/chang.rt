@@ -26,9 +26,9 @@ impl RingElection for Chang {
     ghost use Rattle.std.proofs.Common.{rules};
     ghost use Rattle.ring_roster.specs.Ring.{greatest_of};
     ghost use Rattle.ring_chang.specs.Chang.{chang_bound, chang_fits, chang_table};
-    ghost use Rattle.ring_chang.specs.Bounded.{chang_bounded};
-    ghost use Rattle.ring_chang.specs.Deciding.{chang_deciding};
-    ghost use Rattle.ring_chang.specs.Lawful.{chang_lawful};
+    ghost use Rattle.ring_chang.specs.laws.Bounded.{chang_bounded};
+    ghost use Rattle.ring_chang.specs.laws.Deciding.{chang_deciding};
+    ghost use Rattle.ring_chang.specs.laws.Lawful.{chang_lawful};
 
     type Msg = NodeId;
 

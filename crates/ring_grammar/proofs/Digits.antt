@@ -7,7 +7,7 @@ use Rattle.std.proofs.lemmas.Int.Digits.{digits_value_more}
 use Rattle.std.proofs.lemmas.List.{get_or-take, length-take-le, take_all}
 use Rattle.std.proofs.lemmas.Str.{digit_value_digit}
 use Rattle.std.proofs.lemmas.Str.Parse.{IsNumeralModel, digits_value_short, numerals_by_value, tells_by_index}
-use Rattle.ring_grammar.specs.Reading.{IsShortNumber}
+use Rattle.ring_grammar.specs.private.Reading.{IsShortNumber}
 
 -- the first bytes of a text, so many, are digits
 abbrev pub AreDigits : List ℕ → ℕ → Type 0

@@ -9,8 +9,9 @@ use Rattle.std.proofs.lemmas.List.Elements.{All-from_get_or}
 use Rattle.std.proofs.lemmas.List.Splits.{join_with_byte-slice_split, length-slice_split, slice_split_at, slice_split_none}
 use Rattle.std.proofs.lemmas.Str.Parse.{digit_at}
 use Rattle.ring_id.specs.Identity.{number_of, rank_of, weight_of}
-use Rattle.ring_grammar.specs.Identities.{IsNode, IsWeight, node_word, weight_text}
-use Rattle.ring_grammar.specs.Reading.{IsShortNumber, Reads, parts_at}
+use Rattle.ring_grammar.specs.Identities.{IsNode, node_word, weight_text}
+use Rattle.ring_grammar.specs.private.Identities.{IsWeight}
+use Rattle.ring_grammar.specs.private.Reading.{IsShortNumber, Reads, parts_at}
 use Rattle.ring_grammar.proofs.Numbers.{printed_of_one}
 
 -- the parts of an identity's word: its number, and its weight where it has one

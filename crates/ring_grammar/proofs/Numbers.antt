@@ -2,7 +2,7 @@
 use Rattle.std.proofs.Common.{◌≡◌, ◌<◌, ◌↔◌, ℕ, List, Option, None, Some, IsSome, IfSome, sym, ◌∙◌, arith, refl, decimal}
 use Rattle.std.proofs.lemmas.Fmt.{decimal_injective}
 use Rattle.ring_grammar.specs.Identities.{IsNumber}
-use Rattle.ring_grammar.specs.Reading.{IsShortNumber, Reads}
+use Rattle.ring_grammar.specs.private.Reading.{IsShortNumber, Reads}
 
 -- a text is printed of one number
 pub printed_of_one : (text : List ℕ) (m n : ℕ) → IsShortNumber m → IsShortNumber n → text ≡ decimal m → text ≡ decimal n → m ≡ n

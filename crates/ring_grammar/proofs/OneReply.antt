@@ -16,7 +16,7 @@ use Rattle.ring_id.specs.declared.refusal.Refusal.TheVariants.{BadLine, NoGroup,
 use Rattle.ring_mux.specs.declared.reply.Reply.{Reply}
 use Rattle.ring_mux.specs.declared.reply.Reply.TheVariants.{Done, Term, Leader, Undecided, Members, Terms, Groups, Moved, Idle, Pending, Drained, Refused}
 use Rattle.ring_grammar.specs.OneSpelling.{HaveOneSpelling, RepliesAreLines}
-use Rattle.ring_grammar.specs.Reading.{words_in}
+use Rattle.ring_grammar.specs.private.Reading.{words_in}
 use Rattle.ring_grammar.specs.Identities.{IsNode, node_word, weight_text}
 use Rattle.ring_grammar.specs.Spelling.{IsReply, SpellsReply, leader_word, line_of, reply_line, reply_words, starved_words, term_word, term_words}
 use Rattle.ring_grammar.proofs.Identities.{same_node}

@@ -10,7 +10,7 @@ use Rattle.std.proofs.lemmas.List.Splits.{slice_split_at, slice_split_none}
 use Rattle.std.proofs.lemmas.List.Sums.{AllPass-from_list_all, list_all-from_AllPass}
 use Rattle.std.proofs.lemmas.Str.Parse.{digit_at}
 use Rattle.ring_id.specs.GroupName.{IsName, is_name_byte}
-use Rattle.ring_grammar.specs.Reading.{words_in}
+use Rattle.ring_grammar.specs.private.Reading.{words_in}
 use Rattle.ring_grammar.specs.Spelling.{line_of}
 
 -- whether a byte is no space and no LF

@@ -15,7 +15,7 @@ use Rattle.ring_mux.specs.declared.event.Command.TheVariants.{Create, Join, Leav
 use Rattle.ring_mux.specs.declared.event.Event.{Event}
 use Rattle.ring_mux.specs.declared.event.Event.TheVariants.{Client, Deliver, Cut, Pending, Drain}
 use Rattle.ring_grammar.specs.Identities.{IsNode, IsNumber, node_word, weight_text}
-use Rattle.ring_grammar.specs.Reading.{Reads, words_in}
+use Rattle.ring_grammar.specs.private.Reading.{Reads, words_in}
 use Rattle.ring_grammar.specs.Spelling.{IsEvent, Spells, event_words, line_of, side_word}
 use Rattle.ring_grammar.proofs.Plain.{all_plain, is_plain, plain-decimal, plain-name, words_in-line_of}
 

@@ -15,10 +15,6 @@ node_word rank = decimal (number_of rank) ++ weight_text (weight_of rank)
 abbrev pub IsNumber : ℕ → Type 0
 IsNumber number = (0 < number) × (number < 2 ^ 32)
 
--- a weight of the grammar that is written: from 1 to 65535
-abbrev pub IsWeight : ℕ → Type 0
-IsWeight weight = (0 < weight) × (weight < 2 ^ 16)
-
 -- an identity of the grammar, given its rank: it has such a number, and a weight of at most 65535
 abbrev pub IsNode : ℕ → Type 0
 IsNode rank = IsNumber (number_of rank) × (weight_of rank < 2 ^ 16)

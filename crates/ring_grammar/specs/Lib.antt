@@ -1,6 +1,7 @@
 pub mod Appending
 pub mod Identities
 pub mod OneSpelling
-pub mod Reading
 pub mod Sinks
 pub mod Spelling
+pub mod laws
+pub mod private

@@ -3,7 +3,7 @@ ghost use Rattle.ring_any.specs.declared.any.Any.{Any};
 ghost use Rattle.ring_mux.specs.declared.event.Event.{Event};
 ghost use Rattle.ring_mux.specs.declared.event.Command.{Command};
 ghost use Rattle.ring_mux.specs.declared.event.Event.TheVariants.{Client};
-ghost use Rattle.ring_grammar.specs.Reading.{Reads, client_part, words_in};
+ghost use Rattle.ring_grammar.specs.private.Reading.{Reads, client_part, words_in};
 ghost use Rattle.ring_grammar.specs.Spelling.{IsEvent, Spells, event_words};
 
 use crate::parts::cut;

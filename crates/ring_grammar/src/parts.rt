@@ -1,5 +1,5 @@
 ghost use Rattle.std.specs.Prelude.{◌≡◌, ◌==◌, ◌∷◌, [], position, IfSome, IfNone};
-ghost use Rattle.ring_grammar.specs.Reading.{parts_at};
+ghost use Rattle.ring_grammar.specs.private.Reading.{parts_at};
 
 /// What stands before the first of these separators, and what follows it; none where there is none.
 pub(crate) fn cut(text: &[u8], separator: u8) -> Option<(&[u8], &[u8])>

@@ -29,7 +29,8 @@ pub trait Sink {
 
 /// Bytes are appended. It fails where memory is refused.
 impl Sink for Vec<u8> {
-    ghost use Rattle.ring_grammar.specs.Appending.{Appends, AppendsFront, appends_in_sequence};
+    ghost use Rattle.ring_grammar.specs.Appending.{Appends, AppendsFront};
+    ghost use Rattle.ring_grammar.specs.laws.Appending.{appends_in_sequence};
 
     ghost takes = { λ a bytes b. Appends a.items bytes b.items };
 

@@ -1,8 +1,9 @@
 ghost use Rattle.std.specs.Prelude.{◌≡◌, ◌≤◌, decimal};
 ghost use Rattle.ring_id.specs.GroupName.{IsName};
 ghost use Rattle.ring_any.specs.Any.{word_of};
-ghost use Rattle.ring_grammar.specs.Reading.{IsShortNumber, Reads};
-ghost use Rattle.ring_grammar.specs.Identities.{IsNode, IsNumber, IsWeight, node_word};
+ghost use Rattle.ring_grammar.specs.private.Reading.{IsShortNumber, Reads};
+ghost use Rattle.ring_grammar.specs.Identities.{IsNode, IsNumber, node_word};
+ghost use Rattle.ring_grammar.specs.private.Identities.{IsWeight};
 ghost use Rattle.ring_grammar.specs.Spelling.{side_word};
 
 use crate::parts::cut;

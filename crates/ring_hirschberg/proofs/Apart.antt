@@ -11,13 +11,13 @@ use Rattle.ring_election.specs.Traces.{sent_after, sent_from, state_after, taken
 use Rattle.ring_hirschberg.specs.declared.hirschberg.HirschbergMsg.{HirschbergMsg}
 use Rattle.ring_hirschberg.specs.declared.hirschberg.HirschbergState.{HirschbergState}
 use Rattle.ring_hirschberg.specs.Hirschberg.{hirschberg_first, hirschberg_first_sends, hirschberg_sends, hirschberg_table, phase}
-use Rattle.ring_hirschberg.specs.Homecomings.{back_near, back_near_to}
-use Rattle.ring_hirschberg.specs.Passing.{is_back, is_near, is_out, near_is_out}
-use Rattle.ring_hirschberg.specs.Receipts.{any_receipt}
-use Rattle.ring_hirschberg.specs.States.{IsOwn, own_first, own_next}
-use Rattle.ring_hirschberg.specs.Tokens.{own_low, phase_back}
-use Rattle.ring_hirschberg.specs.Walks.{walk}
-use Rattle.ring_hirschberg.specs.Weights.{by_side, sent_weight-less, weight, weight-less, weight-listed, weight-zero, weight_of}
+use Rattle.ring_hirschberg.specs.laws.Homecomings.{back_near, back_near_to}
+use Rattle.ring_hirschberg.specs.laws.Passing.{is_back, is_near, is_out, near_is_out}
+use Rattle.ring_hirschberg.specs.laws.Receipts.{any_receipt}
+use Rattle.ring_hirschberg.specs.laws.States.{IsOwn, own_first, own_next}
+use Rattle.ring_hirschberg.specs.laws.Tokens.{own_low, phase_back}
+use Rattle.ring_hirschberg.specs.laws.Walks.{walk}
+use Rattle.ring_hirschberg.specs.laws.Weights.{by_side, sent_weight-less, weight, weight-less, weight-listed, weight-zero, weight_of}
 
 -- ---- At a greater member
 

@@ -15,13 +15,13 @@ use Rattle.ring_hirschberg.specs.declared.hirschberg.HirschbergMsg.{HirschbergMs
 use Rattle.ring_hirschberg.specs.declared.hirschberg.HirschbergMsg.TheVariants.{Back, Out}
 use Rattle.ring_hirschberg.specs.declared.hirschberg.HirschbergState.{HirschbergState}
 use Rattle.ring_hirschberg.specs.Hirschberg.{hirschberg_first, hirschberg_first_sends, hirschberg_next, hirschberg_sends, hirschberg_table, phase}
-use Rattle.ring_hirschberg.specs.Homecomings.{member_at, other_member}
-use Rattle.ring_hirschberg.specs.Passing.{is_out}
-use Rattle.ring_hirschberg.specs.Receipts.{any_receipt}
-use Rattle.ring_hirschberg.specs.States.{IsOwn, own_first, own_next}
-use Rattle.ring_hirschberg.specs.Tokens.{own_out}
-use Rattle.ring_hirschberg.specs.Walks.{walk, walk_below}
-use Rattle.ring_hirschberg.specs.Weights.{by_side, from_behind, sent_weight-less, weight, weight-listed, weight-zero, weight_of}
+use Rattle.ring_hirschberg.specs.laws.Homecomings.{member_at, other_member}
+use Rattle.ring_hirschberg.specs.laws.Passing.{is_out}
+use Rattle.ring_hirschberg.specs.laws.Receipts.{any_receipt}
+use Rattle.ring_hirschberg.specs.laws.States.{IsOwn, own_first, own_next}
+use Rattle.ring_hirschberg.specs.laws.Tokens.{own_out}
+use Rattle.ring_hirschberg.specs.laws.Walks.{walk, walk_below}
+use Rattle.ring_hirschberg.specs.laws.Weights.{by_side, from_behind, sent_weight-less, weight, weight-listed, weight-zero, weight_of}
 
 -- a token of v on its way out with at least so many hops left
 abbrev is_far : ℕ → ℕ → HirschbergMsg → ℕ

@@ -12,12 +12,12 @@ use Rattle.ring_election.specs.Traces.{sent_after, taken_from}
 use Rattle.ring_election.proofs.Families.{length-taken}
 use Rattle.ring_election.proofs.Sums.{sum_to, sum_to-constant, sum_to-first, sum_to-less, sum_to-plus, sum_to-round, sum_to-same, sum_to-swap, sum_to-times, taken-sum}
 use Rattle.ring_hirschberg.specs.declared.hirschberg.HirschbergMsg.{HirschbergMsg}
-use Rattle.ring_hirschberg.specs.Bounded.{members_cover, owner_is_member, tokens_of}
+use Rattle.ring_hirschberg.specs.laws.Bounded.{members_cover, owner_is_member, tokens_of}
 use Rattle.ring_hirschberg.specs.Hirschberg.{ceil_log2, hirschberg_fits, hirschberg_table}
-use Rattle.ring_hirschberg.specs.Homecomings.{back_near}
-use Rattle.ring_hirschberg.specs.Passing.{is_back, is_near, is_out, near_is_out}
-use Rattle.ring_hirschberg.specs.Walks.{walk, walk_below}
-use Rattle.ring_hirschberg.specs.Weights.{from_behind, weight, weight-less}
+use Rattle.ring_hirschberg.specs.laws.Homecomings.{back_near}
+use Rattle.ring_hirschberg.specs.laws.Passing.{is_back, is_near, is_out, near_is_out}
+use Rattle.ring_hirschberg.specs.laws.Walks.{walk, walk_below}
+use Rattle.ring_hirschberg.specs.laws.Weights.{from_behind, weight, weight-less}
 use Rattle.ring_hirschberg.specs.Work.{phase_at, reaching}
 use Rattle.ring_hirschberg.proofs.Far.{begins, crossings, outs}
 use Rattle.ring_hirschberg.proofs.Packing.{phase_few, phases_rare, reaching-sum}

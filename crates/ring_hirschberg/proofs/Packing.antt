@@ -12,9 +12,9 @@ use Rattle.ring_election.proofs.Rings.{neighbour-neighbour}
 use Rattle.ring_election.proofs.Sums.{sum_to, sum_to-constant, sum_to-less, sum_to-once, sum_to-same, sum_to-swap}
 use Rattle.ring_hirschberg.specs.declared.hirschberg.HirschbergMsg.{HirschbergMsg}
 use Rattle.ring_hirschberg.specs.Hirschberg.{ceil_log2, hirschberg_table}
-use Rattle.ring_hirschberg.specs.Homecomings.{other_member, phase_small}
-use Rattle.ring_hirschberg.specs.Logarithm.{ceil_log2-least}
-use Rattle.ring_hirschberg.specs.Walks.{walk, walk_below, walk_first}
+use Rattle.ring_hirschberg.specs.laws.Homecomings.{other_member, phase_small}
+use Rattle.ring_hirschberg.specs.laws.Logarithm.{ceil_log2-least}
+use Rattle.ring_hirschberg.specs.laws.Walks.{walk, walk_below, walk_first}
 use Rattle.ring_hirschberg.specs.Work.{phase_at, reaching}
 use Rattle.ring_hirschberg.proofs.Apart.{stays_low}
 use Rattle.ring_hirschberg.proofs.Sums.{sum_to-walk}

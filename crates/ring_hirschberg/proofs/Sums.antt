@@ -3,8 +3,8 @@ use Rattle.std.proofs.Common.{◌≡◌, ◌*◌, ◌<◌, ℕ, zero, suc, List,
 use Rattle.ring_id.specs.declared.side.Side.{Side}
 use Rattle.ring_roster.specs.Ring.{neighbour}
 use Rattle.ring_election.proofs.Sums.{sum_to, sum_to-constant, sum_to-first, sum_to-round, sum_to-same, sum_to-swap}
-use Rattle.ring_hirschberg.specs.Walks.{walk, walk_below, walk_first, walk_home, walk_reaches}
-use Rattle.ring_hirschberg.specs.Weights.{weight}
+use Rattle.ring_hirschberg.specs.laws.Walks.{walk, walk_below, walk_first, walk_home, walk_reaches}
+use Rattle.ring_hirschberg.specs.laws.Weights.{weight}
 
 -- over the positions after so many steps from each, it is the same
 pub sum_to-walk : (f : ℕ → ℕ) (n : ℕ) (side : Side) (steps : ℕ) → sum_to (λ i. f (walk n i side steps)) n ≡ sum_to f n

@@ -1,14 +1,4 @@
-pub mod Bounded
-pub mod Deciding
 pub mod Hirschberg
-pub mod Homecomings
-pub mod Lawful
-pub mod Logarithm
-pub mod Passing
 pub mod Phases
-pub mod Receipts
-pub mod States
-pub mod Tokens
-pub mod Walks
-pub mod Weights
 pub mod Work
+pub mod laws

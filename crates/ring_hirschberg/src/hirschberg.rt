@@ -74,9 +74,9 @@ impl RingElection for Hirschberg {
     ghost use Rattle.std.proofs.Common.{rules};
     ghost use Rattle.ring_roster.specs.Ring.{greatest_of};
     ghost use Rattle.ring_hirschberg.specs.Hirschberg.{hirschberg_bound, hirschberg_fits, hirschberg_table};
-    ghost use Rattle.ring_hirschberg.specs.Bounded.{hirschberg_bounded};
-    ghost use Rattle.ring_hirschberg.specs.Deciding.{hirschberg_deciding};
-    ghost use Rattle.ring_hirschberg.specs.Lawful.{hirschberg_lawful};
+    ghost use Rattle.ring_hirschberg.specs.laws.Bounded.{hirschberg_bounded};
+    ghost use Rattle.ring_hirschberg.specs.laws.Deciding.{hirschberg_deciding};
+    ghost use Rattle.ring_hirschberg.specs.laws.Lawful.{hirschberg_lawful};
 
     type Msg = HirschbergMsg;
 

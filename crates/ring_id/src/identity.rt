@@ -66,7 +66,7 @@ pub struct NodeId {
 impl Model for NodeId {
     ghost use Rattle.std.specs.Prelude.{ℕ, ◌<◌, ◌≡◌, refl};
     ghost use Rattle.ring_id.specs.Identity.{number_of, rank_of, weight_of};
-    ghost use Rattle.ring_id.specs.Ranks.{number_of-rank, weight_of-rank};
+    ghost use Rattle.ring_id.specs.laws.Ranks.{number_of-rank, weight_of-rank};
 
     ghost Value = { ℕ };
 

@@ -4,8 +4,10 @@ use mathlib.Core.Option.{some}
 use lib.ListN.{get_elem?}
 use Rattle.crossbeam_channel.specs.Fifo.{Pushes, Pops, Forks, Merges, Learns}
 use Rattle.ring_inbox.specs.declared.rule.Known.{Known}
-use Rattle.ring_inbox.specs.Inbox.{items_of, Moment, IsLegal, with_stored}
-use Rattle.ring_inbox.specs.Rule.{Ledger, receiver, sender, met, nobody, moment_of, IsSender, IsReceiver, Fits, Holds, SaysNothing, IsStored, IsTaken, IsPrefixTaken}
+use Rattle.ring_inbox.specs.Inbox.{items_of}
+use Rattle.ring_inbox.specs.private.Inbox.{Moment, IsLegal, with_stored}
+use Rattle.ring_inbox.specs.private.Rule.{Ledger, met, moment_of, IsSender, IsReceiver, Fits, Holds, SaysNothing, IsStored, IsTaken, IsPrefixTaken}
+use Rattle.ring_inbox.specs.Rule.{receiver, sender, nobody}
 use Rattle.ring_inbox.proofs.Views.{element_after_set, Each, each_of_none, each_after_set, each_after_push}
 use Rattle.ring_inbox.proofs.Steps.{legal_after_store, legal_after_take, with_stored-own, with_stored-other}
 

@@ -1,6 +1,7 @@
 -- The two steps of an inbox keep it legal.
 use Rattle.std.proofs.Common.{◌≡◌, ◌≢◌, ◌==◌, ℕ, ◌<◌, Bool, true, false, if◌then◌else◌, List, [], ◌∷◌, ◌++◌, length, length-append, append_assoc, sym, refl, ap, ◌∙◌, eq-eqb, ne_eqb, arith}
-use Rattle.ring_inbox.specs.Inbox.{items_of, Moment, IsLegal, with_stored, after_store, after_take}
+use Rattle.ring_inbox.specs.Inbox.{items_of}
+use Rattle.ring_inbox.specs.private.Inbox.{Moment, IsLegal, with_stored, after_store, after_take}
 
 module _ {T : Type 0} where
   -- whether one item stands before a list, and whether another stands behind it, make no difference to each other

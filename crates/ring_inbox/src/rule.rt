@@ -23,7 +23,8 @@ pub struct InOrder;
 
 impl<T> Protocol<(usize, T), Known<T>> for InOrder {
     ghost use Rattle.std.specs.Prelude.{[]};
-    ghost use Rattle.ring_inbox.specs.Rule.{receiver, Holds};
+    ghost use Rattle.ring_inbox.specs.Rule.{receiver};
+    ghost use Rattle.ring_inbox.specs.private.Rule.{Holds};
 
     ghost holds = { Holds };
 
@@ -66,7 +67,8 @@ impl<T> Split<Known<T>> for Makes {
 pub struct Meets;
 
 impl<T> Join<Known<T>> for Meets {
-    ghost use Rattle.ring_inbox.specs.Rule.{met, nobody};
+    ghost use Rattle.ring_inbox.specs.private.Rule.{met};
+    ghost use Rattle.ring_inbox.specs.Rule.{nobody};
 
     ghost both = { λ v w. met v.capacity v.number v.stored w.made w.taken };
 
@@ -74,7 +76,7 @@ impl<T> Join<Known<T>> for Meets {
 }
 
 impl<T> Lesson<(usize, T), Known<T>> for Meets {
-    ghost use Rattle.ring_inbox.specs.Rule.{IsPrefixTaken};
+    ghost use Rattle.ring_inbox.specs.private.Rule.{IsPrefixTaken};
 
     ghost fact = { λ v queue. IsPrefixTaken v };
 }
@@ -91,13 +93,13 @@ impl<T> Split<Known<T>> for Meets {
 pub struct Stores;
 
 impl<T> Outcome<(usize, T), Known<T>> for Stores {
-    ghost use Rattle.ring_inbox.specs.Rule.{IsStored};
+    ghost use Rattle.ring_inbox.specs.private.Rule.{IsStored};
 
     ghost then = { IsStored };
 }
 
 impl<T> Lesson<(usize, T), Known<T>> for Stores {
-    ghost use Rattle.ring_inbox.specs.Rule.{SaysNothing};
+    ghost use Rattle.ring_inbox.specs.private.Rule.{SaysNothing};
 
     ghost fact = { SaysNothing };
 }
@@ -106,13 +108,13 @@ impl<T> Lesson<(usize, T), Known<T>> for Stores {
 pub struct Takes;
 
 impl<T> Outcome<(usize, T), Known<T>> for Takes {
-    ghost use Rattle.ring_inbox.specs.Rule.{IsTaken};
+    ghost use Rattle.ring_inbox.specs.private.Rule.{IsTaken};
 
     ghost then = { IsTaken };
 }
 
 impl<T> Lesson<(usize, T), Known<T>> for Takes {
-    ghost use Rattle.ring_inbox.specs.Rule.{SaysNothing};
+    ghost use Rattle.ring_inbox.specs.private.Rule.{SaysNothing};
 
     ghost fact = { SaysNothing };
 }

@@ -12,8 +12,8 @@ use Rattle.ring_election.proofs.Families.{length-taken}
 use Rattle.ring_election.proofs.Members.{IsIn, slice_get-append_right}
 use Rattle.ring_election.proofs.Rings.{behind, leftward-is_ring, leftward-left_of, length-leftward, same_position}
 use Rattle.ring_lelann.specs.LeLann.{lelann_fits, lelann_table}
-use Rattle.ring_lelann.specs.Deciding.{comes_home}
-use Rattle.ring_lelann.specs.Taken.{length-receipts}
+use Rattle.ring_lelann.specs.laws.Deciding.{comes_home}
+use Rattle.ring_lelann.specs.laws.Taken.{length-receipts}
 
 -- a position to which its own identity came has taken as many messages as the ring has members
 taken-all : (ring : List ℕ) (i me : ℕ) (receipts : List (Side × ℕ)) → IsRing ring → slice_get ring i ≡ Some me → AllFit lelann_fits ring i receipts

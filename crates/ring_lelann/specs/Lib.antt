@@ -1,8 +1,3 @@
-pub mod Bounded
-pub mod Deciding
-pub mod Lawful
 pub mod LeLann
-pub mod Others
-pub mod Taken
-pub mod Traces
 pub mod Work
+pub mod laws

@@ -48,9 +48,9 @@ impl LeLannState {
 impl RingElection for LeLann {
     ghost use Rattle.std.specs.Prelude.{true, false};
     ghost use Rattle.std.proofs.Common.{rules};
-    ghost use Rattle.ring_lelann.specs.Bounded.{lelann_bounded};
-    ghost use Rattle.ring_lelann.specs.Deciding.{lelann_deciding};
-    ghost use Rattle.ring_lelann.specs.Lawful.{lelann_lawful};
+    ghost use Rattle.ring_lelann.specs.laws.Bounded.{lelann_bounded};
+    ghost use Rattle.ring_lelann.specs.laws.Deciding.{lelann_deciding};
+    ghost use Rattle.ring_lelann.specs.laws.Lawful.{lelann_lawful};
     ghost use Rattle.ring_lelann.specs.LeLann.{lelann_bound, lelann_first, lelann_fits, lelann_next, lelann_sends, lelann_table};
 
     type Msg = NodeId;

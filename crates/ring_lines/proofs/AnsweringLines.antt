@@ -7,9 +7,9 @@ use Rattle.ring_lines.specs.Ends.{Reading, Writing, bytes_of, goes_on, Wrote, Wr
 use Rattle.ring_lines.specs.Lines.{has_lf, whole_lines_of}
 use Rattle.ring_lines.specs.Buffer.{BufferView}
 use Rattle.ring_lines.specs.Reader.{AnswersOpen, BeginsText, CutsLines, GivesAt, GivesNext, Repeats, ShowsLine, Stops, most_bytes}
-use Rattle.ring_lines.specs.Pages.{Closes, Passes}
+use Rattle.ring_lines.specs.private.Pages.{Closes, Passes}
 use Rattle.ring_lines.specs.Rounds.{AnswersLines, AreInTurn, Round, Rounds, RunOf, WroteAll, calls_of, read_in, text_of, written_in}
-use Rattle.ring_lines.specs.Sequences.{bytes_of-append}
+use Rattle.ring_lines.specs.laws.Sequences.{bytes_of-append}
 use Rattle.ring_lines.specs.declared.answers.LineFault.{LineFault}
 use Rattle.ring_lines.specs.declared.answers.LineFault.TheVariants as fault
 use Rattle.ring_lines.specs.declared.answers.Phase.{Phase}

@@ -6,7 +6,7 @@ use Rattle.std.proofs.lemmas.List.{get_or-take}
 use Rattle.std.proofs.lemmas.List.Folds.{list_any_none}
 use Rattle.std.proofs.lemmas.List.Sums.{fails_before_first, passes_at_first, split_at_first}
 use Rattle.ring_lines.specs.Lines.{lines_of, whole_lines_of, onto_whole, has_lf}
-use Rattle.ring_lines.specs.Filling.{FindsLine, IsCutAt}
+use Rattle.ring_lines.specs.private.Filling.{FindsLine, IsCutAt}
 use Rattle.std.specs.List.{onto_first}
 
 -- an LF

@@ -7,13 +7,13 @@ use Rattle.ring_lines.specs.Ends.{Reading, CallsLead, bytes_of, goes_on}
 use Rattle.ring_lines.specs.Lines.{lines_of, has_lf}
 use Rattle.ring_lines.specs.Buffer.{BufferView}
 use Rattle.ring_lines.specs.Reader.{AnswersOpen, Stops, BeginsText, ShowsLine, MayGive, Waits}
-use Rattle.ring_lines.specs.Filling.{IsCutAt, answer_of, last_of, Fills}
+use Rattle.ring_lines.specs.private.Filling.{IsCutAt, answer_of, last_of, Fills}
 use Rattle.ring_lines.specs.declared.answers.LineFault.{LineFault}
 use Rattle.ring_lines.specs.declared.answers.LineFault.TheVariants as fault
 use Rattle.ring_lines.specs.declared.answers.Phase.{Phase}
 use Rattle.ring_lines.specs.declared.answers.Phase.TheVariants as phase
 use Rattle.ring_lines.specs.declared.answers.Next.TheVariants as next
-use Rattle.ring_lines.specs.Sequences.{Calls-append, bytes_of-append}
+use Rattle.ring_lines.specs.laws.Sequences.{Calls-append, bytes_of-append}
 use Rattle.ring_lines.proofs.Calling.{went_on-append, LastOf-append, waits_once, waits-append}
 use Rattle.ring_lines.proofs.Cutting.{lines_of-line, whole_lines_of-line, lines_of-rest, whole_lines_of-rest}
 

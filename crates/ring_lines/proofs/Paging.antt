@@ -4,8 +4,8 @@ use Rattle.std.proofs.lemmas.List.{take_at}
 use Rattle.ring_lines.specs.Ends.{Writing, CallsLead, bytes_of, Wrote, WroteFront}
 use Rattle.ring_lines.specs.Page.{PageView, PageTakes}
 use Rattle.ring_lines.proofs.Calling.{Calls-add}
-use Rattle.ring_lines.specs.Sequences.{wrote_none}
-use Rattle.ring_lines.specs.Pages.{Passes}
+use Rattle.ring_lines.specs.laws.Sequences.{wrote_none}
+use Rattle.ring_lines.specs.private.Pages.{Passes}
 use Rattle.ring_grammar.specs.Appending.{AppendsFront}
 
 -- the calls add their bytes to the text on a page

@@ -6,7 +6,7 @@ use Rattle.ring_lines.specs.Ends.{CallsLead, Reading, Writing, bytes_in, bytes_o
 use Rattle.ring_lines.specs.Lines.{has_lf, whole_lines_of}
 use Rattle.ring_lines.specs.Reader.{BeginsText, CutsLines, Stops, Waits}
 use Rattle.ring_lines.specs.Rounds.{AreFirst, AreInTurn, MayRead, Round, Rounds, RunOf, calls_of, is_end, lines_owed, read_in, text_of, written_in}
-use Rattle.ring_lines.specs.Sequences.{bytes_of-append, wrote_none, wrote_then}
+use Rattle.ring_lines.specs.laws.Sequences.{bytes_of-append, wrote_none, wrote_then}
 use Rattle.ring_lines.specs.declared.answers.LineFault.TheVariants as fault
 use Rattle.ring_lines.specs.declared.answers.Phase.{Phase}
 use Rattle.ring_lines.specs.declared.answers.Phase.TheVariants as phase

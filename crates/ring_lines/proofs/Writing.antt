@@ -5,7 +5,7 @@ use Rattle.ring_lines.specs.Ends.{Writing, writing, CallsLead, bytes_in, bytes_o
 use Rattle.std.specs.Prelude.{OnErr, OnOk}
 use Rattle.std.specs.Result.{result_unwrap_or}
 use Rattle.ring_lines.specs.declared.ends.WriteFailed.{WriteFailed}
-use Rattle.ring_lines.specs.Sequences.{Calls-append, bytes_of-append}
+use Rattle.ring_lines.specs.laws.Sequences.{Calls-append, bytes_of-append}
 
 -- The calls so far took a front of a text, and this rest of it is left.
 pub record Puts {S : Type 0} (gives : S → Writing → S → Type 0) (from : S) (text : List ℕ) (to : S) (rest : List ℕ) : Type 0 where

@@ -1,12 +1,11 @@
 pub mod Buffer
 pub mod Drip
 pub mod Ends
-pub mod Filling
 pub mod Known
 pub mod Lines
 pub mod Page
-pub mod Pages
 pub mod Reader
 pub mod Replay
 pub mod Rounds
-pub mod Sequences
+pub mod laws
+pub mod private

@@ -1,6 +1,6 @@
 ghost use Rattle.std.specs.Prelude.{◌≡◌, ◌+◌, ◌-◌, ◌<◌, ◌≤◌, ◌||◌, ◌==◌, [], length, take, drop, position, slice_range, nat_lt, if◌then◌else◌, IfOk};
 ghost use Rattle.ring_lines.specs.Ends.{reading};
-ghost use Rattle.ring_lines.specs.Filling.{answer_of, phase_of};
+ghost use Rattle.ring_lines.specs.private.Filling.{answer_of, phase_of};
 
 use crate::answers::{LONGEST, Line, LineFault, Next, Phase};
 use crate::ends::{Intake, ReadFault};
@@ -25,7 +25,8 @@ pub struct LineBuffer {
 
 impl Model for LineBuffer {
     ghost use Rattle.std.specs.Prelude.{slice_range};
-    ghost use Rattle.ring_lines.specs.Buffer.{BufferView, IsWithin};
+    ghost use Rattle.ring_lines.specs.Buffer.{BufferView};
+    ghost use Rattle.ring_lines.specs.private.Buffer.{IsWithin};
 
     ghost Value = { BufferView };
 
@@ -35,7 +36,7 @@ impl Model for LineBuffer {
 }
 
 impl LineBuffer {
-    ghost use Rattle.ring_lines.specs.Filling.{Fills, FindsLine, answer_of, last_of};
+    ghost use Rattle.ring_lines.specs.private.Filling.{Fills, FindsLine, answer_of, last_of};
     ghost use Rattle.ring_lines.specs.Lines.{has_lf};
     ghost use Rattle.ring_lines.specs.Reader.{AnswersOpen, GivesNext};
     ghost use Rattle.ring_lines.specs.declared.answers.Phase.TheVariants as phase;

@@ -81,7 +81,8 @@ impl Outlet for Page {
 }
 
 impl Sink for Page {
-    ghost use Rattle.ring_grammar.specs.Appending.{Appends, AppendsFront, appends_in_sequence};
+    ghost use Rattle.ring_grammar.specs.Appending.{Appends, AppendsFront};
+    ghost use Rattle.ring_grammar.specs.laws.Appending.{appends_in_sequence};
 
     ghost takes = { λ a text b. Appends a.text text b.text };
 

@@ -2,7 +2,7 @@
 ghost use Rattle.std.specs.Prelude.{◌≡◌, ◌++◌, [], false, OnErr, OnOk};
 ghost use Rattle.ring_lines.specs.Ends.{WroteFront};
 ghost use Rattle.ring_lines.specs.Lines.{has_lf};
-ghost use Rattle.ring_lines.specs.Pages.{Closes, Passes};
+ghost use Rattle.ring_lines.specs.private.Pages.{Closes, Passes};
 
 use crate::answers::LineFault;
 use crate::buffer::LineBuffer;
@@ -19,7 +19,7 @@ struct Feeder<'a, W> {
 }
 
 impl<W: Outlet> Sink for Feeder<'_, W> {
-    ghost use Rattle.ring_lines.specs.Sequences.{Feeds, FeedsFront, feeds_in_sequence};
+    ghost use Rattle.ring_lines.specs.laws.Sequences.{Feeds, FeedsFront, feeds_in_sequence};
 
     ghost takes = { Feeds W.write_gives (λ a. a.writer.now) (λ a. a.page.now.text) (λ a. a.page.ghost_name) (λ a. a.writer.ghost_name) };
 

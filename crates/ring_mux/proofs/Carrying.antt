@@ -29,7 +29,8 @@ use Rattle.ring_terms.specs.declared.standing.Noting.{Noting}
 use Rattle.ring_terms.specs.declared.standing.Noting.TheVariants.{Noted, Known, Stale}
 use Rattle.ring_terms.proofs.Members.{position_is, position_of-at}
 use Rattle.ring_mux.specs.Steps.{MovesOf}
-use Rattle.ring_mux.specs.Views.{IsHeld, IsSeat, IsWorldOf, world_in}
+use Rattle.ring_mux.specs.Views.{IsHeld, IsWorldOf, world_in}
+use Rattle.ring_mux.specs.private.Views.{IsSeat}
 use Rattle.ring_mux.specs.Journeys.{with_world}
 
 -- names that are equal as bytes are one name

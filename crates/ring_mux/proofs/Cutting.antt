@@ -10,7 +10,8 @@ use Rattle.ring_election.specs.Families.{Fitting}
 use Rattle.ring_world.specs.Worlds.{Cuts, IsSoundWorld, Running, after_cut}
 use Rattle.ring_terms.specs.Object.{Object}
 use Rattle.ring_mux.specs.Journeys.{with_world}
-use Rattle.ring_mux.specs.Views.{IsHeld, IsSoundHeld, world_in}
+use Rattle.ring_mux.specs.Views.{IsHeld, world_in}
+use Rattle.ring_mux.specs.private.Views.{IsSoundHeld}
 use Rattle.ring_mux.proofs.Carrying.{held_silent}
 use Rattle.ring_mux.proofs.Keeping.{sound_written}
 

@@ -18,9 +18,11 @@ use Rattle.ring_world.proofs.Links.{same_or_not}
 use Rattle.ring_terms.specs.Commands.{running_refusal}
 use Rattle.ring_terms.specs.Object.{GroupView, InGroup, Object, OfGroup, TermView, find, last_term, with_group}
 use Rattle.ring_mux.specs.declared.carried.Carried.TheVariants.{Moved}
-use Rattle.ring_mux.specs.Journeys.{CanMove, Carries, CarriesAmong, CarriesTimes, MakesAmong, with_world}
+use Rattle.ring_mux.specs.Journeys.{CanMove, Carries, CarriesTimes, with_world}
+use Rattle.ring_mux.specs.private.Journeys.{CarriesAmong, MakesAmong}
 use Rattle.ring_mux.specs.Steps.{MovesOf, MovesTimes}
-use Rattle.ring_mux.specs.Views.{Held, IsHeld, IsSeat, IsSoundHeld, IsWorldOf, world_in}
+use Rattle.ring_mux.specs.Views.{Held, IsHeld, IsWorldOf, world_in}
+use Rattle.ring_mux.specs.private.Views.{IsSeat, IsSoundHeld}
 use Rattle.ring_mux.proofs.Outcomes.{of_found}
 use Rattle.ring_mux.proofs.Carrying.{last_written, position_here, running_ring, same_found, written_found}
 

@@ -9,7 +9,7 @@ use Rattle.ring_terms.specs.Object.{GroupView, InGroup, Object, OfGroup}
 use Rattle.ring_terms.specs.Standings.{Tells}
 use Rattle.ring_mux.specs.declared.event.Event.{Event}
 use Rattle.ring_mux.specs.declared.reply.Reply.{Reply}
-use Rattle.ring_mux.specs.Replies.{told_reply}
+use Rattle.ring_mux.specs.private.Replies.{told_reply}
 use Rattle.ring_mux.specs.Steps.{Replies, Run, Step, TellsReply}
 use Rattle.ring_mux.specs.Views.{Held}
 use Rattle.ring_mux.specs.WorldSteps.{RunOfWorlds, StepOfWorlds}

@@ -14,7 +14,8 @@ use Rattle.ring_terms.specs.Commands.{running_refusal}
 use Rattle.ring_terms.specs.Object.{GroupView, Object, OfGroup, TermView, last_term}
 use Rattle.ring_mux.specs.Quiet.{QuietIsKnown}
 use Rattle.ring_mux.specs.Steps.{IsKnown, KnownIfNone}
-use Rattle.ring_mux.specs.Views.{AreSound, IsSoundHeld, IsWorldOf, world_in}
+use Rattle.ring_mux.specs.private.Views.{AreSound, IsSoundHeld}
+use Rattle.ring_mux.specs.Views.{IsWorldOf, world_in}
 use Rattle.ring_mux.proofs.Carrying.{looked_up, running_ring}
 use Rattle.ring_mux.proofs.Drains.{the_term}
 

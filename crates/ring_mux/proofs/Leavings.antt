@@ -10,7 +10,8 @@ use Rattle.ring_node.specs.declared.packet.Packet.{Packet}
 use Rattle.ring_world.specs.Worlds.{Running, delivered_of, most_deliveries, receipts_in, size_of}
 use Rattle.ring_world.proofs.Work.{work_bounded}
 use Rattle.ring_mux.specs.Journeys.{CarriesTimes, Makes}
-use Rattle.ring_mux.specs.Views.{AreSound, Held, world_in}
+use Rattle.ring_mux.specs.private.Views.{AreSound}
+use Rattle.ring_mux.specs.Views.{Held, world_in}
 use Rattle.ring_mux.specs.WorldSteps.{LeavesQuiet}
 use Rattle.ring_mux.specs.declared.reply.Reply.TheVariants.{Drained}
 use Rattle.ring_mux.proofs.Carrying.{same_found, written_found}

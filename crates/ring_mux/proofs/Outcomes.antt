@@ -19,7 +19,8 @@ use Rattle.ring_terms.specs.Object.{InGroup, Object}
 use Rattle.ring_mux.specs.declared.carried.Carried.TheVariants.{Moved}
 use Rattle.ring_mux.specs.Journeys.{Carries, Files, with_world}
 use Rattle.ring_mux.specs.Steps.{MovesOf}
-use Rattle.ring_mux.specs.Views.{Held, IsHeld, IsSeat, world_in}
+use Rattle.ring_mux.specs.Views.{Held, IsHeld, world_in}
+use Rattle.ring_mux.specs.private.Views.{IsSeat}
 use Rattle.ring_mux.proofs.Carrying.{held_silent, noted, same_found, seat_inside, silent_knows, told_knows, world_of}
 
 -- what is so of the world that was found is so of whatever is found under its name

@@ -15,9 +15,10 @@ use Rattle.ring_world.specs.Worlds.{Cuts, Running, link_refusal}
 use Rattle.ring_terms.specs.Charters.{running_charter}
 use Rattle.ring_terms.specs.Commands.{in_group, member_refusal, running_refusal, who_refusal}
 use Rattle.ring_terms.specs.Object.{GroupView, InGroup, Object, OfGroup, OfLast, TermView, find, last_term}
-use Rattle.ring_mux.specs.Replies.{done_reply}
+use Rattle.ring_mux.specs.private.Replies.{done_reply}
 use Rattle.ring_mux.specs.Steps.{MovesOf, Replies, deliver_refusal}
-use Rattle.ring_mux.specs.Views.{Held, IsHeld, IsSeat, IsWorldOf, world_in}
+use Rattle.ring_mux.specs.Views.{Held, IsHeld, IsWorldOf, world_in}
+use Rattle.ring_mux.specs.private.Views.{IsSeat}
 use Rattle.ring_mux.specs.declared.carried.Carried.TheVariants.{Moved, Idle, Refused}
 use Rattle.ring_mux.specs.Journeys.{Carries, with_world}
 use Rattle.ring_mux.specs.WorldSteps.{CarriesAt, CutOfWorlds}

@@ -6,7 +6,6 @@ use Rattle.ring_id.specs.declared.side.Side.{Side}
 use Rattle.ring_id.specs.Refusals.{IsRefusal}
 use Rattle.ring_roster.specs.Ring.{position_of}
 use Rattle.ring_election.specs.Tables.{Table}
-use Rattle.ring_election.specs.Families.{Fitting}
 use Rattle.ring_node.specs.declared.charter.Charter.{Charter}
 use Rattle.ring_node.specs.Reports.{Told}
 use Rattle.ring_world.specs.Quiet.{IsQuiet}
@@ -14,11 +13,11 @@ use Rattle.ring_world.specs.Worlds.{HasMoved, IsFirstLink, Running, in_flight, l
 use Rattle.ring_terms.specs.declared.standing.Noting.TheVariants.{Noted}
 use Rattle.ring_terms.specs.Commands.{running_refusal}
 use Rattle.ring_terms.specs.Notes.{Notes}
-use Rattle.ring_terms.specs.Object.{InGroup, Object, OfGroup, names}
+use Rattle.ring_terms.specs.Object.{InGroup, Object, OfGroup}
 use Rattle.ring_mux.specs.declared.carried.Carried.{Carried}
 use Rattle.ring_mux.specs.declared.carried.Carried.TheVariants.{Moved, Idle, Refused}
 use Rattle.ring_mux.specs.Steps.{MovesOf, MovesTimes}
-use Rattle.ring_mux.specs.Views.{Held, IsSeat, IsSoundHeld, world_in}
+use Rattle.ring_mux.specs.Views.{Held, world_in}
 
 -- the worlds with this one under that name, all others as they were
 abbrev pub with_world : {E M : Type 0} → List ℕ → Running E M → List (List ℕ × Running E M) → List (List ℕ × Running E M)
@@ -53,15 +52,6 @@ Carries t two_way greatest name i side world old Idle new = (link_refusal (two_w
 Carries t two_way greatest name i side world old (Refused refusal) new =
     IsRefusal (link_refusal (two_way world.charter.algorithm) side) (nat_lt 0 (length (in_flight t world i side))) refusal × (new ≡ old)
 
--- The same, wherever that world stands among the worlds of a mux: under whatever name it is the world
--- of a group, and the position a seat of it.
-abbrev pub CarriesAmong : {E S M : Type 0} → (E → Table S M) → (E → Fitting M) → (E → List ℕ → ℕ) → (E → Bool) → (E → Bool) → ℕ → Side → Object E → Running E M → Carried → Object E → Running E M → Type 0
-CarriesAmong {E} {S} {M} t fits winner two_way greatest i side object world done object' world' =
-    (name : List ℕ) (worlds : List (List ℕ × Running E M)) → IsSoundHeld t fits winner object worlds → world_in name worlds ≡ Some world → IsSeat name i object
-    → Carries t two_way greatest name i side world (record { object = object; worlds = worlds }) done (record { object = object'; worlds = with_world name world' worlds })
-    × IsSoundHeld t fits winner object' (with_world name world' worlds)
-    × (names object' ≡ names object)
-
 -- something can move in a world: there is a first link with something in flight
 pub record CanMove {E S M : Type 0} (t : E → Table S M) (world : Running E M) : Type 0 where
   pub position : ℕ
@@ -91,10 +81,3 @@ pub record Makes {E S M : Type 0} (t : E → Table S M) (greatest : E → Bool) 
   pub runs : OfGroup name (λ group. running_refusal group ≡ None) new.object
   pub ended : starved ≡ false → (done ≡ count) ⊎ ((w : Running E M) → world_in name new.worlds ≡ Some w → IsQuiet t w)
   pub stopped : starved ≡ true → (done < count) × ((w : Running E M) → world_in name new.worlds ≡ Some w → CanMove t w)
-
--- the same, wherever that world stands among the worlds of a mux
-abbrev pub MakesAmong : {E S M : Type 0} → (E → Table S M) → (E → Fitting M) → (E → List ℕ → ℕ) → (E → Bool) → ℕ → Object E → Running E M → ℕ → Bool → Object E → Running E M → Type 0
-MakesAmong {E} {S} {M} t fits winner greatest count object world done starved object' world' =
-    (name : List ℕ) (worlds : List (List ℕ × Running E M)) → IsSoundHeld t fits winner object worlds → world_in name worlds ≡ Some world → OfGroup name (λ group. running_refusal group ≡ None) object
-    → Makes t greatest name count done starved (record { object = object; worlds = worlds }) (record { object = object'; worlds = with_world name world' worlds })
-    × IsSoundHeld t fits winner object' (with_world name world' worlds)

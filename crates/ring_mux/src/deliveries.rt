@@ -1,6 +1,6 @@
 ghost use Rattle.std.specs.Prelude.{◌≡◌, ◌<◌, length};
 ghost use Rattle.ring_terms.specs.Object.{names};
-ghost use Rattle.ring_mux.specs.Journeys.{CarriesAmong, MakesAmong};
+ghost use Rattle.ring_mux.specs.private.Journeys.{CarriesAmong, MakesAmong};
 
 use crate::carried::Carried;
 use ring_election::RingElection;

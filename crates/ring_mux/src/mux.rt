@@ -3,9 +3,10 @@ ghost use Rattle.ring_roster.specs.Ring.{position_of};
 ghost use Rattle.ring_terms.specs.Commands.{Shows, in_group, running_refusal, who_refusal};
 ghost use Rattle.ring_terms.specs.Object.{OfGroup, OfLast, names};
 ghost use Rattle.ring_mux.specs.Quiet.{QuietIsKnown};
-ghost use Rattle.ring_mux.specs.Replies.{done_reply, told_reply};
+ghost use Rattle.ring_mux.specs.private.Replies.{done_reply, told_reply};
 ghost use Rattle.ring_mux.specs.Steps.{KnownIfNone, Run, Step, StepOf, standing_reply};
-ghost use Rattle.ring_mux.specs.Views.{HasGrown, IsAt, IsHeld, IsPendingIn};
+ghost use Rattle.ring_mux.specs.private.Views.{HasGrown, IsAt};
+ghost use Rattle.ring_mux.specs.Views.{IsHeld, IsPendingIn};
 ghost use Rattle.ring_mux.specs.WorldSteps.{CommandOfWorlds, LeavesQuiet, RunOfWorlds, StartOfWorlds, StepOfWorlds};
 
 use crate::carried::Carried;
@@ -30,7 +31,8 @@ pub struct Mux<E: RingElection> {
 
 impl<E: RingElection> Model for Mux<E> {
     ghost use Rattle.ring_terms.specs.Object.{names};
-    ghost use Rattle.ring_mux.specs.Views.{Held, IsKeptAt, placed};
+    ghost use Rattle.ring_mux.specs.Views.{Held, placed};
+    ghost use Rattle.ring_mux.specs.private.Views.{IsKeptAt};
 
     ghost Value = { Held E E.Msg };
 

@@ -7,7 +7,8 @@ use Rattle.ring_id.specs.declared.side.Side.TheVariants.{Left, Right}
 use Rattle.ring_election.specs.Tables.{Table, to_side}
 use Rattle.ring_node.specs.declared.packet.Packet.{Packet}
 use Rattle.ring_node.specs.declared.packet.Packet.TheVariants.{Algo, Leader}
-use Rattle.ring_node.specs.Journals.{algo_count, algo_sends, announcement, brought, kept_or, leader_count, leader_place, news, packets_after, packets_from, state_on}
+use Rattle.ring_node.specs.Journals.{algo_count, algo_sends, announcement, brought, kept_or, leader_count, news, packets_after, packets_from, state_on}
+use Rattle.ring_node.specs.private.Journals.{leader_place}
 use Rattle.ring_node.specs.Ports.{all_algos}
 use Rattle.ring_node.proofs.Receipts.{leader_count-append}
 

@@ -10,8 +10,9 @@ use Rattle.ring_election.specs.Tables.{Table, to_side}
 use Rattle.ring_election.specs.Traces.{listed, sent_after, sent_from, state_after, state_from, taken_from}
 use Rattle.ring_node.specs.declared.packet.Packet.{Packet}
 use Rattle.ring_node.specs.declared.packet.Packet.TheVariants.{Algo, Leader}
-use Rattle.ring_node.specs.Journals.{algo_count, algo_of, algo_part, algo_receipt, algo_sends, algos_of, announcement, brought, kept_or, known_after, known_from, leader_count, news, packets_after, packets_from, state_on}
-use Rattle.ring_node.specs.Kept.{AllName}
+use Rattle.ring_node.specs.Journals.{algo_count, algo_part, algo_receipt, algo_sends, announcement, brought, kept_or, known_after, known_from, leader_count, news, packets_after, packets_from, state_on}
+use Rattle.ring_node.specs.private.Journals.{algo_of, algos_of}
+use Rattle.ring_node.specs.private.Kept.{AllName}
 use Rattle.ring_node.specs.Ports.{all_algos}
 
 -- the element behind a list, or one of the list's own

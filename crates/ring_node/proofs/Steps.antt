@@ -13,9 +13,10 @@ use Rattle.ring_election.specs.Traces.{taken_from}
 use Rattle.ring_node.specs.declared.packet.Packet.{Packet}
 use Rattle.ring_node.specs.declared.packet.Packet.TheVariants.{Algo, Leader}
 use Rattle.ring_node.specs.declared.port.Port.{Port}
-use Rattle.ring_node.specs.Envelopes.{AllSendable, IsProper, IsSendable, index_after}
+use Rattle.ring_node.specs.private.Envelopes.{AllSendable}
+use Rattle.ring_node.specs.Envelopes.{IsProper, IsSendable, index_after}
 use Rattle.ring_node.specs.Journals.{algo_count, algo_part, algo_sends, announcement, brought, kept_or, known_after, leader_count, news, packets_after, state_on}
-use Rattle.ring_node.specs.Kept.{AllName, IsPort, IsSeated}
+use Rattle.ring_node.specs.private.Kept.{AllName, IsPort, IsSeated}
 use Rattle.ring_node.specs.Ports.{all_algos}
 use Rattle.ring_node.specs.Reports.{IsTruthful}
 use Rattle.ring_node.proofs.Receipts.{AllFit-snoc, algo_at, algos_of-packets_after, leader_at, AllName-all_algos, AllName-announcement, AllName-append, algo_count-append, algo_part-snoc, known_after-snoc, leader_count-append, length-taken_from-algo_part, packets_after-snoc, state_after-snoc, taken_from-append}

@@ -1,5 +1,5 @@
 -- Envelopes: a packet on its way, with the link that it goes over and its index there.
-use Rattle.std.specs.Prelude.{◌≡◌, ◌<◌, ℕ, List, Some, length, slice_get, take}
+use Rattle.std.specs.Prelude.{◌≡◌, ◌<◌, ℕ, List, length}
 use Rattle.ring_id.specs.declared.side.Side.{Side}
 use Rattle.ring_election.specs.Families.{Fitting}
 use Rattle.ring_node.specs.declared.charter.Charter.{Charter}
@@ -30,7 +30,3 @@ IsProper fits winner ring from side index (Leader v) = (v ≡ winner ring) × (i
 pub record IsSendable {M : Type 0} (fits : Fitting M) (winner : List ℕ → ℕ) (ring : List ℕ) (from : ℕ) (side : Side) (index : ℕ) (packet : Packet M) : Type 0 where
   pub inside : from < length ring
   pub proper : IsProper fits winner ring from side index packet
-
--- each of these packets, sent to a side by the node at a position, is so at its index
-pub record AllSendable {M : Type 0} (fits : Fitting M) (winner : List ℕ → ℕ) (ring : List ℕ) (from : ℕ) (side : Side) (packets : List (Packet M)) : Type 0 where
-  pub each : (k : ℕ) (p : Packet M) → slice_get packets k ≡ Some p → IsSendable fits winner ring from side (index_after (take k packets) p) p

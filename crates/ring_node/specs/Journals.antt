@@ -1,6 +1,6 @@
 -- What follows from a node's journal, the list of all that it received: each receipt is the side from
 -- which it came and its packet.
-use Rattle.std.specs.Prelude.{◌+◌, ℕ, suc, List, [], ◌∷◌, ◌++◌, Option, Some, None, option_map}
+use Rattle.std.specs.Prelude.{◌+◌, ℕ, List, [], ◌∷◌, ◌++◌, Option, Some, None}
 use Rattle.ring_id.specs.declared.side.Side.{Side}
 use Rattle.ring_id.specs.declared.side.Side.TheVariants.{Left, Right}
 use Rattle.ring_election.specs.Tables.{Table, to_side}
@@ -18,16 +18,6 @@ abbrev pub algo_part : {M : Type 0} → List (Side × Packet M) → List (Side �
 algo_part [] = []
 algo_part (r ∷ rs) = algo_receipt r.0 r.1 ++ algo_part rs
 
--- the algorithm's message in a packet, if there is one
-abbrev pub algo_of : {M : Type 0} → Packet M → List M
-algo_of (Algo m) = m ∷ []
-algo_of (Leader v) = []
-
--- the algorithm's messages among packets
-abbrev pub algos_of : {M : Type 0} → List (Packet M) → List M
-algos_of [] = []
-algos_of (p ∷ ps) = algo_of p ++ algos_of ps
-
 -- how many packets are messages of the algorithm
 abbrev pub algo_count : {M : Type 0} → List (Packet M) → ℕ
 algo_count [] = 0
@@ -44,12 +34,6 @@ leader_count (Leader v ∷ ps) = leader_count ps + 1
 abbrev pub kept_or : Option ℕ → Option ℕ → Option ℕ
 kept_or None coming = coming
 kept_or (Some v) coming = Some v
-
--- the place of the last announcement among packets, if there is one
-abbrev pub leader_place : {M : Type 0} → List (Packet M) → Option ℕ
-leader_place [] = None
-leader_place (Algo m ∷ ps) = option_map suc (leader_place ps)
-leader_place (Leader v ∷ ps) = kept_or (option_map suc (leader_place ps)) (Some 0)
 
 -- the leader that is known after a step, if none was known before it
 abbrev pub news : Option ℕ → Option ℕ → Option ℕ

@@ -1,6 +1,6 @@
 ghost use Rattle.std.specs.Prelude.{◌≡◌, ◌+◌, ◌^◌, ◌<◌, [], IfOk, IfSome, MatchOption, OnErr, OnOk, length, slice_get, take};
 ghost use Rattle.ring_id.specs.Sides.{other};
-ghost use Rattle.ring_node.specs.Envelopes.{AllSendable};
+ghost use Rattle.ring_node.specs.private.Envelopes.{AllSendable};
 ghost use Rattle.ring_election.specs.Traces.{taken_from};
 ghost use Rattle.ring_node.specs.Nodes.{Gains, HasSentFew, IsComing, IsFaithful, IsFault, IsForNode, IsNext, IsSentWell, Takes, envelope_of, known_of, member_of, news_of, receiving, report_of, sent_of, taken_of};
 ghost use Rattle.ring_node.specs.Reports.{IsTruthful};
@@ -36,7 +36,7 @@ pub struct Node<E: RingElection> {
 
 impl<E: RingElection> Model for Node<E> {
     ghost use Rattle.ring_node.specs.Nodes.{Seated};
-    ghost use Rattle.ring_node.specs.Kept.{IsSeated};
+    ghost use Rattle.ring_node.specs.private.Kept.{IsSeated};
 
     ghost Value = { Seated E E.Msg };
 
@@ -46,7 +46,7 @@ impl<E: RingElection> Model for Node<E> {
 }
 
 impl<E: RingElection> Node<E> {
-    ghost use Rattle.ring_node.specs.Kept.{IsPort};
+    ghost use Rattle.ring_node.specs.private.Kept.{IsPort};
 
     /// The node at this position of the charter's ring, which has started and received nothing.
     /// Refused for want of memory alone.

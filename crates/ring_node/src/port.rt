@@ -1,6 +1,7 @@
 ghost use Rattle.std.specs.Prelude.{◌≡◌, ◌+◌, ◌^◌, ◌<◌, ◌≤◌, ◌++◌, ◌∷◌, [], slice_get, take, vec_capacity, vec_len, IfOk, IfSome, OnOk, true};
 ghost use Rattle.ring_election.specs.Traces.{taken_from};
-ghost use Rattle.ring_node.specs.Journals.{algo_count, leader_count, leader_place};
+ghost use Rattle.ring_node.specs.Journals.{algo_count, leader_count};
+ghost use Rattle.ring_node.specs.private.Journals.{leader_place};
 ghost use Rattle.ring_node.specs.Ports.{all_algos, all_leaders};
 
 use crate::packet::Packet;

@@ -4,7 +4,7 @@ use Rattle.std.proofs.Common.{inl, inr, refl, arith, pow_mono}
 use Rattle.std.proofs.lemmas.Bool.{cases_lt}
 use Rattle.std.proofs.lemmas.Bool.Decides.{nat_tests}
 use Rattle.ring_peterson.specs.Rounds.{LogarithmIsGreatest, floor_log2, log2_up_to}
-use Rattle.ring_peterson.specs.Bounded.{floor_log2-above}
+use Rattle.ring_peterson.specs.laws.Bounded.{floor_log2-above}
 
 -- its power is not above the number
 log2_up_to-within : (limit n : ℕ) → 1 ≤ n → 2 ^ log2_up_to limit n ≤ n

@@ -3,10 +3,10 @@ use Rattle.std.proofs.Common.{◌≡◌, ◌+◌, ◌-◌, ◌<◌, ◌≤◌, �
 use Rattle.std.proofs.lemmas.List.{append-nil, drop_all, drop_more}
 use Rattle.std.proofs.lemmas.Option.{get_or_from_slice_get, slice_get_within}
 use Rattle.ring_peterson.specs.Rounds.{Round, Two, first_round, next_round, numbered, rounds, stays_active, two_of}
-use Rattle.ring_peterson.specs.Walk.{kept, two_after, two_ends, walk_next}
-use Rattle.ring_peterson.specs.Positions.{Rises, Rises-kept}
-use Rattle.ring_peterson.specs.FirstRound.{numbered_rises}
-use Rattle.ring_peterson.specs.Reading.{next_round-walk}
+use Rattle.ring_peterson.specs.laws.Walk.{kept, two_after, two_ends, walk_next}
+use Rattle.ring_peterson.specs.laws.Positions.{Rises, Rises-kept}
+use Rattle.ring_peterson.specs.laws.FirstRound.{numbered_rises}
+use Rattle.ring_peterson.specs.laws.Reading.{next_round-walk}
 
 -- what is left of a list begins with the element read next
 drop_read : {X : Type 0} (xs : List X) (k : ℕ) (x : X) → k < length xs → x ≡ get_or xs k x → drop k xs ≡ x ∷ drop (k + 1) xs

@@ -1,16 +1,3 @@
-pub mod Bounded
-pub mod Choice
-pub mod Deciding
-pub mod FirstRound
-pub mod Lawful
-pub mod Literal
-pub mod Messages
 pub mod Peterson
-pub mod Positions
-pub mod Reading
-pub mod Receipts
 pub mod Rounds
-pub mod Shrinks
-pub mod Values
-pub mod Walk
-pub mod Worked
+pub mod laws

@@ -64,9 +64,9 @@ impl RingElection for Peterson {
     ghost use Rattle.std.proofs.Common.{rules};
     ghost use Rattle.std.specs.Prelude.{false};
     ghost use Rattle.ring_election.specs.Tables.{rightward};
-    ghost use Rattle.ring_peterson.specs.Bounded.{peterson_bounded};
-    ghost use Rattle.ring_peterson.specs.Deciding.{peterson_deciding};
-    ghost use Rattle.ring_peterson.specs.Lawful.{peterson_lawful};
+    ghost use Rattle.ring_peterson.specs.laws.Bounded.{peterson_bounded};
+    ghost use Rattle.ring_peterson.specs.laws.Deciding.{peterson_deciding};
+    ghost use Rattle.ring_peterson.specs.laws.Lawful.{peterson_lawful};
     ghost use Rattle.ring_peterson.specs.Peterson.{peterson_decided, peterson_first, peterson_next, peterson_sends, peterson_table};
     ghost use Rattle.ring_peterson.specs.Rounds.{peterson_bound, peterson_fits, peterson_winner};
 

@@ -1,6 +1,6 @@
 ghost use Rattle.std.specs.Prelude.{◌≡◌, [], IfOk, MatchOption};
 ghost use Rattle.ring_peterson.specs.Rounds.{LastRoundIsOne, LogarithmIsGreatest, MessagesAreOfRounds, RoundsShrink, first_round, rounds, stays_active, two_of};
-ghost use Rattle.ring_peterson.specs.Walk.{two_ends, walk_next};
+ghost use Rattle.ring_peterson.specs.laws.Walk.{two_ends, walk_next};
 
 use ring_id::{NoMemory, NodeId};
 use ring_roster::Roster;

@@ -10,7 +10,7 @@ use Rattle.std.proofs.lemmas.Cmp.{ranked}
 use Rattle.std.proofs.lemmas.List.Elements.{All-get_or, All-nil, All-push, Contains-append_left, Contains-push}
 use Rattle.std.proofs.lemmas.List.Sorted.{All-permutation, Contains-permutation}
 use Rattle.std.proofs.lemmas.List.Sums.{position_or_len_is}
-use Rattle.ring_roster.specs.Order.{IsOrder, number_at}
+use Rattle.ring_roster.specs.private.Order.{IsOrder, number_at}
 use Rattle.ring_roster.specs.Ring.{has_number, has_repeat, is_numbered, position_of}
 
 -- where no member has this one's number, the one at a place hasn't

@@ -1,5 +1,5 @@
 ghost use Rattle.std.specs.Prelude.{◌≡◌, ◌≢◌, ℕ, ◌<◌, ◌≤◌, IfOk, IfSome, IfNone, length};
-ghost use Rattle.ring_roster.specs.Order.{IsOrder, number_at};
+ghost use Rattle.ring_roster.specs.private.Order.{IsOrder, number_at};
 
 use ring_id::{NoMemory, NodeId, NodeNo};
 use std::alloc::Global;

@@ -22,7 +22,7 @@ pub struct Roster {
 
 impl Model for Roster {
     ghost use Rattle.std.specs.Prelude.{List, ℕ};
-    ghost use Rattle.ring_roster.specs.Order.{IsOrder};
+    ghost use Rattle.ring_roster.specs.private.Order.{IsOrder};
     ghost use Rattle.ring_roster.specs.Ring.{IsRing};
 
     ghost Value = { List ℕ };

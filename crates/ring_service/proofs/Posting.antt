@@ -5,7 +5,7 @@ use Rattle.std.proofs.lemmas.List.{length-append, length-set}
 use Rattle.std.proofs.lemmas.Bool.{cases_eq, ne_eqb}
 use Rattle.ring_any.specs.declared.any.Any.{Any}
 use Rattle.ring_inbox.specs.Values.{SenderLog}
-use Rattle.ring_service.specs.Posts.{MakeUp, StoresBegins, Tries, begins_to}
+use Rattle.ring_service.specs.private.Posts.{MakeUp, StoresBegins, Tries, begins_to}
 use Rattle.ring_service.specs.declared.posts.Waiting.{Waiting}
 use Rattle.ring_workers.specs.declared.item.Item.{Item}
 use Rattle.ring_workers.specs.declared.item.Item.TheVariants.{Begin}

@@ -6,7 +6,7 @@ use Rattle.std.proofs.lemmas.Option.{same_Some}
 use Rattle.ring_id.specs.declared.refusal.Refusal.{Refusal}
 use Rattle.ring_terms.specs.Commands.{Answers}
 use Rattle.ring_terms.specs.Object.{GroupView, Object, OfGroup}
-use Rattle.ring_mux.specs.Replies.{done_reply}
+use Rattle.ring_mux.specs.private.Replies.{done_reply}
 use Rattle.ring_mux.specs.Steps.{Replies}
 use Rattle.ring_mux.specs.declared.reply.Reply.TheVariants.{Done}
 

@@ -1,11 +1,9 @@
 pub mod Accesses
-pub mod Chunks
 pub mod Finishing
 pub mod Histories
 pub mod Kept
 pub mod Locks
 pub mod Sessions
 pub mod Tables
-pub mod Twice
 pub mod Places
-pub mod Posts
+pub mod private

@@ -25,7 +25,7 @@ pub(crate) struct Chunks<T> {
 impl<T> Model for Chunks<T> {
     ghost use Rattle.std.specs.Prelude.{◌≡◌, ◌≤◌, ◌-◌, ◌^◌, ◌++◌, All, length, vec_capacity, vec_len};
     ghost use Rattle.std.specs.List.{flat_map};
-    ghost use Rattle.ring_service.specs.Chunks.{ChunksView};
+    ghost use Rattle.ring_service.specs.private.Chunks.{ChunksView};
 
     ghost Value = { ChunksView T };
 

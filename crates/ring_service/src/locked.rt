@@ -1,6 +1,7 @@
 ghost use Rattle.std.specs.Prelude.{◌≡◌, ◌<◌, ◌≤◌, List, [], ◌∷◌, ◌++◌, IfOk, length, map, replicate, vec_capacity, vec_len};
 ghost use Rattle.ring_service.specs.Accesses.{AnswersAtSeat, BeginsAtSeat, Reports};
-ghost use Rattle.ring_service.specs.Locks.{AddsCall, AddsFiling, AddsStart, OutForMemory, RefusedForMemory};
+ghost use Rattle.ring_service.specs.private.Locks.{AddsCall, AddsFiling, AddsStart};
+ghost use Rattle.ring_service.specs.Locks.{OutForMemory, RefusedForMemory};
 ghost use Rattle.ring_service.specs.declared.entry.Entry.{Entry};
 
 use crate::access::{Access, Answer};

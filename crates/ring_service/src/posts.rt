@@ -1,6 +1,6 @@
 ghost use Rattle.std.specs.Prelude.{◌≡◌, ◌<◌, ◌≤◌, ◌+◌, ◌⊎◌, ◌↔◌, [], ◌++◌, All, IsTrue, OnOk, vec_len};
 ghost use Rattle.std.specs.VecDeque.{deque_capacity, deque_len};
-ghost use Rattle.ring_service.specs.Posts.{PutsBegin, Tries, begins_from};
+ghost use Rattle.ring_service.specs.private.Posts.{PutsBegin, Tries, begins_from};
 
 use ring_any::Any;
 use ring_id::NoMemory;

@@ -1,9 +1,9 @@
 ghost use Rattle.std.specs.Prelude.{◌≡◌};
-ghost use Rattle.ring_mux.specs.Replies.{done_reply, told_reply};
+ghost use Rattle.ring_mux.specs.private.Replies.{done_reply, told_reply};
 ghost use Rattle.ring_mux.specs.Steps.{standing_reply};
 ghost use Rattle.ring_mux.specs.declared.event.Command.TheVariants as command;
 ghost use Rattle.ring_mux.specs.declared.reply.Reply.TheVariants as reply;
-ghost use Rattle.ring_service.specs.Twice.{IsTwice, Performs};
+ghost use Rattle.ring_service.specs.private.Twice.{IsTwice, Performs};
 
 use crate::kept::{Kept, KeptReply};
 use ring_election::RingElection;

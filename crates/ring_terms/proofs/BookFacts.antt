@@ -19,7 +19,8 @@ use Rattle.ring_node.specs.Reports.{Told}
 use Rattle.ring_terms.specs.declared.group.Group.{Group}
 use Rattle.ring_terms.specs.declared.standing.Noting.{Noting}
 use Rattle.ring_terms.specs.declared.standing.Noting.TheVariants.{Noted, Known, Stale}
-use Rattle.ring_terms.specs.Books.{group_view, object_view, term_view, IsBook, IsGroupOf, NotesGroup}
+use Rattle.ring_terms.specs.Books.{group_view, object_view, term_view}
+use Rattle.ring_terms.specs.private.Books.{IsBook, IsGroupOf, NotesGroup}
 use Rattle.ring_terms.specs.Charters.{running_in}
 use Rattle.ring_terms.specs.Commands.{create_refusal, in_group, Answers, Shows}
 use Rattle.ring_terms.specs.Kept.{IsGroupKept, IsKept, IsTermKept}

@@ -13,7 +13,8 @@ use Rattle.ring_terms.specs.declared.standing.Noting.{Noting}
 use Rattle.ring_terms.specs.declared.standing.Noting.TheVariants.{Noted, Known, Stale}
 use Rattle.ring_terms.specs.declared.standing.Standing.{Standing}
 use Rattle.ring_terms.specs.declared.term.Term.{Term}
-use Rattle.ring_terms.specs.Books.{group_view, term_view, IsGroupOf, IsSound, IsTermOf, NotesGroup, NotesTerm}
+use Rattle.ring_terms.specs.Books.{group_view, term_view}
+use Rattle.ring_terms.specs.private.Books.{IsGroupOf, IsSound, IsTermOf, NotesGroup, NotesTerm}
 use Rattle.ring_terms.specs.Charters.{next_charter, running_charter}
 use Rattle.ring_terms.specs.Commands.{member_refusal, start_refusal, who_refusal, Shows}
 use Rattle.ring_terms.specs.Kept.{IsTermKept}

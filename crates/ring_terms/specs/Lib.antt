@@ -6,3 +6,4 @@ pub mod Moves
 pub mod Notes
 pub mod Object
 pub mod Standings
+pub mod private

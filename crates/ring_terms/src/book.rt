@@ -36,7 +36,8 @@ impl<E: RingElection> Model for Book<E> {
 
     ghost Value = { Object E };
 
-    ghost use Rattle.ring_terms.specs.Books.{object_view, IsBook};
+    ghost use Rattle.ring_terms.specs.Books.{object_view};
+    ghost use Rattle.ring_terms.specs.private.Books.{IsBook};
 
     ghost view = { λ a. object_view a.groups.entries };
 

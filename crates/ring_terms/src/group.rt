@@ -26,7 +26,8 @@ pub(crate) struct Group<E> {
 }
 
 impl<E: RingElection> Group<E> {
-    ghost use Rattle.ring_terms.specs.Books.{group_view, IsGroupOf, NotesGroup};
+    ghost use Rattle.ring_terms.specs.Books.{group_view};
+    ghost use Rattle.ring_terms.specs.private.Books.{IsGroupOf, NotesGroup};
 
     /// A group without members or terms.
     pub(crate) fn new(alloc: Global, name: GroupName, algorithm: E) -> Group<E>

@@ -20,7 +20,8 @@ pub(crate) struct Term<E> {
 }
 
 impl<E: RingElection> Term<E> {
-    ghost use Rattle.ring_terms.specs.Books.{term_view, IsSound, NotesTerm};
+    ghost use Rattle.ring_terms.specs.Books.{term_view};
+    ghost use Rattle.ring_terms.specs.private.Books.{IsSound, NotesTerm};
 
     /// The term of this charter with no leader and nobody informed.
     pub(crate) fn begin(alloc: Global, charter: Arc<Charter<E>>) -> Result<Term<E>, NoMemory>

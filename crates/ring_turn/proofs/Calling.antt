@@ -11,9 +11,10 @@ use Rattle.ring_turn.specs.Calls.{Passes, Turns}
 use Rattle.ring_turn.specs.declared.view.Doing.{Doing}
 use Rattle.ring_turn.specs.declared.view.Stage.TheVariants.{Idle, Holds}
 use Rattle.ring_turn.specs.Turns.{entries, made_by}
-use Rattle.ring_turn.specs.Rule.{Desk}
-use Rattle.ring_turn.specs.Seats.{IsIdle, IsSameSeat, SeatView, seat_of}
-use Rattle.ring_turn.specs.Steps.{counted, drew, served, took, Entered, HasOneMore, IsInside, Settled}
+use Rattle.ring_turn.specs.private.Rule.{Desk}
+use Rattle.ring_turn.specs.private.Seats.{IsIdle}
+use Rattle.ring_turn.specs.Seats.{IsSameSeat, SeatView, seat_of}
+use Rattle.ring_turn.specs.private.Steps.{counted, drew, served, took, Entered, HasOneMore, IsInside, Settled}
 use Rattle.ring_turn.proofs.Histories.{made_by-own}
 use Rattle.ring_turn.proofs.Turning.{length_one_more, whole_one_more}
 

@@ -14,9 +14,10 @@ use Rattle.ring_turn.specs.Calls.{Closes}
 use Rattle.ring_turn.specs.declared.view.Doing.{Doing}
 use Rattle.ring_turn.specs.declared.view.Past.{Past}
 use Rattle.ring_turn.specs.Turns.{entries, made_by, StartsWith}
-use Rattle.ring_turn.specs.Rule.{AllKept, Crew, Desk, IsKept, Keeps, table_of}
-use Rattle.ring_turn.specs.Seats.{HasAllSeats, IsIdle, IsMaker, LockView, SeatView, lock_of, seat_of}
-use Rattle.ring_turn.specs.Steps.{joined, nobody}
+use Rattle.ring_turn.specs.private.Rule.{AllKept, Crew, Desk, IsKept, Keeps, table_of}
+use Rattle.ring_turn.specs.Seats.{HasAllSeats, LockView, SeatView, lock_of, seat_of}
+use Rattle.ring_turn.specs.private.Seats.{IsIdle, IsMaker}
+use Rattle.ring_turn.specs.private.Steps.{joined, nobody}
 use Rattle.ring_turn.proofs.Crewing.{HasPast, IsSettled, joins, settles}
 use Rattle.ring_turn.proofs.Returning.{seat_is_of_lock}
 

@@ -11,8 +11,8 @@ use Rattle.ring_turn.specs.declared.view.Doing.{Doing}
 use Rattle.ring_turn.specs.declared.view.Past.{Past}
 use Rattle.ring_turn.specs.declared.view.Stage.TheVariants.{Idle}
 use Rattle.ring_turn.specs.Turns.{entries, made_by}
-use Rattle.ring_turn.specs.Rule.{Desk, Ledger, Crew, Fits, Keeps, HasTicket, IsLiving, IsBase, IsKept, AllKept, IsAway, IsHome, budgets, waiting, tickets_at, table_of}
-use Rattle.ring_turn.specs.Steps.{maker, newcomer, nobody, gave, past_of, joined}
+use Rattle.ring_turn.specs.private.Rule.{Desk, Ledger, Crew, Fits, Keeps, HasTicket, IsLiving, IsBase, IsKept, AllKept, IsAway, IsHome, budgets, waiting, tickets_at, table_of}
+use Rattle.ring_turn.specs.private.Steps.{maker, newcomer, nobody, gave, past_of, joined}
 use Rattle.ring_turn.proofs.Places.{Each, each_of_none, each_after_push, each_after_set, place_within, total_after_push, total_after_set}
 use Rattle.ring_turn.proofs.Stages.{away_stays, away_stays_more, false_unless, held_is_ticket, idle_no_ticket}
 use Rattle.ring_turn.proofs.Ending.{all_kept}

@@ -13,8 +13,8 @@ use Rattle.ring_service.specs.declared.entry.Entry.{Entry}
 use Rattle.ring_turn.specs.declared.view.Doing.{Doing}
 use Rattle.ring_turn.specs.declared.view.Stage.TheVariants.{Idle, Waits, Holds}
 use Rattle.ring_turn.specs.Turns.{entries}
-use Rattle.ring_turn.specs.Rule.{Desk, Ledger, Fits, Keeps, HasTicket, IsLiving, IsAway, IsHome, IsHeld, IsTicket, budgets, waiting, tickets_at, table_of}
-use Rattle.ring_turn.specs.Steps.{drew, took, HasTurn, Looks}
+use Rattle.ring_turn.specs.private.Rule.{Desk, Ledger, Fits, Keeps, HasTicket, IsLiving, IsAway, IsHome, IsHeld, IsTicket, budgets, waiting, tickets_at, table_of}
+use Rattle.ring_turn.specs.private.Steps.{drew, took, HasTurn, Looks}
 use Rattle.ring_turn.proofs.Places.{Each, each_after_set, same_element, stands_where_written, total_after_set}
 use Rattle.ring_turn.proofs.Histories.{starts_whole}
 use Rattle.ring_turn.proofs.Stages.{away_stays, false_unless, held_is_ticket, idle_no_ticket, no_other_desk, one_place, waits_no_desk, waits_ticket}

@@ -13,8 +13,8 @@ use Rattle.ring_turn.specs.declared.view.Doing.{Doing}
 use Rattle.ring_turn.specs.declared.view.Past.{Past}
 use Rattle.ring_turn.specs.declared.view.Stage.TheVariants.{Idle, Waits, Holds}
 use Rattle.ring_turn.specs.Turns.{entries, made_by}
-use Rattle.ring_turn.specs.Rule.{Desk, Ledger, Turned, Crew, Fits, Keeps, HasTicket, IsLiving, IsBase, IsKept, AllKept, IsAway, IsHome, IsHeld, IsTicket, budgets, waiting, tickets_at, table_of}
-use Rattle.ring_turn.specs.Steps.{counted, served, announced, Counts, Serves}
+use Rattle.ring_turn.specs.private.Rule.{Desk, Ledger, Turned, Crew, Fits, Keeps, HasTicket, IsLiving, IsBase, IsKept, AllKept, IsAway, IsHome, IsHeld, IsTicket, budgets, waiting, tickets_at, table_of}
+use Rattle.ring_turn.specs.private.Steps.{counted, served, announced, Counts, Serves}
 use Rattle.ring_turn.proofs.Places.{each_after_set, stands_where_written, total_after_set}
 use Rattle.ring_turn.proofs.Histories.{made_by-own, made_by-other, starts_longer, starts_whole}
 use Rattle.ring_turn.proofs.Stages.{holds_desk, holds_ticket, idle_no_ticket, no_other_desk}

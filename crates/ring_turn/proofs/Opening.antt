@@ -7,9 +7,10 @@ use Rattle.atomic_table.specs.Seated.{TableId}
 use Rattle.atomic_table.specs.Table.{Me, Splits}
 use Rattle.ring_service.specs.declared.entry.Entry.{Entry}
 use Rattle.ring_turn.specs.declared.view.Doing.{Doing}
-use Rattle.ring_turn.specs.Rule.{Desk, Keeps}
-use Rattle.ring_turn.specs.Seats.{SeatView, IsIdle, IsMaker, fresh_seat, fresh_seats, seat_of}
-use Rattle.ring_turn.specs.Steps.{maker, newcomer, gave}
+use Rattle.ring_turn.specs.private.Rule.{Desk, Keeps}
+use Rattle.ring_turn.specs.Seats.{SeatView, fresh_seat, fresh_seats, seat_of}
+use Rattle.ring_turn.specs.private.Seats.{IsIdle, IsMaker}
+use Rattle.ring_turn.specs.private.Steps.{maker, newcomer, gave}
 use Rattle.ring_turn.proofs.Crewing.{makes}
 
 -- the turns of the seats that are not made yet are enough for one

@@ -6,7 +6,7 @@ use Rattle.atomic_table.proofs.Lists.{set_else, at_longer}
 use Rattle.ring_turn.specs.declared.view.Doing.{Doing}
 use Rattle.ring_turn.specs.declared.view.Stage.{Stage}
 use Rattle.ring_turn.specs.declared.view.Stage.TheVariants.{Idle, Waits, Holds}
-use Rattle.ring_turn.specs.Rule.{Desk, Queue, HasTicket, HasDesk, IsTicket, IsHeld, IsAway, Ledger, Fits}
+use Rattle.ring_turn.specs.private.Rule.{Desk, Queue, HasTicket, HasDesk, IsTicket, IsHeld, IsAway, Ledger, Fits}
 use Rattle.ring_turn.proofs.Places.{same_element}
 
 -- the desk is held by a ticket that is out

@@ -8,8 +8,8 @@ use Rattle.ring_service.specs.Tables.{TableView}
 use Rattle.ring_service.specs.declared.entry.Entry.{Entry}
 use Rattle.ring_turn.specs.declared.view.Doing.{Doing}
 use Rattle.ring_turn.specs.Turns.{entries}
-use Rattle.ring_turn.specs.Rule.{Desk, Keeps}
-use Rattle.ring_turn.specs.Steps.{counted, announced, Counts, Serves, HasOneMore, IsInside}
+use Rattle.ring_turn.specs.private.Rule.{Desk, Keeps}
+use Rattle.ring_turn.specs.private.Steps.{counted, announced, Counts, Serves, HasOneMore, IsInside}
 use Rattle.ring_turn.proofs.Ending.{counts, serves}
 use Rattle.ring_turn.proofs.Histories.{entries-push, length-entries}
 

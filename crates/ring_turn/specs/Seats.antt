@@ -1,13 +1,9 @@
 -- What contracts see of a turn lock and of its seats.
-use Rattle.std.specs.Prelude.{◌≡◌, ◌<◌, ◌*◌, ℕ, true, false, List, [], map, slice_get, Some}
+use Rattle.std.specs.Prelude.{◌≡◌, ◌<◌, ℕ, List, [], map, slice_get, Some}
 use Rattle.std.specs.List.{range_with_len}
 use Rattle.atomic_table.specs.Seated.{TableId}
-use Rattle.atomic_table.specs.Table.{Me}
 use Rattle.ring_service.specs.declared.entry.Entry.{Entry}
 use Rattle.ring_turn.specs.declared.view.Doing.{Doing}
-use Rattle.ring_turn.specs.declared.view.Stage.TheVariants.{Idle}
-use Rattle.ring_turn.specs.Rule.{Desk}
-use Rattle.ring_turn.specs.Steps.{maker}
 
 -- a lock: which one it is, how many seats it has, and the history of its table when it was opened
 pub record LockView (E : Type 0) : Type 0 where
@@ -47,30 +43,6 @@ module _ {E : Type 0} where
     pub lock : new.lock ≡ old.lock
     pub number : new.number ≡ old.number
     pub opening : new.opening ≡ old.opening
-
-  -- what a lock keeps: a table of three words and one slot, and the place that makes the seats
-  pub record IsMaker (id at : TableId) (me : Me (Desk E) (Doing E)) : Type 0 where
-    pub words : id.words ≡ 3
-    pub slots : id.slots ≡ 1
-    pub here : at ≡ id
-    pub empty : me.1 ≡ []
-    pub makes : me.0.makes ≡ true
-    pub unkept : me.0.kept ≡ []
-
-  -- a lock that was opened: the place that makes the seats, with all their turns
-  pub record IsOpened (seats turns : ℕ) (opening : List (Entry E)) (id at : TableId) (me : Me (Desk E) (Doing E)) : Type 0 where
-    pub words : id.words ≡ 3
-    pub slots : id.slots ≡ 1
-    pub here : at ≡ id
-    pub knows : me ≡ (maker (seats * turns) 0 turns opening, [])
-
-  -- what a seat keeps between two calls
-  pub record IsIdle (left : ℕ) (me : Me (Desk E) (Doing E)) : Type 0 where
-    pub stage : me.0.stage ≡ Idle
-    pub budget : me.0.budget ≡ left
-    pub lives : me.0.lives ≡ true
-    pub seats_none : me.0.makes ≡ false
-    pub empty : me.1 ≡ []
 
   -- these seats are seats of the lock, and all that it has
   pub record HasAllSeats (lock : LockView E) (seats : List (SeatView E)) : Type 0 where

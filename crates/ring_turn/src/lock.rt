@@ -1,7 +1,8 @@
 //! How a turn lock is opened over a table, and how it is closed.
 ghost use Rattle.std.specs.Prelude.{◌≡◌, ℕ, ◌*◌, ◌^◌, ◌<◌, IfOk};
 ghost use Rattle.ring_turn.specs.Calls.{Closes};
-ghost use Rattle.ring_turn.specs.Seats.{HasAllSeats, IsOpened, fresh_seats};
+ghost use Rattle.ring_turn.specs.Seats.{HasAllSeats, fresh_seats};
+ghost use Rattle.ring_turn.specs.private.Seats.{IsOpened};
 
 use crate::rule::{Board, DESK, Joins, Makes, Place, Start};
 use crate::seat::Seat;
@@ -29,7 +30,8 @@ pub struct TurnLock<E: RingElection> {
 }
 
 impl<E: RingElection> Model for TurnLock<E> {
-    ghost use Rattle.ring_turn.specs.Seats.{LockView, lock_of, IsMaker};
+    ghost use Rattle.ring_turn.specs.Seats.{LockView, lock_of};
+    ghost use Rattle.ring_turn.specs.private.Seats.{IsMaker};
 
     ghost Value = { LockView E };
 

@@ -34,8 +34,8 @@ pub struct Start<E: RingElection> {
 pub struct InTurn;
 
 impl<E: RingElection> TableRule<Option<Table<E>>, Doing<E>, Start<E>> for InTurn {
-    ghost use Rattle.ring_turn.specs.Rule.{Keeps};
-    ghost use Rattle.ring_turn.specs.Steps.{maker};
+    ghost use Rattle.ring_turn.specs.private.Rule.{Keeps};
+    ghost use Rattle.ring_turn.specs.private.Steps.{maker};
 
     ghost holds = { λ _. Keeps };
 
@@ -46,7 +46,7 @@ impl<E: RingElection> TableRule<Option<Table<E>>, Doing<E>, Start<E>> for InTurn
 pub struct Draws;
 
 impl<E: RingElection> Play<Option<Table<E>>, Doing<E>> for Draws {
-    ghost use Rattle.ring_turn.specs.Steps.{Draws as IsDraw};
+    ghost use Rattle.ring_turn.specs.private.Steps.{Draws as IsDraw};
 
     ghost then = { IsDraw };
 }
@@ -55,7 +55,7 @@ impl<E: RingElection> Play<Option<Table<E>>, Doing<E>> for Draws {
 pub struct Looks;
 
 impl<E: RingElection> Play<Option<Table<E>>, Doing<E>> for Looks {
-    ghost use Rattle.ring_turn.specs.Steps.{Looks as IsLook};
+    ghost use Rattle.ring_turn.specs.private.Steps.{Looks as IsLook};
 
     ghost then = { IsLook };
 }
@@ -64,7 +64,7 @@ impl<E: RingElection> Play<Option<Table<E>>, Doing<E>> for Looks {
 pub struct Counts;
 
 impl<E: RingElection> Play<Option<Table<E>>, Doing<E>> for Counts {
-    ghost use Rattle.ring_turn.specs.Steps.{Counts as IsCount};
+    ghost use Rattle.ring_turn.specs.private.Steps.{Counts as IsCount};
 
     ghost then = { IsCount };
 }
@@ -73,7 +73,7 @@ impl<E: RingElection> Play<Option<Table<E>>, Doing<E>> for Counts {
 pub struct Serves;
 
 impl<E: RingElection> Play<Option<Table<E>>, Doing<E>> for Serves {
-    ghost use Rattle.ring_turn.specs.Steps.{Serves as IsService};
+    ghost use Rattle.ring_turn.specs.private.Steps.{Serves as IsService};
 
     ghost then = { IsService };
 }
@@ -82,7 +82,7 @@ impl<E: RingElection> Play<Option<Table<E>>, Doing<E>> for Serves {
 pub struct Makes;
 
 impl<E> Split<Doing<E>> for Makes {
-    ghost use Rattle.ring_turn.specs.Steps.{gave, newcomer};
+    ghost use Rattle.ring_turn.specs.private.Steps.{gave, newcomer};
 
     ghost left = { gave };
 
@@ -93,7 +93,7 @@ impl<E> Split<Doing<E>> for Makes {
 pub struct Joins;
 
 impl<E> Join<Doing<E>> for Joins {
-    ghost use Rattle.ring_turn.specs.Steps.{joined, nobody};
+    ghost use Rattle.ring_turn.specs.private.Steps.{joined, nobody};
 
     ghost both = { joined };
 

@@ -17,7 +17,8 @@ pub struct Seat<E: RingElection> {
 }
 
 impl<E: RingElection> Model for Seat<E> {
-    ghost use Rattle.ring_turn.specs.Seats.{SeatView, seat_of, IsIdle};
+    ghost use Rattle.ring_turn.specs.Seats.{SeatView, seat_of};
+    ghost use Rattle.ring_turn.specs.private.Seats.{IsIdle};
 
     ghost Value = { SeatView E };
 

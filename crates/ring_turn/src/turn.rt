@@ -4,7 +4,7 @@ ghost use Rattle.std.specs.Prelude.{◌≡◌, ◌<◌, true, length, [], ◌∷
 ghost use Rattle.ring_service.specs.declared.entry.Entry.{Entry};
 ghost use Rattle.ring_turn.specs.declared.view.Stage.TheVariants as stage;
 ghost use Rattle.ring_turn.specs.Turns.{entries};
-ghost use Rattle.ring_turn.specs.Steps.{counted, served, Entered, IsInside, HasOneMore, HasTurn, Settled};
+ghost use Rattle.ring_turn.specs.private.Steps.{counted, served, Entered, IsInside, HasOneMore, HasTurn, Settled};
 
 use crate::lock::TurnLock;
 use crate::rule::{Counts, DESK, DRAWN, Desk, Draws, ENTRIES, Looks, Place, SERVED, Serves};

@@ -6,10 +6,11 @@ use Rattle.ring_election.specs.Tables.{Table}
 use Rattle.ring_node.specs.declared.charter.Charter.{Charter}
 use Rattle.ring_node.specs.Envelopes.{Sent}
 use Rattle.ring_node.specs.Nodes.{Seated}
-use Rattle.ring_workers.specs.Goings.{Goes}
+use Rattle.ring_workers.specs.private.Goings.{Goes}
 use Rattle.ring_workers.specs.Holdings.{AllSeated}
 use Rattle.ring_workers.specs.Owners.{owner_of}
-use Rattle.ring_workers.specs.Seatings.{HasNodeAt, IsFree, IsSeating, KeepsTerm, Seating, seated_in}
+use Rattle.ring_workers.specs.Seatings.{HasNodeAt, Seating, seated_in}
+use Rattle.ring_workers.specs.private.Seatings.{IsFree, IsSeating, KeepsTerm}
 use Rattle.ring_workers.proofs.Goings.{goes_on}
 use Rattle.ring_workers.proofs.Growing.{seated_later}
 use Rattle.ring_workers.proofs.Seatings.{node_there}

@@ -4,7 +4,8 @@ use Rattle.std.proofs.lemmas.List.{append-nil}
 use Rattle.ring_election.specs.Tables.{Table}
 use Rattle.ring_node.specs.Envelopes.{Sent}
 use Rattle.ring_node.specs.Nodes.{Seated}
-use Rattle.ring_workers.specs.Goings.{Goes, Grows, HasReceived, IsSent}
+use Rattle.ring_workers.specs.private.Goings.{Goes, Grows}
+use Rattle.ring_workers.specs.Goings.{HasReceived, IsSent}
 use Rattle.ring_workers.specs.Lists.{IsOneOf}
 use Rattle.ring_workers.proofs.Among.{among_none, among_left, among_right, among_append}
 

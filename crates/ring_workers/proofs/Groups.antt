@@ -15,10 +15,13 @@ use Rattle.ring_election.specs.Tables.{Table}
 use Rattle.ring_node.specs.declared.charter.Charter.{Charter}
 use Rattle.ring_node.specs.Envelopes.{Sent}
 use Rattle.ring_node.specs.Nodes.{Seated}
-use Rattle.ring_workers.specs.Goings.{Goes, Grows, HasReceived, IsSent}
-use Rattle.ring_workers.specs.Holdings.{AllSeated, Holding, IsGroupAt, IsHolding, Steps, charters_in, charters_of, nodes_in, nodes_of}
+use Rattle.ring_workers.specs.private.Goings.{Goes, Grows}
+use Rattle.ring_workers.specs.Goings.{HasReceived, IsSent}
+use Rattle.ring_workers.specs.Holdings.{AllSeated, Holding, charters_in, charters_of, nodes_in, nodes_of}
+use Rattle.ring_workers.specs.private.Holdings.{IsGroupAt, IsHolding, Steps}
 use Rattle.ring_workers.specs.Lists.{IsOneOf}
-use Rattle.ring_workers.specs.Seatings.{IsSeating, KeepsTerm, Seating, empty_seating, seated_in}
+use Rattle.ring_workers.specs.private.Seatings.{IsSeating, KeepsTerm, empty_seating}
+use Rattle.ring_workers.specs.Seatings.{Seating, seated_in}
 use Rattle.ring_workers.proofs.Among.{among_none, among_first, among_rest, among_cons, among_one, among_left, among_right, among_append}
 use Rattle.ring_workers.proofs.Goings.{goes_among, grows_none, grows_on}
 use Rattle.ring_workers.proofs.Holdings.{charter_there}

@@ -11,7 +11,8 @@ use Rattle.ring_node.specs.Nodes.{IsNext, Seated, taken_of}
 use Rattle.ring_election.specs.Traces.{taken_from}
 use Rattle.ring_node.proofs.Receipts.{taken_from-append}
 use Rattle.ring_workers.specs.Lists.{IsOneOf}
-use Rattle.ring_workers.specs.Goings.{Grows, HasReceived}
+use Rattle.ring_workers.specs.private.Goings.{Grows}
+use Rattle.ring_workers.specs.Goings.{HasReceived}
 use Rattle.ring_workers.specs.Seatings.{HasNodeAt}
 
 -- an element of a list stands at its place when the list is longer

@@ -11,12 +11,15 @@ use Rattle.ring_workers.specs.declared.handed.Why.{Why}
 use Rattle.ring_workers.specs.declared.handed.Why.TheVariants.{Stopped, Closed, Halted, Starved, Spent}
 use Rattle.ring_workers.specs.declared.item.Item.{Item}
 use Rattle.ring_workers.specs.declared.item.Item.TheVariants.{Begin, Packet, Stop}
-use Rattle.ring_workers.specs.Fates.{IsBegun, IsDelivered}
-use Rattle.ring_workers.specs.Goings.{Grows, HasReceived}
+use Rattle.ring_workers.specs.private.Fates.{IsBegun, IsDelivered}
+use Rattle.ring_workers.specs.private.Goings.{Grows}
+use Rattle.ring_workers.specs.Goings.{HasReceived}
 use Rattle.ring_workers.specs.Handed.{Ended, Hands}
-use Rattle.ring_workers.specs.Holdings.{AllOwned, AllSeated, Holding, IsOlder, NoTwoAlike, Steps, charters_of, nodes_of}
-use Rattle.ring_workers.specs.Runs.{IsEnd, Ran, Turns}
-use Rattle.ring_workers.specs.Sends.{Sends}
+use Rattle.ring_workers.specs.Holdings.{AllOwned, AllSeated, Holding, NoTwoAlike, charters_of, nodes_of}
+use Rattle.ring_workers.specs.private.Holdings.{IsOlder, Steps}
+use Rattle.ring_workers.specs.Runs.{IsEnd, Ran}
+use Rattle.ring_workers.specs.private.Runs.{Turns}
+use Rattle.ring_workers.specs.private.Sends.{Sends}
 use Rattle.ring_workers.proofs.Turning.{ran_send}
 
 -- nothing changes

@@ -4,7 +4,7 @@ use Rattle.std.specs.Prelude.{IsSome, option_map}
 use Rattle.std.proofs.lemmas.List.{append-nil}
 use Rattle.std.proofs.lemmas.Bool.{cases_eq, cases_lt}
 use Rattle.ring_workers.specs.Lists.{IsOneOf}
-use Rattle.ring_workers.specs.Posts.{Posted, Posts}
+use Rattle.ring_workers.specs.private.Posts.{Posted, Posts}
 use Rattle.ring_workers.proofs.Among.{among_last, among_left}
 
 -- none has joined

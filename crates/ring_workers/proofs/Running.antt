@@ -8,7 +8,8 @@ use Rattle.ring_node.specs.Envelopes.{Sent}
 use Rattle.ring_workers.specs.declared.item.Item.{Item}
 use Rattle.ring_workers.specs.declared.item.Item.TheVariants.{Packet}
 use Rattle.ring_workers.specs.Owners.{owner_of, receiver_of}
-use Rattle.ring_workers.specs.Sends.{Sends, Stored, packets_to}
+use Rattle.ring_workers.specs.private.Sends.{Sends}
+use Rattle.ring_workers.specs.Sends.{Stored, packets_to}
 
 -- a pass that stored these items more
 abbrev storing : {T : Type 0} → SenderLog T → List T → SenderLog T

@@ -7,7 +7,8 @@ use Rattle.ring_node.specs.declared.charter.Charter.{Charter}
 use Rattle.ring_node.specs.Nodes.{Seated}
 use Rattle.ring_workers.specs.Lists.{IsOneOf}
 use Rattle.ring_workers.specs.Owners.{owner_of}
-use Rattle.ring_workers.specs.Seatings.{HasNodeAt, IsFree, IsPlaced, IsSeating, Seating, seated_in}
+use Rattle.ring_workers.specs.Seatings.{HasNodeAt, Seating, seated_in}
+use Rattle.ring_workers.specs.private.Seatings.{IsFree, IsPlaced, IsSeating}
 use Rattle.ring_workers.proofs.Among.{among_none, among_first, among_rest, among_cons}
 
 -- a list around the element at a place, also when another is written there

@@ -10,17 +10,19 @@ use Rattle.ring_election.specs.Tables.{Table}
 use Rattle.ring_node.specs.declared.packet.Packet.{Packet}
 use Rattle.ring_node.specs.Envelopes.{Sent, index_after}
 use Rattle.ring_node.specs.Nodes.{Extends, Gains, IsForNode, IsNext, Seated, envelope_of, member_of, receiving, sent_of, taken_of}
-use Rattle.ring_workers.specs.Goings.{Goes, Grows, HandsTo, HasReceived, HasTakenOver, IsSent}
+use Rattle.ring_workers.specs.private.Goings.{Goes, Grows, HandsTo, HasTakenOver}
+use Rattle.ring_workers.specs.Goings.{HasReceived, IsSent}
 use Rattle.ring_workers.specs.Owners.{owner_of}
 use Rattle.ring_node.specs.declared.charter.Charter.{Charter}
 use Rattle.ring_node.specs.declared.fault.TakeFault.{TakeFault}
 use Rattle.ring_node.specs.Reports.{Told}
 use Rattle.ring_workers.specs.Lists.{IsOneOf}
-use Rattle.ring_workers.specs.Posts.{Posts}
+use Rattle.ring_workers.specs.private.Posts.{Posts}
 use Rattle.ring_workers.proofs.Among.{among_none, among_first, among_one, among_left, among_right}
 use Rattle.ring_workers.proofs.Goings.{goes_among, goes_none, received_among}
 use Rattle.ring_workers.proofs.Seatings.{seated_in-append, split_at}
-use Rattle.ring_workers.specs.Seatings.{IsPlaced, seated_in}
+use Rattle.ring_workers.specs.private.Seatings.{IsPlaced}
+use Rattle.ring_workers.specs.Seatings.{seated_in}
 
 -- what stands in a list stands there when the list is longer
 get_before : {A : Type 0} (xs ys : List A) (k : ℕ) → k < length xs → slice_get (xs ++ ys) k ≡ slice_get xs k

@@ -1,10 +1,9 @@
-pub mod Fates
 pub mod Goings
 pub mod Handed
 pub mod Holdings
 pub mod Lists
 pub mod Owners
-pub mod Posts
 pub mod Runs
 pub mod Seatings
 pub mod Sends
+pub mod private

@@ -1,5 +1,5 @@
 -- Runs: what a worker did with the items that it took.
-use Rattle.std.specs.Prelude.{◌≡◌, ◌≤◌, ◌⊎◌, ℕ, List, [], ◌∷◌, ◌++◌, map, Option, None, Some, option_to_list}
+use Rattle.std.specs.Prelude.{◌≡◌, ℕ, List, ◌++◌, map, Option, None, Some, option_to_list}
 use Rattle.ring_election.specs.Tables.{Table}
 use Rattle.ring_inbox.specs.Values.{ReceiverLog, SenderLog}
 use Rattle.ring_node.specs.declared.charter.Charter.{Charter}
@@ -9,10 +9,9 @@ use Rattle.ring_workers.specs.declared.handed.Why.{Why}
 use Rattle.ring_workers.specs.declared.handed.Why.TheVariants.{Stopped, Closed, Halted, Starved, Spent}
 use Rattle.ring_workers.specs.declared.item.Item.{Item}
 use Rattle.ring_workers.specs.declared.item.Item.TheVariants.{Begin, Packet, Stop}
-use Rattle.ring_workers.specs.declared.run.Next.{Next}
 use Rattle.ring_workers.specs.declared.run.Next.TheVariants as next
 use Rattle.ring_workers.specs.Goings.{HasReceived, IsSent}
-use Rattle.ring_workers.specs.Holdings.{AllSeated, Holding, IsOlder, Steps, charters_of, nodes_of}
+use Rattle.ring_workers.specs.Holdings.{AllSeated, Holding, charters_of, nodes_of}
 use Rattle.ring_workers.specs.Lists.{IsOneOf}
 use Rattle.ring_workers.specs.Sends.{Stored}
 
@@ -39,17 +38,6 @@ module _ {E M S : Type 0} where
   pub record AllDone (number workers : ℕ) (nodes : List (Seated E M)) (dropped : ℕ) (taken handled : List (Item E M S)) : Type 0 where
     pub each : dropped ≡ 0 → (item : Item E M S) (c : Charter E) → IsOneOf handled item → charter_of item ≡ Some c → OneTerm taken c → IsDone number workers nodes item
 
-  -- an item that comes is taken; else nothing changes
-  abbrev pub Gives : ReceiverLog (Item E M S) → Next E M S → ReceiverLog (Item E M S) → Type 0
-  Gives old (next.Item item) new = (sender : ℕ) × (new ≡ record old { taken = old.taken ++ (sender, item) ∷ [] })
-  Gives old next.Nothing new = new ≡ old
-  Gives old next.Closed new = new ≡ old
-
-  -- the item that a worker has in hand where it ends
-  abbrev pub held_of : Option (Why × Option (Item E M S)) → Option (Item E M S)
-  held_of None = None
-  held_of (Some end) = end.1
-
   -- A worker ends at this item for this reason, with this in hand: the word to stop was handled, as was an item
   -- whose report spent the desk's turns; where the gate halted it or memory was refused, the item is in hand still.
   abbrev pub IsEnd : Why → Item E M S → Option (Item E M S) → Type 0
@@ -59,29 +47,7 @@ module _ {E M S : Type 0} where
   IsEnd Starved item held = held ≡ Some item
   IsEnd Spent item held = held ≡ None
 
-  -- it ends at this item, or goes on, which it does after no word to stop
-  abbrev pub EndsAt : Item E M S → Option (Why × Option (Item E M S)) → Type 0
-  EndsAt item None = item ≡ Stop → ⊥
-  EndsAt item (Some end) = IsEnd end.0 item end.1
-
-  -- where nothing was dropped, the item was of an older term, or it is done
-  abbrev pub IsHandled : Holding E M → Holding E M → ℕ → Item E M S → Type 0
-  IsHandled old new dropped item = dropped ≡ 0 → (c : Charter E) → charter_of item ≡ Some c → IsOlder (charters_of old) c ⊎ IsDone new.number new.workers (nodes_of new) item
-
   module _ (t : E → Table S M) where
-    -- what an item does to the nodes and the outbox
-    abbrev pub StepsFor : Item E M S → Holding E M → Holding E M → List (Sent E M) → List (Sent E M) → Type 0
-    StepsFor (Begin c) old new waiting after = Steps t c.value old new waiting after
-    StepsFor (Packet e) old new waiting after = Steps t e.charter old new waiting after
-    StepsFor Stop old new waiting after = (new ≡ old) × (after ≡ waiting)
-
-    -- one turn of a worker: the item does what it does, what was dropped is counted, and the item is in hand still, or
-    -- it was handled
-    pub record Turns (item : Item E M S) (old new : Holding E M) (waiting after : List (Sent E M)) (before dropped : ℕ) (held : Option (Item E M S)) : Type 0 where
-      pub steps : StepsFor item old new waiting after
-      pub grows : before ≤ dropped
-      pub end : (held ≡ Some item) ⊎ ((held ≡ None) × IsHandled old new dropped item)
-
     -- What a worker of this number has done since its receiver's pass was `from` and its senders' passes were `old`:
     -- what it took, handled and has in hand; what its passes stored, which is packets alone, each by the pass to its
     -- receiver's owner; each packet that a node of it has sent was stored so or waits; what was handled is done; and it

@@ -1,7 +1,8 @@
 ghost use Rattle.std.specs.Prelude.{◌≡◌, ◌<◌, ◌≤◌, [], vec_capacity, vec_len, IfErr, IfOk, IfSome, OnOk};
-ghost use Rattle.ring_workers.specs.Fates.{IsBegun, IsDelivered};
-ghost use Rattle.ring_workers.specs.Holdings.{AllOwned, NoTwoAlike, Steps, nodes_of};
-ghost use Rattle.ring_workers.specs.Runs.{EndsAt, Turns, held_of};
+ghost use Rattle.ring_workers.specs.private.Fates.{IsBegun, IsDelivered};
+ghost use Rattle.ring_workers.specs.Holdings.{AllOwned, NoTwoAlike, nodes_of};
+ghost use Rattle.ring_workers.specs.private.Holdings.{Steps};
+ghost use Rattle.ring_workers.specs.private.Runs.{EndsAt, Turns, held_of};
 
 use crate::desk::{Desk, Filed};
 use crate::handed::{Handed, Why};

@@ -1,8 +1,9 @@
 ghost use Rattle.std.specs.Prelude.{◌≡◌, ◌+◌, ◌≤◌, ◌++◌, [], length, None, vec_capacity, vec_len, IfErr, IfOk, IfSome, IsTrue, MatchOption, OnOk};
-ghost use Rattle.ring_workers.specs.Holdings.{AllOwned, AllSeated, HasGroupAt, HasOlderAt, IsOlder, NoTwoAlike, Steps, charters_of, nodes_of};
+ghost use Rattle.ring_workers.specs.Holdings.{AllOwned, AllSeated, NoTwoAlike, charters_of, nodes_of};
+ghost use Rattle.ring_workers.specs.private.Holdings.{HasGroupAt, HasOlderAt, IsOlder, Steps};
 ghost use Rattle.std.specs.Map.{lookup};
 ghost use Rattle.std.specs.Str.{bytes_eq};
-ghost use Rattle.ring_workers.specs.Fates.{IsEnvelopeFate, IsFate};
+ghost use Rattle.ring_workers.specs.private.Fates.{IsEnvelopeFate, IsFate};
 ghost use Rattle.ring_workers.specs.Goings.{HasReceived};
 ghost use Rattle.ring_workers.specs.Owners.{owner_of, receiver_of};
 
@@ -28,7 +29,8 @@ pub struct Nodes<E: RingElection> {
 }
 
 impl<E: RingElection> Model for Nodes<E> {
-    ghost use Rattle.ring_workers.specs.Holdings.{Holding, IsHolding};
+    ghost use Rattle.ring_workers.specs.Holdings.{Holding};
+    ghost use Rattle.ring_workers.specs.private.Holdings.{IsHolding};
 
     ghost Value = { Holding E E.Msg };
 

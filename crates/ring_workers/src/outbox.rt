@@ -1,6 +1,6 @@
 ghost use Rattle.std.specs.Prelude.{◌≡◌, ℕ, vec_len};
 ghost use Rattle.ring_workers.specs.Owners.{receiver_of};
-ghost use Rattle.ring_workers.specs.Sends.{PutsOne, Sends};
+ghost use Rattle.ring_workers.specs.private.Sends.{PutsOne, Sends};
 
 use crate::item::Item;
 use crate::owner::Owner;

@@ -2,8 +2,8 @@ ghost use Rattle.std.specs.Prelude.{◌≡◌, ◌+◌, ◌≤◌, ℕ, All, len
 ghost use Rattle.std.specs.VecDeque.{deque_capacity, deque_len};
 ghost use Rattle.ring_id.specs.Sides.{other};
 ghost use Rattle.ring_node.specs.Nodes.{Gains, envelope_of, sent_of};
-ghost use Rattle.ring_workers.specs.Goings.{HandsTo};
-ghost use Rattle.ring_workers.specs.Posts.{Posts};
+ghost use Rattle.ring_workers.specs.private.Goings.{HandsTo};
+ghost use Rattle.ring_workers.specs.private.Posts.{Posts};
 
 use ring_election::RingElection;
 use ring_id::{NoMemory, Side};

@@ -1,6 +1,6 @@
 ghost use Rattle.std.specs.Prelude.{◌≡◌, vec_len};
 ghost use Rattle.ring_workers.specs.Handed.{Hands};
-ghost use Rattle.ring_workers.specs.Runs.{EndsAt, Gives, Turns, held_of};
+ghost use Rattle.ring_workers.specs.private.Runs.{EndsAt, Gives, Turns, held_of};
 
 use crate::bench::Bench;
 use crate::desk::Desk;

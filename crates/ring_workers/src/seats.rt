@@ -1,8 +1,10 @@
 ghost use Rattle.std.specs.Prelude.{◌≡◌, ◌+◌, ◌<◌, ◌≤◌, ◌++◌, ◌⊎◌, length, slice_get, slice_index, vec_capacity, vec_len, IfErr, IfOk, IsTrue, MatchBool, OnOk};
-ghost use Rattle.ring_workers.specs.Goings.{Goes, HasReceived};
+ghost use Rattle.ring_workers.specs.private.Goings.{Goes};
+ghost use Rattle.ring_workers.specs.Goings.{HasReceived};
 ghost use Rattle.ring_workers.specs.Holdings.{AllSeated};
 ghost use Rattle.ring_workers.specs.Owners.{owner_of, position_of, receiver_of};
-ghost use Rattle.ring_workers.specs.Seatings.{HasNodeAt, IsFree, IsSeating, KeepsTerm, empty_seating, seated_in};
+ghost use Rattle.ring_workers.specs.Seatings.{HasNodeAt, seated_in};
+ghost use Rattle.ring_workers.specs.private.Seatings.{IsFree, IsSeating, KeepsTerm, empty_seating};
 
 use crate::owner::Owner;
 use crate::post::{find_room, hand_to, post};
@@ -44,7 +46,8 @@ pub(crate) struct Seats<E: RingElection> {
 
 impl<E: RingElection> Model for Seats<E> {
     ghost use Rattle.std.specs.Prelude.{◌≡◌, All};
-    ghost use Rattle.ring_workers.specs.Seatings.{IsSeating, Seating};
+    ghost use Rattle.ring_workers.specs.private.Seatings.{IsSeating};
+    ghost use Rattle.ring_workers.specs.Seatings.{Seating};
 
     ghost Value = { Seating E E.Msg };
 

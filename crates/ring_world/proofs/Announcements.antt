@@ -10,7 +10,8 @@ use Rattle.ring_election.specs.Tables.{Table, to_side}
 use Rattle.ring_election.specs.Traces.{state_from, state_after, taken_from}
 use Rattle.ring_node.specs.declared.packet.Packet.{Packet}
 use Rattle.ring_node.specs.declared.packet.Packet.TheVariants.{Algo, Leader}
-use Rattle.ring_node.specs.Journals.{algo_part, algo_receipt, algo_sends, algos_of, brought, kept_or, known_after, known_from, news, packets_after, packets_from, state_on}
+use Rattle.ring_node.specs.Journals.{algo_part, algo_receipt, algo_sends, brought, kept_or, known_after, known_from, news, packets_after, packets_from, state_on}
+use Rattle.ring_node.specs.private.Journals.{algos_of}
 use Rattle.ring_node.specs.Ports.{all_algos, all_leaders}
 use Rattle.ring_world.specs.declared.sort.Sort.{Sort}
 use Rattle.ring_world.specs.declared.sort.Sort.TheVariants.{Message, Announcement}

@@ -10,7 +10,8 @@ use Rattle.ring_election.specs.Families.{Fitting}
 use Rattle.ring_node.specs.declared.charter.Charter.{Charter}
 use Rattle.ring_node.specs.declared.packet.Packet.{Packet}
 use Rattle.ring_node.specs.Nodes.{IsFaithful, Seated}
-use Rattle.ring_world.specs.Worlds.{IsSoundWorld, IsWorld, Running, journals_of, nodes_from, sent_into, taken_at}
+use Rattle.ring_world.specs.Worlds.{IsSoundWorld, Running, nodes_from, sent_into, taken_at}
+use Rattle.ring_world.specs.private.Worlds.{IsWorld, journals_of}
 use Rattle.ring_world.proofs.Links.{first_part, journals_of-nodes_from, nodes_from-snoc}
 
 -- an empty list among empty lists

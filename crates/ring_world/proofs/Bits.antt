@@ -4,7 +4,7 @@ use Rattle.std.proofs.lemmas.Bool.{cases_lt}
 use Rattle.std.specs.Int.{bit_at, trailing_zeros}
 use Rattle.std.proofs.lemmas.List.{get_or_past}
 use Rattle.std.proofs.lemmas.Nat.Bits.{bit_at-trailing_zeros, bit_at-zero}
-use Rattle.ring_world.specs.LinkSets.{IsFirst, IsSummary, bit_of}
+use Rattle.ring_world.specs.private.LinkSets.{IsFirst, IsSummary, bit_of}
 use Rattle.ring_world.proofs.Links.{same_or_not}
 
 -- where each word is 0, so is what stands past the last

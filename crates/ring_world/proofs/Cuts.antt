@@ -10,10 +10,11 @@ use Rattle.ring_election.specs.Tables.{Table}
 use Rattle.ring_election.specs.Families.{Fitting}
 use Rattle.ring_node.specs.declared.charter.Charter.{Charter}
 use Rattle.ring_node.specs.Nodes.{Seated}
-use Rattle.ring_world.specs.LinkSets.{bit_of, bits_from}
+use Rattle.ring_world.specs.private.LinkSets.{bit_of, bits_from}
 use Rattle.ring_world.specs.Quiet.{IsEmptied, IsQuiet}
-use Rattle.ring_world.specs.Tallies.{some_or_none}
-use Rattle.ring_world.specs.Worlds.{IsSoundWorld, IsUncut, IsWorld, Running, after_cut, is_cut, journals_of, link_place, on_link, pending_below, pending_on, size_of}
+use Rattle.ring_world.specs.private.Tallies.{some_or_none}
+use Rattle.ring_world.specs.Worlds.{IsSoundWorld, IsUncut, Running, after_cut, is_cut, link_place, on_link, pending_below, pending_on, size_of}
+use Rattle.ring_world.specs.private.Worlds.{IsWorld, journals_of}
 
 -- ---- Links and their bits
 

@@ -14,7 +14,8 @@ use Rattle.ring_node.specs.declared.packet.Packet.{Packet}
 use Rattle.ring_node.specs.Journals.{news}
 use Rattle.ring_node.specs.Nodes.{IsFaithful, Seated, known_of, member_of, news_of, receiving, report_of, sent_of, taken_of, told_of}
 use Rattle.ring_node.proofs.Receipts.{packets_after-snoc, taken_from-snoc}
-use Rattle.ring_world.specs.Worlds.{IsSoundLinks, IsSoundWorld, IsWorld, Running, after_receipt, on_link, journals_of, node_at, nodes_from, sent_into, size_of, taken_at}
+use Rattle.ring_world.specs.Worlds.{IsSoundLinks, IsSoundWorld, Running, after_receipt, on_link, node_at, nodes_from, sent_into, size_of, taken_at}
+use Rattle.ring_world.specs.private.Worlds.{IsWorld, journals_of}
 use Rattle.ring_world.proofs.Links.{first_part, front_first, journals_of-set, length-journals_of, node_of_world, nodes_from-set, same_or_not}
 
 -- a link whose sender sent more

@@ -10,7 +10,8 @@ use Rattle.ring_node.specs.declared.charter.Charter.{Charter}
 use Rattle.ring_node.specs.declared.packet.Packet.{Packet}
 use Rattle.ring_node.specs.Envelopes.{IsProper, index_after}
 use Rattle.ring_node.specs.Nodes.{Seated}
-use Rattle.ring_world.specs.Worlds.{journals_of, node_at, nodes_from, receipts_in}
+use Rattle.ring_world.specs.private.Worlds.{journals_of}
+use Rattle.ring_world.specs.Worlds.{node_at, nodes_from, receipts_in}
 
 module _ {E M : Type 0} where
   -- the node that stands at a place

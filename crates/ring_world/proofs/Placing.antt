@@ -3,7 +3,7 @@ use Rattle.std.proofs.Common.{◌≡◌, ◌+◌, ◌<◌, ℕ, zero, suc, true,
 use Rattle.std.proofs.lemmas.Option.{same_Some, slice_get_within}
 use Rattle.ring_node.specs.declared.charter.Charter.{Charter}
 use Rattle.ring_node.specs.Nodes.{Seated}
-use Rattle.ring_world.specs.Places.{IsListed, IsPlaced, IsShared, IsUnlisted, place_at}
+use Rattle.ring_world.specs.private.Places.{IsListed, IsPlaced, IsShared, IsUnlisted, place_at}
 use Rattle.ring_world.specs.Settlements.{IsAlone}
 use Rattle.ring_world.proofs.Links.{same_or_not}
 

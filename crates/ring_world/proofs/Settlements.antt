@@ -20,8 +20,9 @@ use Rattle.ring_node.specs.Nodes.{IsFaithful, Seated, known_of, member_of, sent_
 use Rattle.ring_node.specs.Reports.{Told}
 use Rattle.ring_world.specs.declared.sort.Sort.{Sort}
 use Rattle.ring_world.specs.declared.sort.Sort.TheVariants.{Message, Announcement}
-use Rattle.ring_world.specs.Settlements.{AllFaithful, EachKnows, EachReports, IsAlone, IsFed, IsNextOf, IsSettled, IsSettledAt}
-use Rattle.ring_world.specs.Places.{IsShared}
+use Rattle.ring_world.specs.private.Settlements.{AllFaithful, IsNextOf}
+use Rattle.ring_world.specs.Settlements.{EachKnows, EachReports, IsAlone, IsFed, IsSettled, IsSettledAt}
+use Rattle.ring_world.specs.private.Places.{IsShared}
 use Rattle.ring_world.specs.Sorts.{is_of, of_sort}
 use Rattle.ring_world.proofs.Links.{same_or_not}
 use Rattle.ring_world.proofs.Quiet.{IsMatched, matched_informed}

@@ -14,8 +14,8 @@ use Rattle.ring_election.proofs.Rings.{neighbour-below, neighbour-neighbour}
 use Rattle.ring_election.specs.Families.{Fitting}
 use Rattle.ring_node.specs.declared.packet.Packet.{Packet}
 use Rattle.ring_node.specs.Nodes.{Seated, sent_of, taken_of}
-use Rattle.ring_world.specs.LinkSets.{IsFirst, bit_of}
-use Rattle.ring_world.specs.Tallies.{HasLeft, HasMarked, HasMarkedSent, IsMarked, IsMarkedAll, IsTallied, some_or_none}
+use Rattle.ring_world.specs.private.LinkSets.{IsFirst, bit_of}
+use Rattle.ring_world.specs.private.Tallies.{HasLeft, HasMarked, HasMarkedSent, IsMarked, IsMarkedAll, IsTallied, some_or_none}
 use Rattle.ring_world.specs.Worlds.{IsBefore, IsReady, IsSoundLinks, IsSoundWorld, Running, after_cut, after_receipt, in_flight, is_cut, link_place, node_at, on_link, pending_below, pending_of, sent_into, size_of, taken_at}
 use Rattle.ring_world.proofs.Cuts.{cut_elsewhere, cut_here, cut_pending, cut_sound, mark_emptied, mark_of_some, mark_standing, pending_stands, place_below, same_place}
 use Rattle.ring_world.proofs.Deliveries.{links_after, others_after, receiver_sent, same_side-same, taken_by, taken_from_other_side}

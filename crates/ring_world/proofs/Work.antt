@@ -13,7 +13,8 @@ use Rattle.ring_election.specs.Tables.{Table}
 use Rattle.ring_election.specs.Traces.{taken_from}
 use Rattle.ring_node.specs.declared.packet.Packet.{Packet}
 use Rattle.ring_node.specs.declared.packet.Packet.TheVariants.{Algo, Leader}
-use Rattle.ring_node.specs.Journals.{algo_part, algos_of, packets_after}
+use Rattle.ring_node.specs.Journals.{algo_part, packets_after}
+use Rattle.ring_node.specs.private.Journals.{algos_of}
 use Rattle.ring_node.specs.Nodes.{member_of, known_of}
 use Rattle.ring_node.specs.Ports.{all_leaders}
 use Rattle.ring_node.proofs.Receipts.{algos_of-append, algos_of-packets_after}

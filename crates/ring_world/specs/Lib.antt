@@ -1,7 +1,5 @@
-pub mod Places
 pub mod Quiet
-pub mod LinkSets
 pub mod Settlements
 pub mod Sorts
-pub mod Tallies
 pub mod Worlds
+pub mod private

@@ -1,15 +1,13 @@
 -- Settled terms: nodes of a charter, one at each position of its ring, that have taken all that was
 -- sent to them. An announcement may be taken before messages that were sent earlier on its link, so
 -- each sort of packet is compared by itself.
-use Rattle.std.specs.Prelude.{◌≡◌, ◌+◌, ◌<◌, ℕ, List, [], ◌∷◌, length, drop, Option, Some, None, slice_get}
+use Rattle.std.specs.Prelude.{◌≡◌, ◌<◌, ℕ, List, length, Some, slice_get}
 use Rattle.ring_id.specs.declared.side.Side.{Side}
 use Rattle.ring_id.specs.Sides.{other}
 use Rattle.ring_roster.specs.Ring.{neighbour}
 use Rattle.ring_election.specs.Tables.{Table}
-use Rattle.ring_election.specs.Families.{Fitting}
 use Rattle.ring_node.specs.declared.charter.Charter.{Charter}
-use Rattle.ring_node.specs.declared.packet.Packet.{Packet}
-use Rattle.ring_node.specs.Nodes.{IsFaithful, Seated, known_of, report_of, sent_of, taken_of}
+use Rattle.ring_node.specs.Nodes.{Seated, known_of, report_of, sent_of, taken_of}
 use Rattle.ring_world.specs.declared.sort.Sort.{Sort}
 use Rattle.ring_world.specs.Sorts.{of_sort}
 
@@ -51,12 +49,3 @@ module _ {E S M : Type 0} (t : E → Table S M) where
   -- and so it is with each member of the ring
   pub record EachReports (winner : E → List ℕ → ℕ) (charter : Charter E) (nodes : List (Seated E M)) : Type 0 where
     pub each : (i member : ℕ) → slice_get charter.roster i ≡ Some member → HasReport winner charter nodes i member
-
-  -- what the type of each of these nodes keeps
-  pub record AllFaithful (fits : E → Fitting M) (winner : E → List ℕ → ℕ) (nodes : List (Seated E M)) : Type 0 where
-    pub each : (k : ℕ) (node : Seated E M) → slice_get nodes k ≡ Some node → IsFaithful t fits winner node
-
--- the first packet of this sort from a place on, with its place, if there is one
-abbrev pub IsNextOf : {M : Type 0} → Sort → List (Packet M) → ℕ → Option (ℕ × Packet M) → Type 0
-IsNextOf sort packets from None = of_sort sort (drop from packets) ≡ []
-IsNextOf sort packets from (Some next) = of_sort sort (drop from packets) ≡ next.1 ∷ of_sort sort (drop (next.0 + 1) packets)

@@ -39,11 +39,6 @@ size_of world = length world.charter.roster
 abbrev pub node_at : {E M : Type 0} → Running E M → ℕ → Seated E M
 node_at world i = record { charter = world.charter; position = i; journal = slice_index_or world.journals i [] }
 
--- the journals of nodes
-abbrev pub journals_of : {E M : Type 0} → List (Seated E M) → List (List (Side × Packet M))
-journals_of [] = []
-journals_of (node ∷ nodes) = node.journal ∷ journals_of nodes
-
 -- the nodes of a charter with these journals, from a position on
 abbrev pub nodes_from : {E M : Type 0} → Charter E → ℕ → List (List (Side × Packet M)) → List (Seated E M)
 nodes_from charter i [] = []
@@ -154,11 +149,6 @@ module _ {E S M : Type 0} (t : E → Table S M) where
     pub each_link : length world.cut ≡ 2 * size_of world
     pub links : IsSoundLinks world
     pub faithful : (i : ℕ) → i < size_of world → IsFaithful t fits winner (node_at world i)
-
-  -- what the type of a world keeps of its nodes: they are the charter's, in order, in a sound world
-  pub record IsWorld (fits : E → Fitting M) (winner : E → List ℕ → ℕ) (charter : Charter E) (nodes : List (Seated E M)) (cut : List Bool) : Type 0 where
-    pub nodes_are : nodes ≡ nodes_from charter 0 (journals_of nodes)
-    pub sound : IsSoundWorld fits winner (record { charter = charter; journals = journals_of nodes; cut = cut })
 
   -- the first packet in flight on a link is taken, and no other journal changes
   pub record HasMoved (old : Running E M) (i : ℕ) (side : Side) (report : Option (Told E)) (new : Running E M) : Type 0 where

@@ -3,7 +3,7 @@ ghost use Rattle.ring_id.specs.declared.side.Side.TheVariants.{Right};
 ghost use Rattle.ring_id.specs.Sides.{other, same_side};
 ghost use Rattle.ring_roster.specs.Ring.{neighbour};
 ghost use Rattle.ring_node.specs.Nodes.{IsComing, sent_of, told_of};
-ghost use Rattle.ring_world.specs.Tallies.{HasMarked, HasMarkedSent};
+ghost use Rattle.ring_world.specs.private.Tallies.{HasMarked, HasMarkedSent};
 ghost use Rattle.ring_world.specs.Worlds.{IsSoundWorld, after_cut, after_receipt, is_cut, no_cuts, node_at, nodes_of, on_link};
 
 use crate::link_set::{LinkSet, place_of};
@@ -27,8 +27,9 @@ pub struct Circle<E: RingElection> {
 
 impl<E: RingElection> Model for Circle<E> {
     ghost use Rattle.std.specs.Prelude.{◌*◌, length};
-    ghost use Rattle.ring_world.specs.LinkSets.{bits_from};
-    ghost use Rattle.ring_world.specs.Worlds.{IsWorld, Running, journals_of};
+    ghost use Rattle.ring_world.specs.private.LinkSets.{bits_from};
+    ghost use Rattle.ring_world.specs.private.Worlds.{IsWorld, journals_of};
+    ghost use Rattle.ring_world.specs.Worlds.{Running};
 
     ghost Value = { Running E E.Msg };
 

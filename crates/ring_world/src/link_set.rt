@@ -1,6 +1,6 @@
 ghost use Rattle.std.specs.Prelude.{◌≡◌, ◌≢◌, ◌<◌, ◌==◌, ℕ, cond};
 ghost use Rattle.std.specs.Int.{bit_at};
-ghost use Rattle.ring_world.specs.LinkSets.{IsFirst, IsSummary, bit_of};
+ghost use Rattle.ring_world.specs.private.LinkSets.{IsFirst, IsSummary, bit_of};
 ghost use Rattle.ring_world.specs.Worlds.{link_place};
 
 use ring_id::Side;

@@ -1,6 +1,6 @@
 ghost use Rattle.std.specs.Prelude.{IfSome, MatchOption, length};
-ghost use Rattle.ring_world.specs.Places.{IsListed, IsPlaced, IsShared, IsUnlisted};
-ghost use Rattle.ring_world.specs.Settlements.{AllFaithful};
+ghost use Rattle.ring_world.specs.private.Places.{IsListed, IsPlaced, IsShared, IsUnlisted};
+ghost use Rattle.ring_world.specs.private.Settlements.{AllFaithful};
 
 use ring_election::RingElection;
 use ring_node::{Charter, Node};

@@ -2,9 +2,10 @@ ghost use Rattle.std.specs.Prelude.{◌≡◌, ◌+◌, ◌^◌, ◌<◌, ◌↔
 ghost use Rattle.ring_id.specs.Sides.{other};
 ghost use Rattle.ring_roster.specs.Ring.{IsRing};
 ghost use Rattle.ring_node.specs.Nodes.{sent_of, taken_of};
-ghost use Rattle.ring_world.specs.Places.{IsPlaced};
+ghost use Rattle.ring_world.specs.private.Places.{IsPlaced};
 ghost use Rattle.ring_world.specs.Sorts.{of_sort};
-ghost use Rattle.ring_world.specs.Settlements.{EachKnows, EachReports, IsFed, IsNextOf, IsSettled, IsSettledAt};
+ghost use Rattle.ring_world.specs.Settlements.{EachKnows, EachReports, IsFed, IsSettled, IsSettledAt};
+ghost use Rattle.ring_world.specs.private.Settlements.{IsNextOf};
 
 use crate::places::Places;
 use crate::sort::Sort;

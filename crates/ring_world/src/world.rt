@@ -23,7 +23,7 @@ pub struct World<E: RingElection> {
 }
 
 impl<E: RingElection> Model for World<E> {
-    ghost use Rattle.ring_world.specs.Tallies.{IsTallied};
+    ghost use Rattle.ring_world.specs.private.Tallies.{IsTallied};
     ghost use Rattle.ring_world.specs.Worlds.{Running};
 
     ghost Value = { Running E E.Msg };

@@ -1,3 +1,3 @@
 pub mod Faults
 pub mod Replies
-pub mod Words
+pub mod private

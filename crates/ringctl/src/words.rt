@@ -1,6 +1,6 @@
 //! The words of the command line, and what they ask for.
 ghost use Rattle.std.specs.Prelude.{◌≡◌, ℕ, IfNone, IfSome, string_bytes};
-ghost use Rattle.ringctl.specs.Words.{IsAsk, SpellsNoCommand};
+ghost use Rattle.ringctl.specs.private.Words.{IsAsk, SpellsNoCommand};
 
 use clap::error::ErrorKind;
 use clap::{Arg, Command};

@@ -9,7 +9,8 @@ use Rattle.clap.specs.Walk.{Text, one_of, rows_of}
 use Rattle.clap.specs.declared.parser.matches.Found.{Found}
 use Rattle.clap.proofs.CallerReads.{signed_reads}
 use Rattle.clap.proofs.WalkLemmas.{one_text-rows}
-use Rattle.ringd.specs.Words.{IsGivenOr, IsNumberIn, MayHaveNumber}
+use Rattle.ringd.specs.Words.{IsGivenOr, IsNumberIn}
+use Rattle.ringd.specs.private.Words.{MayHaveNumber}
 
 -- what parsing a text as a number of 32 bits comes to
 abbrev pub Parses : {E : Type 0} → Text → Result ℕ E → Type 0

@@ -15,7 +15,8 @@ use Rattle.clap.specs.Walk.{Row, Rule, Text, first_of, one_of, row_text, rows_af
 use Rattle.clap.specs.declared.error.kind.ErrorKind.TheVariants.{DisplayHelp, MissingRequiredArgument}
 use Rattle.clap.specs.declared.builder.value_parser.ValueParser.TheVariants as parser
 use Rattle.clap.proofs.ValueTestLemmas.{accepts-Accepts}
-use Rattle.ringd.specs.Words.{HasFile, HasNumber, IsGiven, IsRun, IsRunOf, IsServeOf, IsServed, MayHaveNumber, Names, config_rule}
+use Rattle.ringd.specs.private.Words.{HasFile, HasNumber, IsRun, IsRunOf, IsServeOf, IsServed, MayHaveNumber}
+use Rattle.ringd.specs.Words.{IsGiven, Names, config_rule}
 use Rattle.ringd.specs.declared.words.Order.{Order}
 use Rattle.ringd.specs.declared.words.Order.TheVariants.{Replay, Run, Serve}
 use Rattle.ringd.proofs.CommandLine.{IsLevel, names_one, run_below, serve_below}

@@ -2,10 +2,11 @@
 use Rattle.std.proofs.Common.{◌≡◌, ◌++◌, List, ℕ, Result, Ok, Err, inr, subst, sym}
 use Rattle.std.specs.Prelude.{MatchResult}
 use Rattle.ring_lines.specs.Ends.{Writing, Wrote, WroteFront}
-use Rattle.ring_lines.specs.Sequences.{wrote_front, wrote_next, wrote_then}
+use Rattle.ring_lines.specs.laws.Sequences.{wrote_front, wrote_next, wrote_then}
 use Rattle.ringd.specs.declared.fault.ProgramFault.{ProgramFault}
 use Rattle.ringd.specs.declared.fault.ProgramFault.TheVariants as program
-use Rattle.ringd.specs.Listening.{BothAt, FirstAt}
+use Rattle.ringd.specs.Listening.{BothAt}
+use Rattle.ringd.specs.private.Listening.{FirstAt}
 use Rattle.ringd.specs.Run.{RanAt, ServedAt}
 use Rattle.ringd.specs.Running.{FirstOrNone}
 

@@ -5,3 +5,4 @@ pub mod Run
 pub mod Running
 pub mod Words
 pub mod Sessions
+pub mod private

@@ -22,16 +22,3 @@ BothAt gives from first last Thread to = (to ≡ from) ⊎ Wrote gives from firs
 BothAt gives from first last Write to = WroteFront gives from (first ++ last) to
 BothAt gives from first last NoMemory to = to ≡ from
 BothAt gives from first last _ to = ⊥
-
--- What was written at a fault after the service was made: the first line, or a front of it, and nothing where
--- memory was refused.
-abbrev pub FirstAt : {V : Type 0} → (V → Writing → V → Type 0) → V → List ℕ → ProgramFault → V → Type 0
-FirstAt gives from first Accept to = Wrote gives from first to
-FirstAt gives from first Thread to = Wrote gives from first to
-FirstAt gives from first Write to = WroteFront gives from first to
-FirstAt gives from first NoMemory to = to ≡ from
-FirstAt gives from first _ to = ⊥
-
--- a fault of accepting connections
-abbrev pub IsOfConnections : ProgramFault → Type 0
-IsOfConnections fault = (fault ≡ Accept) ⊎ (fault ≡ Thread)

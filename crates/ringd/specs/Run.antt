@@ -1,15 +1,10 @@
 -- What `serve` and `run` tell, from their file to their end.
-use Rattle.std.specs.Prelude.{◌≡◌, ◌⊎◌, List, ℕ}
+use Rattle.std.specs.Prelude.{◌≡◌, List, ℕ}
 use Rattle.ring_lines.specs.Ends.{Writing}
 use Rattle.ringd.specs.declared.fault.ProgramFault.{ProgramFault}
-use Rattle.ringd.specs.declared.fault.ProgramFault.TheVariants.{Bad, Listen, NoMemory, Unreadable}
+use Rattle.ringd.specs.declared.fault.ProgramFault.TheVariants.{Bad, Listen, Unreadable}
 use Rattle.ringd.specs.Listening.{BothAt}
 use Rattle.ringd.specs.Running.{FirstOrNone}
-
--- a fault of a configuration's file: it can't be read or is too long, it spells no configuration, or memory
--- was refused
-abbrev pub IsOfFile : ProgramFault → Type 0
-IsOfFile fault = (fault ≡ Unreadable) ⊎ ((fault ≡ Bad) ⊎ (fault ≡ NoMemory))
 
 -- What was written at a fault of `serve`: nothing before the port is listened on, and then what `BothAt` says.
 abbrev pub ServedAt : {V : Type 0} → (V → Writing → V → Type 0) → V → List ℕ → List ℕ → ProgramFault → V → Type 0

@@ -1,11 +1,10 @@
 -- The words that the program takes, and the order that they give.
-use Rattle.std.specs.Prelude.{◌≡◌, ◌≢◌, ◌⊎◌, ◌≤◌, [], ⊤, Bool, ℕ, codes, pos, List, MatchOption, Option, None, Some, string_bytes, true, false}
+-- ---- the command line
+use Rattle.std.specs.Prelude.{◌≡◌, ◌≢◌, ◌≤◌, [], ⊤, Bool, ℕ, codes, pos, List, MatchOption, Option, None, Some, string_bytes, true, false}
 use Rattle.std.specs.Str.Parse.{digits_value, without_leading_plus}
-use Rattle.clap.specs.Words.{App, IsAmong, IsSignedIn, Row, Rule, Text, fault_of, first_of, kind_of, new_app, new_rule, one_of, subcommand_of, with_rule, with_subcommand, without_minus}
+use Rattle.clap.specs.Words.{App, IsAmong, Row, Rule, Text, fault_of, first_of, kind_of, new_app, new_rule, one_of, subcommand_of, with_rule, with_subcommand}
 use Rattle.clap.specs.Simple.{new_shape, on_top}
 use Rattle.clap.specs.declared.builder.action.ArgAction.TheVariants.{SetTrue}
-use Rattle.clap.specs.declared.builder.command.Command.{Command}
-use Rattle.clap.specs.declared.builder.command.Command.TheViews.{out-Command}
 use Rattle.clap.specs.declared.builder.value_parser.ValueParser.TheVariants as parser
 use Rattle.clap.specs.declared.error.Error.{Error}
 use Rattle.clap.specs.declared.error.kind.ErrorKind.TheVariants.{OutOfMemory}
@@ -13,8 +12,6 @@ use Rattle.ringd.specs.declared.words.Order.{Order}
 use Rattle.ringd.specs.declared.words.Order.TheVariants.{Replay, Run, Serve}
 use Rattle.ringd.specs.declared.words.WordsFault.{WordsFault}
 use Rattle.ringd.specs.declared.words.WordsFault.TheVariants.{Usage, NoMemory}
-
--- ---- the command line
 
 -- the name of a configuration's file, which must be given
 abbrev pub config_rule : Rule
@@ -56,10 +53,6 @@ ringd_app =
     serve_app.top)
     run_app.top
 
--- no argument of the command holds for its subcommands too
-abbrev pub IsLocal : Command → Type 0
-IsLocal c = (out-Command c).has_globals ≡ false
-
 -- ---- what the words give
 
 -- The command line takes the words, and they name this subcommand, with these rows for its arguments.
@@ -96,48 +89,11 @@ pub record Runs (rows : List Row) (path : Text) (sessions idle : ℕ) (places : 
   pub idle_given : IsGivenOr 0 0 86400 (one_of (codes "idle") rows) idle
   pub places_given : IsFlag (one_of (codes "places") rows) places
 
--- the order of `serve` that rows give, and that of `run`
-abbrev pub IsServeOf : List Row → Order → Type 0
-IsServeOf rows (Serve path connections) = Serves rows (string_bytes path) connections
-IsServeOf rows _ = ⊥
-
-abbrev pub IsRunOf : List Row → Order → Type 0
-IsRunOf rows (Run path sessions idle places) = Runs rows (string_bytes path) sessions idle places
-IsRunOf rows _ = ⊥
-
 -- the command line takes the words, and this is the order that they give
 abbrev pub IsGiven : List Text → Order → Type 0
 IsGiven words Replay = (rows : List Row) × Names words (codes "replay") rows
 IsGiven words (Serve path connections) = (rows : List Row) × Names words (codes "serve") rows × Serves rows (string_bytes path) connections
 IsGiven words (Run path sessions idle places) = (rows : List Row) × Names words (codes "run") rows × Runs rows (string_bytes path) sessions idle places
-
--- ---- what rows hold before they are read
-
--- The rows have a number for this option, in the bounds.
-pub record HasNumber (name : Text) (least most : ℕ) (rows : List Row) : Type 0 where
-  pub text : Text
-  pub given : one_of name rows ≡ Some (without_minus text)
-  pub passed : IsSignedIn (pos least) (pos most) text
-
--- they have one, or the option was not given
-abbrev pub MayHaveNumber : Text → ℕ → ℕ → List Row → Type 0
-MayHaveNumber name least most rows = (one_of name rows ≡ None) ⊎ HasNumber name least most rows
-
--- The rows have a file.
-pub record HasFile (rows : List Row) : Type 0 where
-  pub path : Text
-  pub file : first_of (codes "config") rows ≡ Some path
-
--- Rows of `serve`, where its words are taken.
-pub record IsServed (rows : List Row) : Type 0 where
-  pub file : HasFile rows
-  pub connections : HasNumber (codes "connections") 1 64 rows
-
--- Rows of `run`, where its words are taken.
-pub record IsRun (rows : List Row) : Type 0 where
-  pub file : HasFile rows
-  pub sessions : MayHaveNumber (codes "sessions") 1 64 rows
-  pub idle : MayHaveNumber (codes "idle") 0 86400 rows
 
 -- ---- why words give none
 

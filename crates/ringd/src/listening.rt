@@ -1,7 +1,8 @@
 //! Accepts clients, as many as were asked for, each with a session in a thread of its own.
 ghost use Rattle.std.specs.Prelude.{◌≡◌, ◌++◌, All, IfErr, IfOk, MatchResult, string_bytes};
 ghost use Rattle.ring_lines.specs.Ends.{Wrote, WroteFront};
-ghost use Rattle.ringd.specs.Listening.{BothAt, FirstAt, IsOfConnections, closed_line, listening_line};
+ghost use Rattle.ringd.specs.Listening.{BothAt, closed_line, listening_line};
+ghost use Rattle.ringd.specs.private.Listening.{FirstAt, IsOfConnections};
 
 use crate::config::Config;
 use crate::fault::ProgramFault;

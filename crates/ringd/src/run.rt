@@ -2,7 +2,8 @@
 ghost use Rattle.std.specs.Prelude.{◌≡◌, ◌≤◌, ◌++◌, ◌⊎◌, ℕ, List, IfErr, IfOk, IfSome, MatchResult, length};
 ghost use Rattle.ring_lines.specs.Ends.{Wrote, WroteFront};
 ghost use Rattle.ringd.specs.Listening.{closed_line, listening_line};
-ghost use Rattle.ringd.specs.Run.{IsOfFile, RanAt, ServedAt};
+ghost use Rattle.ringd.specs.private.Run.{IsOfFile};
+ghost use Rattle.ringd.specs.Run.{RanAt, ServedAt};
 
 use crate::config::Config;
 use crate::fault::ProgramFault;

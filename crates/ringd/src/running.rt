@@ -1,7 +1,8 @@
 //! Serves clients until the process is ended, so many at a time.
 ghost use Rattle.std.specs.Prelude.{◌≡◌, All, IfErr, MatchOption, MatchResult, false, true};
 ghost use Rattle.ring_lines.specs.Ends.{Wrote};
-ghost use Rattle.ringd.specs.Running.{FirstOrNone, next_number};
+ghost use Rattle.ringd.specs.Running.{FirstOrNone};
+ghost use Rattle.ringd.specs.private.Running.{next_number};
 ghost use Rattle.ringd.specs.Listening.{listening_line};
 
 use crate::config::Config;

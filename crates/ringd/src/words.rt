@@ -2,7 +2,8 @@
 ghost use Rattle.std.specs.Prelude.{◌≡◌, ◌↔◌, ◌∷◌, [], ℕ, List, IfErr, IfOk, IsOkUnless, IsTrue, codes, false, map, string_bytes, true};
 ghost use Rattle.clap.specs.Words.{app_of, found_of, kind_of, rows_of, rule_of, takes, Text};
 ghost use Rattle.clap.specs.declared.error.kind.ErrorKind.TheVariants.{DisplayVersion, ValueValidation};
-ghost use Rattle.ringd.specs.Words.{HasCause, IsFaultOf, IsGiven, IsLocal, IsRun, IsRunOf, IsServeOf, IsServed, config_rule, connections_rule, idle_rule, places_rule, ringd_app, run_app, serve_app, sessions_rule};
+ghost use Rattle.ringd.specs.Words.{HasCause, IsFaultOf, IsGiven, config_rule, connections_rule, idle_rule, places_rule, ringd_app, run_app, serve_app, sessions_rule};
+ghost use Rattle.ringd.specs.private.Words.{IsLocal, IsRun, IsRunOf, IsServeOf, IsServed};
 
 use clap::error::ErrorKind;
 use clap::{Arg, ArgAction, ArgMatches, Command};

@@ -16,7 +16,8 @@ struct Pieces {
 
 impl Sink for Pieces {
     ghost use Rattle.std.proofs.Common.{rules};
-    ghost use Rattle.ring_grammar.specs.Appending.{Appends, AppendsFront, appends_in_sequence};
+    ghost use Rattle.ring_grammar.specs.Appending.{Appends, AppendsFront};
+    ghost use Rattle.ring_grammar.specs.laws.Appending.{appends_in_sequence};
 
     ghost takes = { λ a bytes b. Appends a.bytes.items bytes b.bytes.items };
 

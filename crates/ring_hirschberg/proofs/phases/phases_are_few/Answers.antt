@@ -1,8 +1,8 @@
 -- The phase of a member is at most the number of its tokens that came home, and few of those that
 -- came home had the hops to come far.
 use Rattle.ring_id.specs.declared.side.Side.TheVariants.{Left}
-use Rattle.ring_hirschberg.specs.Homecomings.{phase_small}
-use Rattle.ring_hirschberg.specs.Logarithm.{ceil_log2-least, ceil_log2-reaches}
+use Rattle.ring_hirschberg.specs.laws.Homecomings.{phase_small}
+use Rattle.ring_hirschberg.specs.laws.Logarithm.{ceil_log2-least, ceil_log2-reaches}
 use Rattle.ring_hirschberg.proofs.phases.phases_are_few.Goals as goal
 
 pub returns-clause-few : goal.returns-clause-few

@@ -1,6 +1,6 @@
 -- After the cut the page holds what it held at first; what is written then is that, and the text behind it.
 use Rattle.std.proofs.Common.{List, refl, ap, ◌∙◌, ◌≡◌, ◌++◌, take, length, append-nil}
-use Rattle.ring_lines.specs.Sequences.{wrote_front, wrote_next, wrote_then}
+use Rattle.ring_lines.specs.laws.Sequences.{wrote_front, wrote_next, wrote_then}
 use Rattle.ring_lines.proofs.Paging.{take-appends_front}
 use Rattle.ring_lines.proofs.Writing.{where_err, where_ok}
 use Rattle.ring_lines.proofs.passing.feed.Goals as goal

@@ -2,7 +2,7 @@
 use Rattle.std.proofs.Common.{ap, sym, ◌∙◌}
 use Rattle.std.proofs.lemmas.List.{drop_all}
 use Rattle.ring_peterson.specs.Rounds.{two_of}
-use Rattle.ring_peterson.specs.Walk.{two_after, two_ends}
+use Rattle.ring_peterson.specs.laws.Walk.{two_after, two_ends}
 use Rattle.ring_peterson.proofs.Walked.{two_after_one_more, two_ends_from_first}
 use Rattle.ring_peterson.proofs.rounds.ends.Goals as goal
 

@@ -1,6 +1,6 @@
 use Rattle.std.proofs.Common.{◌≡◌, drop}
 use Rattle.ring_peterson.specs.Rounds.{two_of}
-use Rattle.ring_peterson.specs.Walk.{two_after, two_ends}
+use Rattle.ring_peterson.specs.laws.Walk.{two_after, two_ends}
 use Rattle.ring_peterson.proofs.rounds.ends.Given as goal
 
 -- the walk over what is left comes to the last two values

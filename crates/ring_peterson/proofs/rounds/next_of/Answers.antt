@@ -1,7 +1,7 @@
 -- An entry stays, with its predecessor's value, or it is passed over.
 use Rattle.std.proofs.Common.{refl, rules}
 use Rattle.ring_peterson.specs.Rounds.{two_of}
-use Rattle.ring_peterson.specs.Walk.{kept, walk_next}
+use Rattle.ring_peterson.specs.laws.Walk.{kept, walk_next}
 use Rattle.ring_peterson.proofs.Walked.{kept_one_more, nothing_left}
 use Rattle.ring_peterson.proofs.rounds.next_of.Goals as goal
 

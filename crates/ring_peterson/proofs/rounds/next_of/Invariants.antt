@@ -1,6 +1,6 @@
 use Rattle.std.proofs.Common.{◌≡◌, ◌++◌, drop}
 use Rattle.ring_peterson.specs.Rounds.{two_of}
-use Rattle.ring_peterson.specs.Walk.{kept, walk_next}
+use Rattle.ring_peterson.specs.laws.Walk.{kept, walk_next}
 use Rattle.ring_peterson.proofs.rounds.next_of.Given as goal
 
 -- the entries kept so far, with those of what is left, are the next round

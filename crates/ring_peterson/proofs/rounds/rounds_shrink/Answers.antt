@@ -2,10 +2,10 @@
 use Rattle.std.specs.Prelude.{length}
 use Rattle.std.proofs.Common.{◌∙◌, ap, arith}
 use Rattle.ring_peterson.specs.Rounds.{Round, first_round, last_round}
-use Rattle.ring_peterson.specs.FirstRound.{numbered_rises}
-use Rattle.ring_peterson.specs.Lawful.{ring_last}
-use Rattle.ring_peterson.specs.Literal.{messages_by_rounds, rounds_halve}
-use Rattle.ring_peterson.specs.Reading.{last_round-walk}
+use Rattle.ring_peterson.specs.laws.FirstRound.{numbered_rises}
+use Rattle.ring_peterson.specs.laws.Lawful.{ring_last}
+use Rattle.ring_peterson.specs.laws.Literal.{messages_by_rounds, rounds_halve}
+use Rattle.ring_peterson.specs.laws.Reading.{last_round-walk}
 use Rattle.ring_peterson.proofs.Logarithm.{logarithm_is_greatest}
 use Rattle.ring_peterson.proofs.rounds.rounds_shrink.Goals as goal
 

@@ -1,6 +1,6 @@
 use Rattle.std.proofs.Common.{arith, rules}
 use Rattle.std.proofs.lemmas.List.Sorted.{IsNonDecreasingBy-from_sort_by_key}
-use Rattle.ring_roster.specs.Order.{number_at}
+use Rattle.ring_roster.specs.private.Order.{number_at}
 use Rattle.ring_roster.proofs.Orders.{first_more, order_of_all}
 use Rattle.ring_roster.proofs.order.order_of.Goals as goal
 

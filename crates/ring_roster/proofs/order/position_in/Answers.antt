@@ -1,6 +1,6 @@
 use Rattle.std.proofs.Common.{rules}
 use Rattle.std.proofs.lemmas.Fn.{always_returns_same}
-use Rattle.ring_roster.specs.Order.{number_at}
+use Rattle.ring_roster.specs.private.Order.{number_at}
 use Rattle.ring_roster.proofs.Orders.{absent_in_order, found_in_order}
 use Rattle.ring_roster.proofs.order.position_in.Goals as goal
 

@@ -1,5 +1,5 @@
 -- What the book answers to a command is its reply's step.
-use Rattle.ring_mux.specs.Replies.{done_reply, told_reply}
+use Rattle.ring_mux.specs.private.Replies.{done_reply, told_reply}
 use Rattle.ring_mux.proofs.HoldingSteps.{tells_reply}
 use Rattle.ring_service.proofs.Showing.{done_replies}
 use Rattle.ring_service.proofs.twice.perform.Goals as goal

@@ -1,5 +1,5 @@
 use Rattle.std.proofs.Common.{◌≡◌, vec_len}
-use Rattle.ring_workers.specs.Sends.{Sends}
+use Rattle.ring_workers.specs.private.Sends.{Sends}
 use Rattle.ring_workers.proofs.outbox.send.Given as goal
 
 abbrev pub invariant-loop : goal.invariant-loop

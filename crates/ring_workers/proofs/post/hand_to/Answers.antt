@@ -3,7 +3,7 @@ use Rattle.std.proofs.lemmas.Result.{err_from_is_err_and}
 use Rattle.ring_id.specs.declared.side.Side.TheVariants.{Left, Right}
 use Rattle.ring_node.specs.Nodes.{Seated, envelope_of, receiving, sent_of}
 use Rattle.ring_id.specs.Sides.{other}
-use Rattle.ring_workers.specs.Posts.{Posts}
+use Rattle.ring_workers.specs.private.Posts.{Posts}
 use Rattle.ring_workers.proofs.post.hand_to.Goals as goal
 
 pub returns : goal.returns

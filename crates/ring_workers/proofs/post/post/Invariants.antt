@@ -2,7 +2,7 @@ use Rattle.std.proofs.Common.{◌≡◌, ◌+◌, ◌≤◌, ℕ, length, vec_le
 use Rattle.std.specs.Prelude.{All}
 use Rattle.std.specs.VecDeque.{deque_capacity, deque_len}
 use Rattle.ring_node.specs.Nodes.{envelope_of, sent_of}
-use Rattle.ring_workers.specs.Posts.{Posted}
+use Rattle.ring_workers.specs.private.Posts.{Posted}
 use Rattle.ring_workers.proofs.post.post.Given as goal
 
 abbrev pub invariant-loop-place : goal.invariant-loop-place

@@ -1,7 +1,8 @@
 use Rattle.std.proofs.Common.{◌≡◌, codes, rules, true}
 use Rattle.clap.specs.Words.{app_of, new_app, with_subcommand}
 use Rattle.clap.specs.Simple.{App, new_shape, on_top}
-use Rattle.ringd.specs.Words.{IsLocal, run_app, serve_app}
+use Rattle.ringd.specs.private.Words.{IsLocal}
+use Rattle.ringd.specs.Words.{run_app, serve_app}
 use Rattle.ringd.proofs.Adding.{with_sub, with_sub_if_ok}
 use Rattle.ringd.proofs.words.command.Goals as goal
 

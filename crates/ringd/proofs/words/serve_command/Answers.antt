@@ -1,6 +1,7 @@
 use Rattle.std.proofs.Common.{◌≡◌, codes, rules}
 use Rattle.clap.specs.Words.{app_of, new_app, with_rule}
-use Rattle.ringd.specs.Words.{IsLocal, config_rule, connections_rule}
+use Rattle.ringd.specs.private.Words.{IsLocal}
+use Rattle.ringd.specs.Words.{config_rule, connections_rule}
 use Rattle.ringd.proofs.Adding.{stays_local, stays_local_if_ok, with_arg, with_arg_if_ok}
 use Rattle.ringd.proofs.words.serve_command.Goals as goal
 

@@ -1,7 +1,7 @@
 -- The announcement stands before the place, or it doesn't.
 use Rattle.std.proofs.Common.{◌≡◌, ◌≤◌, true, false, nat_lt, length, Some, None, sym, ◌∙◌, arith}
 use Rattle.std.proofs.lemmas.Bool.Decides.{nat_tests}
-use Rattle.ring_node.specs.Journals.{leader_place}
+use Rattle.ring_node.specs.private.Journals.{leader_place}
 use Rattle.ring_node.proofs.Announcing.{counted_before}
 use Rattle.ring_node.proofs.port.Port.algos_before.Goals as goal
 

@@ -1,6 +1,6 @@
 -- The announcement stands behind all that was sent before.
 use Rattle.std.proofs.Common.{◌≡◌, ℕ, length, Some, sym, ap, ◌∙◌, arith}
-use Rattle.ring_node.specs.Journals.{leader_place}
+use Rattle.ring_node.specs.private.Journals.{leader_place}
 use Rattle.ring_node.proofs.Announcing.{leader_place-announcement}
 use Rattle.ring_node.proofs.port.Port.announce.Goals as goal
 

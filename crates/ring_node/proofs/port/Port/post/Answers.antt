@@ -1,6 +1,6 @@
 -- The message stands behind the announcement, if there is one.
 use Rattle.std.proofs.Common.{sym, ap, ◌∙◌}
-use Rattle.ring_node.specs.Journals.{leader_place}
+use Rattle.ring_node.specs.private.Journals.{leader_place}
 use Rattle.ring_node.proofs.Announcing.{leader_place-message}
 use Rattle.ring_node.proofs.port.Port.post.Goals as goal
 

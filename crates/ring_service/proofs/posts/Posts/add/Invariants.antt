@@ -2,7 +2,7 @@ use Rattle.std.proofs.Common.{◌≡◌, ◌+◌, ◌≤◌, ◌++◌, vec_len}
 use Rattle.std.specs.Iterator.Adapters.{enumerate_count, enumerate_source}
 use Rattle.std.specs.Vec.Iter.{into_iter_items, into_iter_len}
 use Rattle.std.specs.VecDeque.{deque_capacity, deque_len}
-use Rattle.ring_service.specs.Posts.{begins_from}
+use Rattle.ring_service.specs.private.Posts.{begins_from}
 use Rattle.ring_service.proofs.posts.Posts.add.Given as goal
 
 -- the begins so far and those of the charters that are left are those of all, and there is room for the others

@@ -1,6 +1,6 @@
 use Rattle.std.proofs.Common.{◌≡◌, ◌-◌, ◌*◌, ◌≤◌, [], vec_len, vec_capacity}
 use Rattle.ring_turn.specs.Seats.{fresh_seats}
-use Rattle.ring_turn.specs.Steps.{maker}
+use Rattle.ring_turn.specs.private.Steps.{maker}
 use Rattle.ring_turn.proofs.lock.TurnLock.new.Given as goal
 
 -- as many seats as rounds, with room for the others, and the maker has the turns of those

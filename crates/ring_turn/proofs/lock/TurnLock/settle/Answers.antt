@@ -1,5 +1,5 @@
 use Rattle.std.proofs.Common.{◌≡◌, [], length, ap, subst, sym, ◌∙◌}
-use Rattle.ring_turn.specs.Steps.{IsInside, served}
+use Rattle.ring_turn.specs.private.Steps.{IsInside, served}
 use Rattle.ring_turn.proofs.Turning.{settled_whole}
 use Rattle.ring_turn.proofs.lock.TurnLock.settle.Goals as goal
 

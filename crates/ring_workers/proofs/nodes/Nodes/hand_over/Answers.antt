@@ -1,7 +1,7 @@
 -- An envelope is handed over after the turn to its term.
 use Rattle.std.proofs.Common.{◌≡◌, true, [], subst}
 use Rattle.ring_node.specs.declared.charter.Charter.{Charter}
-use Rattle.ring_workers.specs.Holdings.{Steps}
+use Rattle.ring_workers.specs.private.Holdings.{Steps}
 use Rattle.ring_workers.proofs.Groups.{steps_before, steps_on}
 use Rattle.ring_workers.proofs.nodes.Nodes.hand_over.Goals as goal
 

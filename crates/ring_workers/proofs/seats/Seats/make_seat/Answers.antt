@@ -2,7 +2,8 @@
 use Rattle.std.proofs.Common.{◌≡◌, ◌<◌, length, sym, ap, ◌∙◌, subst}
 use Rattle.std.specs.Prelude.{slice_index}
 use Rattle.ring_workers.specs.Owners.{owner_of}
-use Rattle.ring_workers.specs.Seatings.{IsSeating, seated_in}
+use Rattle.ring_workers.specs.private.Seatings.{IsSeating}
+use Rattle.ring_workers.specs.Seatings.{seated_in}
 use Rattle.ring_workers.proofs.Goings.{goes_none}
 use Rattle.ring_workers.proofs.Seatings.{empty_there}
 use Rattle.ring_workers.proofs.seats.Seats.make_seat.Goals as goal

@@ -1,7 +1,8 @@
 -- One bit is put, and with it one link is cut.
 use Rattle.std.proofs.Common.{ap, sym, ◌∙◌, ◌≡◌, List, Bool, length, arith}
-use Rattle.ring_world.specs.LinkSets.{bit_of}
-use Rattle.ring_world.specs.Worlds.{journals_of, link_place}
+use Rattle.ring_world.specs.private.LinkSets.{bit_of}
+use Rattle.ring_world.specs.private.Worlds.{journals_of}
+use Rattle.ring_world.specs.Worlds.{link_place}
 use Rattle.ring_world.proofs.Cuts.{link_put, world_cut}
 use Rattle.ring_world.proofs.circle.Circle.cut.Goals as goal
 

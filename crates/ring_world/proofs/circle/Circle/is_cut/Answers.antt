@@ -1,6 +1,6 @@
 -- A link's bit says whether it is cut.
 use Rattle.std.proofs.Common.{◌≡◌, ◌<◌, ◌==◌, ℕ, ap, sym, ◌∙◌, length, arith}
-use Rattle.ring_world.specs.LinkSets.{bit_of}
+use Rattle.ring_world.specs.private.LinkSets.{bit_of}
 use Rattle.ring_world.specs.Worlds.{link_place}
 use Rattle.ring_world.proofs.Cuts.{bit_says}
 use Rattle.ring_world.proofs.circle.Circle.is_cut.Goals as goal

@@ -1,6 +1,6 @@
 -- The link's bit is put as what is in flight on it.
 use Rattle.std.proofs.Common.{◌≡◌, ℕ, cond, nat_lt, sym, ap, ◌∙◌, arith}
-use Rattle.ring_world.specs.LinkSets.{bit_of}
+use Rattle.ring_world.specs.private.LinkSets.{bit_of}
 use Rattle.ring_world.specs.Worlds.{is_cut, link_place, on_link}
 use Rattle.ring_world.proofs.Cuts.{mark_by_length}
 use Rattle.ring_world.proofs.Tallies.{one_marked}

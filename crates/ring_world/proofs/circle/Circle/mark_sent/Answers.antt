@@ -1,7 +1,7 @@
 -- Something stands on the link from the sender, and so its bit is put unless it is cut.
 use Rattle.std.proofs.Common.{Bool, cond, ap, sym, ◌∙◌, inr, arith}
 use Rattle.std.specs.Prelude.{not}
-use Rattle.ring_world.specs.LinkSets.{bit_of}
+use Rattle.ring_world.specs.private.LinkSets.{bit_of}
 use Rattle.ring_world.proofs.Tallies.{one_put}
 use Rattle.ring_world.proofs.circle.Circle.mark_sent.Goals as goal
 

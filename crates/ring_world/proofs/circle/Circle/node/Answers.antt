@@ -1,6 +1,6 @@
 -- The nodes stand in the order of their positions.
 use Rattle.std.proofs.Common.{◌*◌, ◌<◌, length, ◌∙◌, arith}
-use Rattle.ring_world.specs.LinkSets.{bits_from}
+use Rattle.ring_world.specs.private.LinkSets.{bits_from}
 use Rattle.ring_world.proofs.Links.{length-journals_of, node_of_world}
 use Rattle.ring_world.proofs.circle.Circle.node.Goals as goal
 

@@ -1,6 +1,6 @@
 use Rattle.std.proofs.Common.{◌≡◌, ◌<◌, ℕ, Some, length, slice_get}
 use Rattle.ring_node.specs.Nodes.{IsFaithful, Seated}
-use Rattle.ring_world.specs.Places.{IsPlaced}
+use Rattle.ring_world.specs.private.Places.{IsPlaced}
 use Rattle.ring_world.proofs.places.Places.of.Given as goal
 
 -- the list says where the nodes stand that were passed

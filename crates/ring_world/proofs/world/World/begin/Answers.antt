@@ -1,7 +1,7 @@
 -- The links into one position more are marked and counted.
 use Rattle.std.proofs.Common.{arith, add-one, ◌∙◌}
 use Rattle.ring_id.specs.declared.side.Side.TheVariants.{Left, Right}
-use Rattle.ring_world.specs.Tallies.{IsMarked}
+use Rattle.ring_world.specs.private.Tallies.{IsMarked}
 use Rattle.ring_world.proofs.Cuts.{pending_stands}
 use Rattle.ring_world.proofs.Links.{each_side_below}
 use Rattle.ring_world.proofs.world.World.begin.Goals as goal

@@ -1,7 +1,7 @@
 use Rattle.std.proofs.Common.{◌≡◌, ◌≤◌, ◌<◌, ◌*◌, ℕ}
 use Rattle.ring_id.specs.declared.side.Side.{Side}
-use Rattle.ring_world.specs.LinkSets.{bit_of}
-use Rattle.ring_world.specs.Tallies.{IsMarked}
+use Rattle.ring_world.specs.private.LinkSets.{bit_of}
+use Rattle.ring_world.specs.private.Tallies.{IsMarked}
 use Rattle.ring_world.specs.Worlds.{pending_below, size_of}
 use Rattle.ring_world.proofs.world.World.begin.Given as goal
 

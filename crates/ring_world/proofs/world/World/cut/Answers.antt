@@ -1,6 +1,6 @@
 -- The link's bit is cleared: nothing is in flight there.
 use Rattle.std.proofs.Common.{◌≡◌, ap, refl, sym, ◌∙◌}
-use Rattle.ring_world.specs.LinkSets.{bit_of}
+use Rattle.ring_world.specs.private.LinkSets.{bit_of}
 use Rattle.ring_world.specs.Worlds.{link_place}
 use Rattle.ring_world.proofs.Cuts.{cut_again}
 use Rattle.ring_world.proofs.Tallies.{tally_cut}

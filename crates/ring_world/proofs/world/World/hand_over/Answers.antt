@@ -1,8 +1,8 @@
 -- What is kept beside the nodes is brought up to what is in flight after the receipt.
 use Rattle.std.proofs.Common.{◌==◌, cond, length, ap, sym, ◌∙◌, arith}
 use Rattle.ring_id.specs.declared.side.Side.TheVariants.{Left, Right}
-use Rattle.ring_world.specs.LinkSets.{bit_of}
-use Rattle.ring_world.specs.Tallies.{HasLeft}
+use Rattle.ring_world.specs.private.LinkSets.{bit_of}
+use Rattle.ring_world.specs.private.Tallies.{HasLeft}
 use Rattle.ring_world.specs.Worlds.{is_cut, on_link}
 use Rattle.ring_world.proofs.Cuts.{front_stands, front_uncut, mark_standing}
 use Rattle.ring_world.proofs.Tallies.{some_length, count_after, count_few, sent_grown, sent_waits, tally_after}

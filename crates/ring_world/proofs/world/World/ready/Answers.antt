@@ -1,7 +1,7 @@
 -- The first bit is the first link's; where there is none the world is quiet, and so every node knows if
 -- no link is cut.
 use Rattle.std.proofs.Common.{ℕ, Some, sym, subst}
-use Rattle.ring_world.specs.LinkSets.{IsFirst}
+use Rattle.ring_world.specs.private.LinkSets.{IsFirst}
 use Rattle.ring_world.proofs.Quiet.{quiet_knows}
 use Rattle.ring_world.proofs.Tallies.{first_link, no_link}
 use Rattle.ring_world.proofs.world.World.ready.Goals as goal

@@ -1,0 +1,11 @@
+pub mod Bounded
+pub mod Deciding
+pub mod Homecomings
+pub mod Lawful
+pub mod Logarithm
+pub mod Passing
+pub mod Receipts
+pub mod States
+pub mod Tokens
+pub mod Walks
+pub mod Weights

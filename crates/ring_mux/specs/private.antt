@@ -1,0 +1,3 @@
+pub mod Journeys
+pub mod Replies
+pub mod Views

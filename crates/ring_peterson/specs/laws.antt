@@ -1,0 +1,14 @@
+pub mod Bounded
+pub mod Choice
+pub mod Deciding
+pub mod FirstRound
+pub mod Lawful
+pub mod Literal
+pub mod Messages
+pub mod Positions
+pub mod Reading
+pub mod Receipts
+pub mod Shrinks
+pub mod Values
+pub mod Walk
+pub mod Worked

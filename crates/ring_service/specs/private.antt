@@ -1,0 +1,4 @@
+pub mod Chunks
+pub mod Locks
+pub mod Posts
+pub mod Twice

@@ -1,0 +1,113 @@
+-- The steps under the rule of a turn lock: what a place knows after each, and what each tells.
+use Rattle.std.specs.Prelude.{◌≡◌, ℕ, ◌+◌, ◌-◌, ◌<◌, Bool, true, false, List, [], ◌∷◌, ◌++◌, length, Option, Some, None}
+use mathlib.Core.Option.{Option as Slot, some, none}
+use Rattle.atomic_table.specs.Table.{Me, Step, rest}
+use Rattle.ring_service.specs.Histories.{IsLegal}
+use Rattle.ring_service.specs.Tables.{TableView}
+use Rattle.ring_service.specs.declared.entry.Entry.{Entry}
+use Rattle.ring_turn.specs.declared.view.Doing.{Doing}
+use Rattle.ring_turn.specs.declared.view.Past.{Past}
+use Rattle.ring_turn.specs.declared.view.Stage.TheVariants.{Idle, Waits, Holds}
+use Rattle.ring_turn.specs.Turns.{entries, made_by, StartsWith}
+use Rattle.ring_turn.specs.private.Rule.{Desk}
+
+module _ {E : Type 0} where
+  -- the maker, with so many turns to give, that made so many seats with so many turns each
+  abbrev pub maker : ℕ → ℕ → ℕ → List (Entry E) → Doing E
+  maker budget made turns opening = record { stage = Idle; budget = budget; lives = false; number = 0; makes = true; made = made; turns = turns; opening = opening; seen = []; mine = []; kept = [] }
+
+  -- a seat that has made no turn
+  abbrev pub newcomer : ℕ → ℕ → List (Entry E) → Doing E
+  newcomer turns number opening = record { stage = Idle; budget = turns; lives = true; number = number; makes = false; made = 0; turns = 0; opening = opening; seen = []; mine = []; kept = [] }
+
+  -- a place that is used no more
+  abbrev pub nobody : Doing E
+  nobody = record { stage = Idle; budget = 0; lives = false; number = 0; makes = false; made = 0; turns = 0; opening = []; seen = []; mine = []; kept = [] }
+
+  -- a seat that drew a ticket
+  abbrev pub drew : ℕ → Doing E → Doing E
+  drew ticket v = record v { stage = Waits ticket; budget = v.budget - 1 }
+
+  -- a seat that took the desk, and so has seen the whole history
+  abbrev pub took : ℕ → List (ℕ × Entry E) → Doing E → Doing E
+  took ticket log v = record v { stage = Holds ticket; seen = log }
+
+  -- a seat that counted its entry
+  abbrev pub counted : Entry E → Doing E → Doing E
+  counted entry v = record v { seen = v.seen ++ (v.number, entry) ∷ []; mine = v.mine ++ entry ∷ [] }
+
+  -- a seat that gave the desk back and served the next
+  abbrev pub served : Doing E → Doing E
+  served v = record v { stage = Idle }
+
+  -- the maker when it made one seat more
+  abbrev pub gave : Doing E → Doing E
+  gave v = record v { budget = v.budget - v.turns; made = v.made + 1 }
+
+  -- what is kept of a seat that is joined to the maker
+  abbrev pub past_of : Doing E → Past E
+  past_of v = record { number = v.number; seen = v.seen; mine = v.mine }
+
+  -- the maker when a seat was joined to it
+  abbrev pub joined : Doing E → Doing E → Doing E
+  joined v w = record v { kept = past_of w ∷ v.kept }
+
+  -- the history of the table that a step announces
+  abbrev pub announced : Slot (Desk E) → List (Entry E)
+  announced none = []
+  announced (some None) = []
+  announced (some (Some table)) = table.history
+
+  -- a draw tells its ticket
+  abbrev pub Draws : Step (Desk E) → Me (Desk E) (Doing E) → ℕ → Me (Desk E) (Doing E) → Type 0
+  Draws step me found now = now ≡ (drew found me.0, me.1)
+
+  -- its turn has come: a place takes the desk, with the table on it, and sees the whole history
+  pub record HasTurn (me now : Me (Desk E) (Doing E)) : Type 0 where
+    pub ticket : ℕ
+    pub log : List (ℕ × Entry E)
+    pub table : TableView E
+    pub waited : me.0.stage ≡ Waits ticket
+    pub starts : StartsWith log me.0.seen
+    pub own : made_by me.0.number log ≡ me.0.mine
+    pub whole : table.history ≡ me.0.opening ++ entries log
+    pub is : now ≡ (took ticket log me.0, (0, Some table) ∷ me.1)
+
+  -- a look tells whether the turn has come
+  pub record Looks (step : Step (Desk E)) (me : Me (Desk E) (Doing E)) (found : ℕ) (now : Me (Desk E) (Doing E)) : Type 0 where
+    pub turn : me.0.stage ≡ Waits found → HasTurn me now
+    pub not_yet : (me.0.stage ≡ Waits found → ⊥) → now ≡ me
+
+  -- a count tells that the one entry that the announced table has more is this place's
+  abbrev pub Counts : Step (Desk E) → Me (Desk E) (Doing E) → ℕ → Me (Desk E) (Doing E) → Type 0
+  Counts step me found now = (entry : Entry E) → announced step.said ≡ (me.0.opening ++ entries me.0.seen) ++ entry ∷ [] → now ≡ (counted entry me.0, me.1)
+
+  -- who serves gives the desk back
+  abbrev pub Serves : Step (Desk E) → Me (Desk E) (Doing E) → ℕ → Me (Desk E) (Doing E) → Type 0
+  Serves step me found now = now ≡ (served me.0, rest me.1)
+
+  -- A turn that was begun: the table is in hand, with all the turns so far.
+  pub record Entered (me : Me (Desk E) (Doing E)) (table : TableView E) (now : Me (Desk E) (Doing E)) : Type 0 where
+    pub ticket : ℕ
+    pub log : List (ℕ × Entry E)
+    pub starts : StartsWith log me.0.seen
+    pub own : made_by me.0.number log ≡ me.0.mine
+    pub whole : table.history ≡ me.0.opening ++ entries log
+    pub is : now ≡ (took ticket log (drew ticket me.0), (0, None) ∷ [])
+
+  -- a seat in its turn, with the table in hand
+  pub record IsInside (me : Me (Desk E) (Doing E)) : Type 0 where
+    pub ticket : ℕ
+    pub stage : me.0.stage ≡ Holds ticket
+    pub hand : me.1 ≡ (0, None) ∷ []
+
+  -- the table has one entry more than the seat has seen
+  pub record HasOneMore (me : Me (Desk E) (Doing E)) (table : TableView E) : Type 0 where
+    pub entry : Entry E
+    pub added : table.history ≡ (me.0.opening ++ entries me.0.seen) ++ entry ∷ []
+
+  -- A turn that was ended with one entry: it is the seat's, the last one, and the history is legal.
+  pub record Settled (two_way greatest : E → Bool) (me : Me (Desk E) (Doing E)) (table : TableView E) (place : ℕ) (now : Me (Desk E) (Doing E)) : Type 0 where
+    pub is : (entry : Entry E) → table.history ≡ (me.0.opening ++ entries me.0.seen) ++ entry ∷ [] → now ≡ (served (counted entry me.0), [])
+    pub at : place ≡ length table.history
+    pub legal : IsLegal two_way greatest table.history table.book

@@ -1,0 +1,5 @@
+pub mod LinkSets
+pub mod Places
+pub mod Settlements
+pub mod Tallies
+pub mod Worlds

@@ -1,0 +1,18 @@
+-- What inner functions say of nodes that are settled.
+use Rattle.std.specs.Prelude.{◌≡◌, ◌+◌, ℕ, List, [], ◌∷◌, drop, Option, Some, None, slice_get}
+use Rattle.ring_election.specs.Tables.{Table}
+use Rattle.ring_election.specs.Families.{Fitting}
+use Rattle.ring_node.specs.declared.packet.Packet.{Packet}
+use Rattle.ring_node.specs.Nodes.{IsFaithful, Seated}
+use Rattle.ring_world.specs.declared.sort.Sort.{Sort}
+use Rattle.ring_world.specs.Sorts.{of_sort}
+
+module _ {E S M : Type 0} (t : E → Table S M) where
+  -- what the type of each of these nodes keeps
+  pub record AllFaithful (fits : E → Fitting M) (winner : E → List ℕ → ℕ) (nodes : List (Seated E M)) : Type 0 where
+    pub each : (k : ℕ) (node : Seated E M) → slice_get nodes k ≡ Some node → IsFaithful t fits winner node
+
+-- the first packet of this sort from a place on, with its place, if there is one
+abbrev pub IsNextOf : {M : Type 0} → Sort → List (Packet M) → ℕ → Option (ℕ × Packet M) → Type 0
+IsNextOf sort packets from None = of_sort sort (drop from packets) ≡ []
+IsNextOf sort packets from (Some next) = of_sort sort (drop from packets) ≡ next.1 ∷ of_sort sort (drop (next.0 + 1) packets)

@@ -1,0 +1,4 @@
+pub mod Listening
+pub mod Run
+pub mod Running
+pub mod Words
