@@ -82,18 +82,20 @@ fn open_service<R: Threads + Wait + Clock + Copy + Send + Drop + 'static>(
     })
 }
 
-// A service of two workers with this gate.
+// A service of so many workers with this gate.
 fn open_gated<R: Threads + Wait + Clock + Copy + Send + Sync + Drop + 'static>(
     rt: &R,
     alloc: Global,
+    workers: usize,
     inbox: usize,
     gate: Arc<Meeting<R>>,
 ) -> Option<Opened>
-    requires { (1 ≤ inbox) × (inbox ≤ 65536) }
+    requires workers { (1 ≤ workers) × (workers ≤ 8) }
+    requires inbox { (1 ≤ inbox) × (inbox ≤ 65536) }
 {
-    let laid = lay(alloc, 2)?;
+    let laid = lay(alloc, workers)?;
     let (seats, one, other) = (laid.workers, laid.one, laid.other);
-    let service = Service::gated(rt, alloc, laid.access, seats, 2, inbox, gate).ok()?;
+    let service = Service::gated(rt, alloc, laid.access, seats, workers, inbox, gate).ok()?;
     Some(Opened {
         service,
         one,
@@ -380,7 +382,7 @@ fn decides<R: Threads + Wait + Clock + Copy + Send + Sync + Drop + 'static>(
         service,
         mut one,
         other: _,
-    } = open_gated(rt, alloc, inbox, copy)?;
+    } = open_gated(rt, alloc, 2, inbox, copy)?;
     let told = session(rt, alloc, front(&service), &mut one, 1, FOUR);
     let all = has_told(&told, b"ok\nok\nok\nok\nok\nterm 1\n") && reaches(rt, &gate.left, 30);
     let Closing {
@@ -474,6 +476,95 @@ fn no_begin_is_lost(rt: HostRuntime) {
     let alloc = rt.alloc();
     let first = begins_twenty(&rt, alloc);
     assert!(rt; first == Some(true) || begins_twenty(&rt, alloc) == Some(true));
+}
+
+// A worker that is held at the begin of a first term, whose inbox holds the begin of a second one, and the
+// begin of a third, which waits.
+#[derive(Drop)]
+struct Behind<R: Drop> {
+    opened: Opened,
+    gate: Arc<Meeting<R>>,
+}
+
+const AHEAD: &[u8] = b"create a chang\njoin a 1\nstart a\n";
+
+const BEHIND: &[u8] = b"create b chang\njoin b 1\nstart b\ncreate c chang\njoin c 1\nstart c\n";
+
+// Starts three terms of one member each over an inbox of one item. Its gate waits for a second worker,
+// which there is not: the caller lets the worker go on.
+fn fall_behind<R: Threads + Wait + Clock + Copy + Send + Sync + Drop + 'static>(
+    rt: &R,
+    alloc: Global,
+) -> Option<Behind<R>> {
+    let gate = new_meeting(rt, alloc)?;
+    let copy = Arc::try_clone(&gate).ok()?;
+    let Opened {
+        service,
+        mut one,
+        other,
+    } = open_gated(rt, alloc, 1, 1, copy)?;
+    let first = session(rt, alloc, front(&service), &mut one, 1, AHEAD);
+    let is_held = reaches(rt, &gate.entered, 1);
+    let second = session(rt, alloc, front(&service), &mut one, 1, BEHIND);
+    let told = has_told(&first, b"ok\nok\nterm 1\n")
+        && has_told(&second, b"ok\nok\nterm 1\nok\nok\nterm 1\n");
+    if !is_held || !told {
+        return None;
+    }
+    let opened = Opened {
+        service,
+        one,
+        other,
+    };
+    Some(Behind { opened, gate })
+}
+
+// Whether the begin that waits is tried again before the command of another session: each term takes its
+// begin, a message and an announcement.
+fn tries_before_a_command<R: Threads + Wait + Clock + Copy + Send + Sync + Drop + 'static>(
+    rt: &R,
+    alloc: Global,
+) -> Option<bool> {
+    let Behind { opened, gate } = fall_behind(rt, alloc)?;
+    let Opened {
+        service,
+        one: _,
+        mut other,
+    } = opened;
+    gate.entered.fetch_add(1, Ordering::SeqCst);
+    let two = reaches(rt, &gate.left, 6);
+    let told = session(rt, alloc, front(&service), &mut other, 2, b"groups\n");
+    let three = reaches(rt, &gate.left, 9);
+    let closing = close(rt, service);
+    let whole = closing.waiting.is_empty() && nodes_of(alloc, closing.handed)?.len() == 3;
+    Some(two && has_told(&told, b"groups a b c\n") && three && whole)
+}
+
+#[test]
+fn a_begin_that_waits_is_tried_before_a_command(rt: HostRuntime) {
+    let alloc = rt.alloc();
+    let first = tries_before_a_command(&rt, alloc);
+    assert!(rt; first == Some(true) || tries_before_a_command(&rt, alloc) == Some(true));
+}
+
+// Whether the begin that waits is tried once more where the service ends.
+fn tries_at_the_end<R: Threads + Wait + Clock + Copy + Send + Sync + Drop + 'static>(
+    rt: &R,
+    alloc: Global,
+) -> Option<bool> {
+    let Behind { opened, gate } = fall_behind(rt, alloc)?;
+    gate.entered.fetch_add(1, Ordering::SeqCst);
+    let two = reaches(rt, &gate.left, 6);
+    let closing = close(rt, opened.service);
+    let whole = closing.waiting.is_empty() && nodes_of(alloc, closing.handed)?.len() == 3;
+    Some(two && whole)
+}
+
+#[test]
+fn a_begin_that_waits_is_tried_at_the_end(rt: HostRuntime) {
+    let alloc = rt.alloc();
+    let first = tries_at_the_end(&rt, alloc);
+    assert!(rt; first == Some(true) || tries_at_the_end(&rt, alloc) == Some(true));
 }
 
 // Starts a service and closes it, or is told why it can't be started: whether nothing of it is left to
