@@ -114,13 +114,22 @@ class Specs:
 
     def misplaced(self, met):
         """What stands in another folder than its own: what is met belongs in specs itself, all else below it."""
-        found = []
+        found, held = [], self.lemmas_in(met)
         for place, one in sorted(self.declared.items()):
             inner = "." in place.file
             if inner and place in met:
                 found.append((place, "public contracts lead to it"))
-            elif not inner and place not in met:
+            elif not inner and place not in met and place not in held:
                 found.append((place, "no public contract leads to it" if one.kind else "it is a lemma"))
+        return found
+
+    def lemmas_in(self, places):
+        """The lemmas that these definitions hold, which stand beside them."""
+        found = set()
+        for place in places:
+            file = (place.crate, place.file)
+            named = self.named(WORD.findall(self.declared[place].text), self.imports[file], file)
+            found |= {it for it in named if not self.declared[it].kind}
         return found
 
     def met_by_crate(self):

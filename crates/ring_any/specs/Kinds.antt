@@ -1,5 +1,5 @@
 -- The kinds of the sum: which states and which messages are whose.
-use Rattle.std.specs.Prelude.{ℕ, Option, Some, None, refl}
+use Rattle.std.specs.Prelude.{◌≡◌, ℕ, Option, Some, None, refl}
 use Rattle.ring_chang.specs.declared.chang.ChangState.{ChangState}
 use Rattle.ring_hirschberg.specs.declared.hirschberg.HirschbergMsg.{HirschbergMsg}
 use Rattle.ring_hirschberg.specs.declared.hirschberg.HirschbergState.{HirschbergState}
@@ -21,6 +21,16 @@ abbrev pub lelann_message : AnyMsg → Option ℕ
 lelann_message (message.LeLann v) = Some v
 lelann_message _ = None
 
+-- no other state is one
+pub lelann_state-own : (w : AnyState) (s : Knowledge) → lelann_state w ≡ Some s → w ≡ state.LeLann s
+lelann_state-own (state.LeLann _) s is = cc
+lelann_state-own _ s is = cc
+
+-- no other message is one
+pub lelann_message-own : (w : AnyMsg) (v : ℕ) → lelann_message w ≡ Some v → w ≡ message.LeLann v
+lelann_message-own (message.LeLann _) v is = cc
+lelann_message-own _ v is = cc
+
 -- the states of LeLann
 abbrev pub lelann_states : Variant AnyState Knowledge
 lelann_states = record { put = λ s. state.LeLann s; of = lelann_state; of_put = λ _. refl; put_of = lelann_state-own }
@@ -38,6 +48,16 @@ chang_state _ = None
 abbrev pub chang_message : AnyMsg → Option ℕ
 chang_message (message.Chang v) = Some v
 chang_message _ = None
+
+-- no other state is one
+pub chang_state-own : (w : AnyState) (s : ChangState) → chang_state w ≡ Some s → w ≡ state.Chang s
+chang_state-own (state.Chang _) s is = cc
+chang_state-own _ s is = cc
+
+-- no other message is one
+pub chang_message-own : (w : AnyMsg) (v : ℕ) → chang_message w ≡ Some v → w ≡ message.Chang v
+chang_message-own (message.Chang _) v is = cc
+chang_message-own _ v is = cc
 
 -- the states of Chang
 abbrev pub chang_states : Variant AnyState ChangState
@@ -57,6 +77,16 @@ abbrev pub hirschberg_message : AnyMsg → Option HirschbergMsg
 hirschberg_message (message.Hirschberg v) = Some v
 hirschberg_message _ = None
 
+-- no other state is one
+pub hirschberg_state-own : (w : AnyState) (s : HirschbergState) → hirschberg_state w ≡ Some s → w ≡ state.Hirschberg s
+hirschberg_state-own (state.Hirschberg _) s is = cc
+hirschberg_state-own _ s is = cc
+
+-- no other message is one
+pub hirschberg_message-own : (w : AnyMsg) (v : HirschbergMsg) → hirschberg_message w ≡ Some v → w ≡ message.Hirschberg v
+hirschberg_message-own (message.Hirschberg _) v is = cc
+hirschberg_message-own _ v is = cc
+
 -- the states of Hirschberg
 abbrev pub hirschberg_states : Variant AnyState HirschbergState
 hirschberg_states = record { put = λ s. state.Hirschberg s; of = hirschberg_state; of_put = λ _. refl; put_of = hirschberg_state-own }
@@ -74,6 +104,16 @@ peterson_state _ = None
 abbrev pub peterson_message : AnyMsg → Option ℕ
 peterson_message (message.Peterson v) = Some v
 peterson_message _ = None
+
+-- no other state is one
+pub peterson_state-own : (w : AnyState) (s : PetersonState) → peterson_state w ≡ Some s → w ≡ state.Peterson s
+peterson_state-own (state.Peterson _) s is = cc
+peterson_state-own _ s is = cc
+
+-- no other message is one
+pub peterson_message-own : (w : AnyMsg) (v : ℕ) → peterson_message w ≡ Some v → w ≡ message.Peterson v
+peterson_message-own (message.Peterson _) v is = cc
+peterson_message-own _ v is = cc
 
 -- the states of Peterson
 abbrev pub peterson_states : Variant AnyState PetersonState
