@@ -44,10 +44,8 @@ fn client_command(event: Event<Any>) -> Option<Command<Any>>
 {
     match event {
         Event::Client(command) => Some(command),
-        Event::Deliver { .. }
-        | Event::Cut { .. }
-        | Event::Pending { .. }
-        | Event::Drain { .. } => None,
+        Event::Deliver { .. } | Event::Cut { .. } => None,
+        Event::Pending { .. } | Event::Drain { .. } => None,
     }
 }
 

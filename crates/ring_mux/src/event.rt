@@ -40,7 +40,12 @@ pub enum Event<E> {
         side: Side,
     },
     /// How many packets are in flight or stuck in a group's running term.
-    Pending { group: GroupName },
+    Pending {
+        group: GroupName,
+    },
     /// At most `count` deliveries in a group's running term, each at the first ready link.
-    Drain { group: GroupName, count: u32 },
+    Drain {
+        group: GroupName,
+        count: u32,
+    },
 }

@@ -41,30 +41,22 @@ fn shown(alloc: Global, event: &Event<Any>) -> Result<String, AllocError> {
             group,
             node,
             side: Side::Left,
-        } => {
-            format!(in alloc; "deliver {} {} left", name(group), node.get())
-        }
+        } => format!(in alloc; "deliver {} {} left", name(group), node.get()),
         Event::Deliver {
             group,
             node,
             side: Side::Right,
-        } => {
-            format!(in alloc; "deliver {} {} right", name(group), node.get())
-        }
+        } => format!(in alloc; "deliver {} {} right", name(group), node.get()),
         Event::Cut {
             group,
             node,
             side: Side::Left,
-        } => {
-            format!(in alloc; "cut {} {} left", name(group), node.get())
-        }
+        } => format!(in alloc; "cut {} {} left", name(group), node.get()),
         Event::Cut {
             group,
             node,
             side: Side::Right,
-        } => {
-            format!(in alloc; "cut {} {} right", name(group), node.get())
-        }
+        } => format!(in alloc; "cut {} {} right", name(group), node.get()),
         Event::Pending { group } => format!(in alloc; "pending {}", name(group)),
         Event::Drain { group, count } => format!(in alloc; "drain {} {}", name(group), count),
     }
