@@ -151,6 +151,7 @@ impl RingElection for Any {
     /// One receipt of this kind. A state or a message of another kind changes nothing and sends
     /// nothing. Refused for want of memory only where LeLann's list has to grow; the state is then
     /// unchanged.
+    #[inline(always)]
     fn receive(
         &self,
         state: &mut AnyState,

@@ -5,7 +5,7 @@ ghost use Rattle.ring_node.specs.private.Journals.{leader_place};
 ghost use Rattle.ring_node.specs.Ports.{all_algos, all_leaders};
 
 use crate::packet::Packet;
-use crate::room::find_room;
+use crate::room::{LEAST, find_room};
 use ring_id::{NoMemory, NodeId};
 use std::alloc::Global;
 
@@ -33,7 +33,7 @@ impl<M: Copy> Port<M> {
             algos: 0,
             leaders: 0,
         };
-        if first.is_some() && port.sent.reserve_exact(4).is_err() {
+        if first.is_some() && port.sent.reserve_exact(LEAST).is_err() {
             return Err(NoMemory);
         }
         port.post(first);
