@@ -7,7 +7,7 @@ ghost use Rattle.ring_mux.specs.declared.reply.Reply.TheVariants as reply;
 mod lists;
 
 use crate::sink::{Sink, SinkFailed};
-use itoa::Buffer;
+use itoa::{Buffer, Integer};
 pub use lists::{print_groups, print_members, print_terms};
 use ring_id::{GroupName, NodeId};
 use ring_mux::Reply;
@@ -32,9 +32,9 @@ fn put_words<W: Sink>(reply: &Reply, out: &mut W) -> Result<(), SinkFailed>
 {
     match reply {
         Reply::Done => out.put(b"ok"),
-        Reply::Term(term) => put_number(b"term ", u128::from(term.get()), out),
-        Reply::Leader(term, leader) => put_leader(u128::from(term.get()), *leader, out),
-        Reply::Undecided(term) => put_number(b"undecided ", u128::from(term.get()), out),
+        Reply::Term(term) => put_number(b"term ", term.get(), out),
+        Reply::Leader(term, leader) => put_leader(term.get(), *leader, out),
+        Reply::Undecided(term) => put_number(b"undecided ", term.get(), out),
         Reply::Members(members) => put_members(members.as_slice(), out),
         Reply::Terms(leaders) => put_terms(leaders.as_slice(), out),
         Reply::Groups(names) => put_groups(names.as_slice(), out),
@@ -60,9 +60,9 @@ fn put_both<W: Sink>(first: &[u8], second: &[u8], out: &mut W) -> Result<(), Sin
 }
 
 // A text and then a number.
-fn put_number<W: Sink>(text: &[u8], number: u128, out: &mut W) -> Result<(), SinkFailed>
-    ensures ok { OnOk result (W.takes out.old (text.now ++ decimal number) out.new) }
-    ensures err { OnErr result (W.takes_front out.old (text.now ++ decimal number) out.new) }
+fn put_number<N: Integer, W: Sink>(text: &[u8], number: N, out: &mut W) -> Result<(), SinkFailed>
+    ensures ok { OnOk result (W.takes out.old (text.now ++ N.text number) out.new) }
+    ensures err { OnErr result (W.takes_front out.old (text.now ++ N.text number) out.new) }
 {
     put_both(text, Buffer::new().format(number).as_bytes(), out)
 }
@@ -73,7 +73,7 @@ fn put_node<W: Sink>(text: &[u8], node: NodeId, out: &mut W) -> Result<(), SinkF
     ensures err { OnErr result (W.takes_front out.old (text.now ++ node_word node) out.new) }
     ensures legal { IsNode node }
 {
-    put_number(text, u128::from(node.get()), out)?;
+    put_number(text, node.get(), out)?;
     put_weight(node.weight(), out)
 }
 
@@ -85,10 +85,10 @@ fn put_weight<W: Sink>(weight: u16, out: &mut W) -> Result<(), SinkFailed>
     if weight == 0 {
         return Ok(());
     }
-    put_number(b"/", u128::from(weight), out)
+    put_number(b"/", weight, out)
 }
 
-fn put_leader<W: Sink>(term: u128, leader: NodeId, out: &mut W) -> Result<(), SinkFailed>
+fn put_leader<W: Sink>(term: u16, leader: NodeId, out: &mut W) -> Result<(), SinkFailed>
     ensures ok { OnOk result (W.takes out.old (line_of (reply_words (reply.Leader term leader))) out.new) }
     ensures err { OnErr result (W.takes_front out.old (line_of (reply_words (reply.Leader term leader))) out.new) }
     ensures legal { IsNode leader }

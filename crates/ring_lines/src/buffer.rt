@@ -109,10 +109,9 @@ impl LineBuffer {
         ensures answer { result ≡ answer_of long (take len self.old.held) }
         ensures rest { self.new ≡ record self.old { held = drop (len + 1) self.old.held } }
     {
-        let line = &self.bytes[self.start..self.start + len];
-        let answer = answer_for(line, long);
+        let from = self.start;
         self.start += len + 1;
-        answer
+        answer_for(&self.bytes[from..from + len], long)
     }
 
     // Takes off all held bytes, which the end of the input leaves.
