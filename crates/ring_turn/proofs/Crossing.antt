@@ -14,14 +14,14 @@ use Rattle.atomic_table.specs.contracts.shared.Seat as seat
 use Rattle.atomic_table.proofs.owned.Table.TheSendSync as board_crosses
 use Rattle.atomic_table.proofs.shared.Seat.TheSendSync as seat_crosses
 use Rattle.ring_election.specs.declared.election.RingElection as election
-use Rattle.ring_service.proofs.table.Table.TheSendSync as table_crosses
 use Rattle.std.specs.contracts.option.Option as option
-use Rattle.ring_service.specs.contracts.table.Table as table
 use Rattle.std.specs.contracts.alloc.Global as global
 use Rattle.std.specs.contracts.impls.GlobalAllocator.TheImpl as heap
+use Rattle.ring_turn.proofs.held.HeldTable.TheSendSync as table_crosses
+use Rattle.ring_turn.specs.contracts.held.HeldTable as table
 use Rattle.ring_turn.specs.contracts.lock.TurnLock as lock
 use Rattle.ring_turn.specs.contracts.rule.InTurn as rule_of
-use Rattle.ring_turn.specs.contracts.rule.InTurnTableRuleOptionTableDoingStart.TheImpl as in_turn
+use Rattle.ring_turn.specs.contracts.rule.InTurnTableRuleOptionHeldTableDoingStart.TheImpl as in_turn
 use Rattle.ring_turn.specs.contracts.rule.Start as start
 use Rattle.ring_turn.specs.contracts.view.Doing as view
 

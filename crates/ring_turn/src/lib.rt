@@ -9,6 +9,7 @@
 #![tactic(auto)]
 
 mod calls;
+mod held;
 mod lock;
 mod rule;
 mod seat;

@@ -4,6 +4,7 @@ ghost use Rattle.ring_turn.specs.Calls.{Closes};
 ghost use Rattle.ring_turn.specs.Seats.{HasAllSeats, fresh_seats};
 ghost use Rattle.ring_turn.specs.private.Seats.{IsOpened};
 
+use crate::held::HeldTable;
 use crate::rule::{Board, DESK, Joins, Makes, Place, Start};
 use crate::seat::Seat;
 use ring_election::RingElection;
@@ -97,10 +98,11 @@ impl<E: RingElection> TurnLock<E> {
             board.shared.join_seat::<Joins>(&mut maker, place);
         }
         let mut closed = board.close_with(maker);
-        let Some(table) = closed.take(DESK) else {
+        let Some(held) = closed.take(DESK) else {
             unreachable!()
         };
         closed.free();
+        let table = held.into_table();
         let _ = table.history();
         table
     }
@@ -122,6 +124,7 @@ fn open<E: RingElection>(
         table: Snapshot::of(&table),
     };
     let entries = table.history().len() as u64;
+    let table = HeldTable::new(alloc, table)?;
     let Ok(mut desks) = Vec::with_capacity(alloc, 1) else {
         return Err(NoMemory);
     };

@@ -1,5 +1,6 @@
 //! The table of words and one desk under a turn lock, its rule, and the names of its steps.
 
+use crate::held::HeldTable;
 use crate::view::Doing;
 use atomic_table::{Join, Play, Seat, Split, TableRule};
 use ring_election::RingElection;
@@ -16,7 +17,7 @@ pub(crate) const ENTRIES: usize = 2;
 
 pub(crate) const DESK: usize = 0;
 
-pub(crate) type Desk<E> = Option<Table<E>>;
+pub(crate) type Desk<E> = Option<HeldTable<E>>;
 
 pub(crate) type Board<E> = atomic_table::Table<Desk<E>, Doing<E>, Start<E>, InTurn, Global>;
 
@@ -33,7 +34,7 @@ pub struct Start<E: RingElection> {
 // The rule.
 pub struct InTurn;
 
-impl<E: RingElection> TableRule<Option<Table<E>>, Doing<E>, Start<E>> for InTurn {
+impl<E: RingElection> TableRule<Option<HeldTable<E>>, Doing<E>, Start<E>> for InTurn {
     ghost use Rattle.ring_turn.specs.private.Rule.{Keeps};
     ghost use Rattle.ring_turn.specs.private.Steps.{maker};
 
@@ -45,7 +46,7 @@ impl<E: RingElection> TableRule<Option<Table<E>>, Doing<E>, Start<E>> for InTurn
 // A seat draws a ticket.
 pub struct Draws;
 
-impl<E: RingElection> Play<Option<Table<E>>, Doing<E>> for Draws {
+impl<E: RingElection> Play<Option<HeldTable<E>>, Doing<E>> for Draws {
     ghost use Rattle.ring_turn.specs.private.Steps.{Draws as IsDraw};
 
     ghost then = { IsDraw };
@@ -54,7 +55,7 @@ impl<E: RingElection> Play<Option<Table<E>>, Doing<E>> for Draws {
 // A seat looks whether its turn has come, and then takes the desk.
 pub struct Looks;
 
-impl<E: RingElection> Play<Option<Table<E>>, Doing<E>> for Looks {
+impl<E: RingElection> Play<Option<HeldTable<E>>, Doing<E>> for Looks {
     ghost use Rattle.ring_turn.specs.private.Steps.{Looks as IsLook};
 
     ghost then = { IsLook };
@@ -63,7 +64,7 @@ impl<E: RingElection> Play<Option<Table<E>>, Doing<E>> for Looks {
 // A seat counts its entry.
 pub struct Counts;
 
-impl<E: RingElection> Play<Option<Table<E>>, Doing<E>> for Counts {
+impl<E: RingElection> Play<Option<HeldTable<E>>, Doing<E>> for Counts {
     ghost use Rattle.ring_turn.specs.private.Steps.{Counts as IsCount};
 
     ghost then = { IsCount };
@@ -72,7 +73,7 @@ impl<E: RingElection> Play<Option<Table<E>>, Doing<E>> for Counts {
 // A seat gives the desk back, and serves the next.
 pub struct Serves;
 
-impl<E: RingElection> Play<Option<Table<E>>, Doing<E>> for Serves {
+impl<E: RingElection> Play<Option<HeldTable<E>>, Doing<E>> for Serves {
     ghost use Rattle.ring_turn.specs.private.Steps.{Serves as IsService};
 
     ghost then = { IsService };

@@ -6,10 +6,10 @@ ghost use Rattle.ring_turn.specs.declared.view.Stage.TheVariants as stage;
 ghost use Rattle.ring_turn.specs.Turns.{entries};
 ghost use Rattle.ring_turn.specs.private.Steps.{counted, served, Entered, IsInside, HasOneMore, HasTurn, Settled};
 
+use crate::held::HeldTable;
 use crate::lock::TurnLock;
 use crate::rule::{Counts, DESK, DRAWN, Desk, Draws, ENTRIES, Looks, Place, SERVED, Serves};
 use ring_election::RingElection;
-use ring_service::Table;
 use std::sync::Wait;
 use std::{hint, thread};
 
@@ -18,7 +18,7 @@ const LOOKS: u32 = 100;
 
 impl<E: RingElection> TurnLock<E> {
     // Begins a turn: the table is in hand, with all the turns so far.
-    pub(crate) fn enter<R: Wait>(&self, rt: &R, place: &mut Place<E>) -> Table<E>
+    pub(crate) fn enter<R: Wait>(&self, rt: &R, place: &mut Place<E>) -> HeldTable<E>
         requires here { place.old.table_id ≡ self.now.id }
         requires idle { (place.old.me.0.stage ≡ stage.Idle) × (place.old.me.1 ≡ []) }
         requires turn { (place.old.me.0.lives ≡ true) × (0 < place.old.me.0.budget) }
@@ -57,14 +57,14 @@ impl<E: RingElection> TurnLock<E> {
 
     // Ends a turn with the one entry that the table has more than the seat has seen. The answer is the
     // place of that entry.
-    pub(crate) fn settle(&self, place: &mut Place<E>, table: Table<E>) -> usize
+    pub(crate) fn settle(&self, place: &mut Place<E>, table: HeldTable<E>) -> usize
         requires here { place.old.table_id ≡ self.now.id }
         requires inside { IsInside place.old.me }
         requires one { HasOneMore place.old.me table }
         ensures here { place.new.table_id ≡ place.old.table_id }
         ensures settled { Settled E.is_two_way E.is_greatest place.old.me table result place.new.me }
     {
-        let at = table.history().len();
+        let at = table.entries();
         let held = Some(table);
         self.count(place, &held, at as u64);
         let Some(table) = held else { unreachable!() };
@@ -86,7 +86,7 @@ impl<E: RingElection> TurnLock<E> {
     }
 
     // Puts the table back, which has no entry that isn't counted, and serves the next ticket.
-    pub(crate) fn leave(&self, place: &mut Place<E>, table: Table<E>)
+    pub(crate) fn leave(&self, place: &mut Place<E>, table: HeldTable<E>)
         requires here { place.old.table_id ≡ self.now.id }
         requires inside { IsInside place.old.me }
         requires whole { table.history ≡ place.old.me.0.opening ++ entries place.old.me.0.seen }

@@ -32,4 +32,4 @@ pub returns : goal.returns
 returns g c =
     let over : c.loop-seat.rest.items ≡ [] = search rules in
     let closed = closes_down _ _ _ _ _ _ _ _ _ c.loop-seat.invariant over c.requires c.close_with-closed.ensures.values.2 in
-    closed_table _ _ _ _ _ c.in-Some-take.table closed (same_Some _ _ (sym c.in-Some-take.is ∙ table_there _ _ _ _ closed c.take.ensures.value)) c.history.ensures.legal
+    closed_table _ _ _ _ _ c.into_table-table.result closed (c.into_table-table.ensures ∙ same_Some _ _ (sym c.in-Some-take.is ∙ table_there _ _ _ _ closed c.take.ensures.value)) c.history.ensures.legal

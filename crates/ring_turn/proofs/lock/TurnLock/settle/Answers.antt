@@ -16,6 +16,6 @@ leave-requires-clause-inside g c =
 pub returns-clause-settled : goal.returns-clause-settled
 returns-clause-settled g c = record {
   is = λ entry added. c.leave.ensures.served ∙ ap (λ m. (served m.0, [])) (c.count.ensures.counted entry added);
-  at = c.len-at.ensures ∙ ap (λ l. length l) c.history.ensures.value;
-  legal = c.history.ensures.legal;
+  at = c.entries-at.ensures.many;
+  legal = c.entries-at.ensures.legal;
 }
