@@ -50,6 +50,7 @@ fn client_command(event: Event<Any>) -> Option<Command<Any>>
 }
 
 // The event that these bytes spell, however long they are.
+#[inline(always)]
 fn event(line: &[u8]) -> Option<Event<Any>>
     ensures { Reads event_words IsEvent (words_in line.now) result }
 {
@@ -68,6 +69,7 @@ fn event(line: &[u8]) -> Option<Event<Any>>
     }
 }
 
+#[inline(always)]
 fn event_of_one(word: &[u8]) -> Option<Event<Any>>
     ensures { Reads event_words IsEvent (word.now ∷ []) result }
 {
@@ -78,6 +80,7 @@ fn event_of_one(word: &[u8]) -> Option<Event<Any>>
     }
 }
 
+#[inline(always)]
 fn event_of_two(word: &[u8], group: &[u8]) -> Option<Event<Any>>
     ensures { Reads event_words IsEvent (word.now ∷ group.now ∷ []) result }
 {
@@ -95,6 +98,7 @@ fn event_of_two(word: &[u8], group: &[u8]) -> Option<Event<Any>>
     }
 }
 
+#[inline(always)]
 fn event_of_three(word: &[u8], group: &[u8], argument: &[u8]) -> Option<Event<Any>>
     ensures { Reads event_words IsEvent (word.now ∷ group.now ∷ argument.now ∷ []) result }
 {
@@ -117,6 +121,7 @@ fn event_of_three(word: &[u8], group: &[u8], argument: &[u8]) -> Option<Event<An
     }
 }
 
+#[inline(always)]
 fn event_of_four(word: &[u8], group: &[u8], argument: &[u8], end: &[u8]) -> Option<Event<Any>>
     ensures { Reads event_words IsEvent (word.now ∷ group.now ∷ argument.now ∷ end.now ∷ []) result }
 {

@@ -51,6 +51,7 @@ fn put_words<W: Sink>(reply: &Reply, out: &mut W) -> Result<(), SinkFailed>
 }
 
 // One text and then another.
+#[inline(always)]
 fn put_both<W: Sink>(first: &[u8], second: &[u8], out: &mut W) -> Result<(), SinkFailed>
     ensures ok { OnOk result (W.takes out.old (first.now ++ second.now) out.new) }
     ensures err { OnErr result (W.takes_front out.old (first.now ++ second.now) out.new) }
@@ -60,6 +61,7 @@ fn put_both<W: Sink>(first: &[u8], second: &[u8], out: &mut W) -> Result<(), Sin
 }
 
 // A text and then a number.
+#[inline(always)]
 fn put_number<N: Integer, W: Sink>(text: &[u8], number: N, out: &mut W) -> Result<(), SinkFailed>
     ensures ok { OnOk result (W.takes out.old (text.now ++ N.text number) out.new) }
     ensures err { OnErr result (W.takes_front out.old (text.now ++ N.text number) out.new) }
@@ -68,6 +70,7 @@ fn put_number<N: Integer, W: Sink>(text: &[u8], number: N, out: &mut W) -> Resul
 }
 
 // A text and then an identity.
+#[inline(always)]
 fn put_node<W: Sink>(text: &[u8], node: NodeId, out: &mut W) -> Result<(), SinkFailed>
     ensures ok { OnOk result (W.takes out.old (text.now ++ node_word node) out.new) }
     ensures err { OnErr result (W.takes_front out.old (text.now ++ node_word node) out.new) }
@@ -88,6 +91,7 @@ fn put_weight<W: Sink>(weight: u16, out: &mut W) -> Result<(), SinkFailed>
     put_number(b"/", weight, out)
 }
 
+#[inline(always)]
 fn put_leader<W: Sink>(term: u16, leader: NodeId, out: &mut W) -> Result<(), SinkFailed>
     ensures ok { OnOk result (W.takes out.old (line_of (reply_words (reply.Leader term leader))) out.new) }
     ensures err { OnErr result (W.takes_front out.old (line_of (reply_words (reply.Leader term leader))) out.new) }

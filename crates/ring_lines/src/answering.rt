@@ -73,11 +73,12 @@ pub fn answer_lines<A: Answerer, R: Intake, W: Outlet>(
         let Ok(()) = write_before_reading(&lines, &mut page, writer) else {
             return Err(LineFault::Write);
         };
-        let answer = match lines.next(reader) {
+        let next = lines.next(reader);
+        let answer = match &next {
             Next::Line(line) => answerer.answer(state, alloc, line.bytes()),
             Next::Long => answerer.answer_long(state),
             Next::End => return close(&mut page, writer, Ok(count)),
-            Next::Fault(fault) => return close(&mut page, writer, Err(fault)),
+            Next::Fault(fault) => return close(&mut page, writer, Err(*fault)),
         };
         let Ok(()) = pass_on(&answer, &mut page, writer) else {
             return Err(LineFault::Write);

@@ -56,6 +56,7 @@ impl LineBuffer {
     }
 
     /// Whether a whole line is held, so that the next call reads nothing.
+    #[inline(always)]
     pub fn has_line(&self) -> bool
         ensures { result ≡ has_lf self.now.held }
     {
