@@ -7,7 +7,7 @@ use Rattle.ring_lines.specs.Ends.{Reading, Writing, bytes_of, goes_on, Wrote, Wr
 use Rattle.ring_lines.specs.Lines.{has_lf, whole_lines_of}
 use Rattle.ring_lines.specs.Buffer.{BufferView}
 use Rattle.ring_lines.specs.Reader.{AnswersOpen, BeginsText, CutsLines, GivesAt, GivesNext, Repeats, ShowsLine, Stops, most_bytes}
-use Rattle.ring_lines.specs.private.Pages.{Closes, Passes}
+use Rattle.ring_lines.specs.private.Pages.{Closes, Passes, TurnsToNext}
 use Rattle.ring_lines.specs.Rounds.{AnswersLines, AreInTurn, Round, Rounds, RunOf, WroteAll, calls_of, read_in, text_of, written_in}
 use Rattle.ring_lines.specs.laws.Sequences.{bytes_of-append}
 use Rattle.ring_lines.specs.declared.answers.LineFault.{LineFault}
@@ -226,6 +226,11 @@ module _ {S V A B : Type 0} (reading : S → Reading → S → Type 0) (writing 
       answered = owed_first buffer.phase (calls_of a.rounds) buffer.reads a.lines buffer.held a.stops a.cuts;
       writes = record { out = writer_now; made = a.made; owed = page; whole = a.whole; failed = failed };
     }
+
+  -- any answer of the buffer, before which the page was written where no line was held
+  pub turned_next : (count : ℕ) (reader_now : S) (writer_now : V) (buffer : BufferView) (page : List ℕ) (now : A) → Answering reading writing answers spelling is_legal reader writer old reads count reader_now writer_now buffer page now → (said : Next) (after : S) (new : BufferView) (writer_then : V) (page_then : List ℕ) → TurnsToNext reading writing reader_now buffer writer_now page said after new writer_then page_then → AnsweringNext reading writing answers spelling is_legal reader writer old reads count after writer_then said new page_then now
+  turned_next count reader_now writer_now buffer page now a said after new writer_then page_then t =
+      next_answer count reader_now writer_then buffer page_then now (flushed count reader_now writer_now buffer page now a writer_then page_then t.passed t.still) said after new t.emptied t.next
 
   module _ (count : ℕ) (reader_now : S) (writer_now : V) (buffer : BufferView) (now : A) (a : Answering reading writing answers spelling is_legal reader writer old reads count reader_now writer_now buffer [] now) where
     -- all answers are written

@@ -6,4 +6,5 @@ mod Filled
 pub mod Gathered
 pub mod Paging
 pub mod Rounds
+pub mod Turning
 pub mod Writing

@@ -1,16 +1,20 @@
 ghost use Rattle.std.specs.Prelude.{◌≡◌};
 ghost use Rattle.ring_lines.specs.Rounds.{AnswersLines};
 
-use crate::answers::{LineFault, Next};
+use crate::answers::{Found, Line, LineFault};
 use crate::buffer::LineBuffer;
 use crate::ends::{Intake, Outlet};
 use crate::page::Page;
-use crate::passing::{close, pass_on, write_before_reading};
+use crate::passing::{close, pass_on, turn_to_next};
 use crate::spell::Spell;
 use std::alloc::Global;
+use std::sync::MutexGuard;
 
 /// How many bytes of answers are kept before they are written.
 const PAGE: usize = 65536;
+
+/// The head of the queue of those that answer from one thing in turns, as long as this is held, or none.
+pub type Queued<'a> = Option<MutexGuard<'a, ()>>;
 
 /// What answers lines, one after another.
 ///
@@ -31,7 +35,16 @@ pub trait Answerer {
     ghost answers: { Self → List ℕ → Self.State → Self.Answer → Self.State → Type 0 };
 
     /// The answer to a line.
-    fn answer(&self, state: &mut Self::State, alloc: Global, line: &[u8]) -> Self::Answer
+    ///
+    /// Where many answer from one thing in turns, it may wait for the head of their queue and leave that in
+    /// `queued`, so that the answers after it find it there.
+    fn answer<'a>(
+        &'a self,
+        state: &mut Self::State,
+        alloc: Global,
+        queued: &mut Queued<'a>,
+        line: &[u8],
+    ) -> Self::Answer
         requires { holds self.now state.old }
         ensures kept { holds self.now state.new }
         ensures answer { answers self.now line.now state.old result state.new };
@@ -50,6 +63,9 @@ pub trait Answerer {
 /// comes at the end of the input alone. At `Read` and at `Endless` the lines that an LF ends are
 /// answered; at `Write` a front of the answers was written; at `NoMemory` nothing was read or answered.
 /// Unless writing failed, each answer is legal. Makes at most `reads` read calls.
+///
+/// What an answer left in `queued` is let go before each read call, before each write call, and where no
+/// byte is held: tests say so, and no clause.
 pub fn answer_lines<A: Answerer, R: Intake, W: Outlet>(
     alloc: Global,
     answerer: &A,
@@ -68,19 +84,30 @@ pub fn answer_lines<A: Answerer, R: Intake, W: Outlet>(
     let Ok(mut page) = Page::new(alloc, PAGE) else {
         return Err(LineFault::NoMemory);
     };
+    let mut line = Line::new();
+    let mut queued = None;
     let mut count = 0;
     loop {
-        let Ok(()) = write_before_reading(&lines, &mut page, writer) else {
+        let Ok(found) = turn_to_next(
+            &mut lines,
+            reader,
+            &mut line,
+            &mut page,
+            writer,
+            &mut queued,
+        ) else {
             return Err(LineFault::Write);
         };
-        let next = lines.next(reader);
-        let answer = match &next {
-            Next::Line(line) => answerer.answer(state, alloc, line.bytes()),
-            Next::Long => answerer.answer_long(state),
-            Next::End => return close(&mut page, writer, Ok(count)),
-            Next::Fault(fault) => return close(&mut page, writer, Err(*fault)),
+        let answer = match found {
+            Found::Line => answerer.answer(state, alloc, &mut queued, line.bytes()),
+            Found::Long => answerer.answer_long(state),
+            Found::End => return close(&mut page, writer, Ok(count)),
+            Found::Fault(fault) => return close(&mut page, writer, Err(fault)),
         };
-        let Ok(()) = pass_on(&answer, &mut page, writer) else {
+        if lines.is_empty() {
+            queued = None;
+        }
+        let Ok(()) = pass_on(&answer, &mut page, writer, &mut queued) else {
             return Err(LineFault::Write);
         };
         count += 1;

@@ -1,4 +1,4 @@
-ghost use Rattle.std.specs.Prelude.{◌≡◌, ◌≤◌, length};
+ghost use Rattle.std.specs.Prelude.{◌≡◌, ◌≤◌, [], length};
 
 use std::marker::Model;
 
@@ -42,6 +42,19 @@ pub enum Next {
     Fault(LineFault),
 }
 
+/// What a buffer of lines answers, which puts the line itself where its caller says.
+#[derive(Clone, Copy, Debug, PartialEq, Eq)]
+pub enum Found {
+    /// The next line, which the caller's is now.
+    Line,
+    /// The next line has more than 128 bytes, which were dropped.
+    Long,
+    /// There are no more lines.
+    End,
+    /// Why there are no more lines, though the input has not ended.
+    Fault(LineFault),
+}
+
 /// A line of at most 128 bytes, without its LF.
 ///
 /// Contracts see a line as the list of its bytes.
@@ -70,15 +83,22 @@ impl Line {
         &self.bytes[..self.len]
     }
 
-    pub(crate) fn new(bytes: &[u8]) -> Line
-        requires { length bytes.now ≤ 128 }
-        ensures { result ≡ bytes.now }
+    /// A line of no bytes.
+    pub fn new() -> Line
+        ensures { result ≡ [] }
     {
-        let mut all = [0; LONGEST];
-        all[..bytes.len()].copy_from_slice(bytes);
         Line {
-            bytes: all,
-            len: bytes.len(),
+            bytes: [0; LONGEST],
+            len: 0,
         }
+    }
+
+    /// Makes this line one of these bytes.
+    pub(crate) fn set(&mut self, bytes: &[u8])
+        requires { length bytes.now ≤ 128 }
+        ensures { self.new ≡ bytes.now }
+    {
+        self.bytes[..bytes.len()].copy_from_slice(bytes);
+        self.len = bytes.len();
     }
 }

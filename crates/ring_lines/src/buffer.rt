@@ -1,8 +1,9 @@
-ghost use Rattle.std.specs.Prelude.{◌≡◌, ◌+◌, ◌-◌, ◌<◌, ◌≤◌, ◌||◌, ◌==◌, [], length, take, drop, position, slice_range, nat_lt, if◌then◌else◌, IfOk};
+ghost use Rattle.std.specs.Prelude.{◌≡◌, ◌+◌, ◌-◌, ◌<◌, ◌≤◌, ◌||◌, ◌==◌, [], false, length, take, drop, position, slice_range, nat_lt, if◌then◌else◌, IfOk, IfSome, IsTrue, ◌↔◌, IfNone};
 ghost use Rattle.ring_lines.specs.Ends.{reading};
+ghost use Rattle.ring_lines.specs.Reader.{answer_told};
 ghost use Rattle.ring_lines.specs.private.Filling.{answer_of, phase_of};
 
-use crate::answers::{LONGEST, Line, LineFault, Next, Phase};
+use crate::answers::{Found, LONGEST, Line, LineFault, Phase};
 use crate::ends::{Intake, ReadFault};
 use std::alloc::{AllocError, Global};
 use std::marker::Model;
@@ -36,9 +37,9 @@ impl Model for LineBuffer {
 }
 
 impl LineBuffer {
-    ghost use Rattle.ring_lines.specs.private.Filling.{Fills, FindsLine, answer_of, last_of};
+    ghost use Rattle.ring_lines.specs.private.Filling.{Fills, FindsLine, TakesHeld, answer_of, last_of};
     ghost use Rattle.ring_lines.specs.Lines.{has_lf};
-    ghost use Rattle.ring_lines.specs.Reader.{AnswersOpen, GivesNext};
+    ghost use Rattle.ring_lines.specs.Reader.{AnswersOpen, GivesNext, answer_told};
     ghost use Rattle.ring_lines.specs.declared.answers.Phase.TheVariants as phase;
 
     /// An empty buffer for lines that may make so many read calls.
@@ -55,6 +56,14 @@ impl LineBuffer {
         })
     }
 
+    /// Whether no byte is held. Takes no memory.
+    #[inline(always)]
+    pub(crate) fn is_empty(&self) -> bool
+        ensures { IsTrue result ↔ (self.now.held ≡ []) }
+    {
+        self.start == self.end
+    }
+
     /// Whether a whole line is held, so that the next call reads nothing.
     #[inline(always)]
     pub fn has_line(&self) -> bool
@@ -63,36 +72,49 @@ impl LineBuffer {
         self.bytes[self.start..self.end].contains(&LF)
     }
 
-    /// The next line of what the reader gives.
+    /// The next line where a whole one is held; else nothing is changed. Takes no memory.
+    #[inline(always)]
+    pub(crate) fn take_held(&mut self, line: &mut Line) -> Option<Found>
+        ensures some { IfSome result (λ found. TakesHeld self.old (answer_told found line.new) self.new) }
+        ensures none { IfNone result ((self.new ≡ self.old) × (self.old.phase ≡ phase.Open → has_lf self.old.held ≡ false)) }
+    {
+        let Phase::Open = self.phase else {
+            return None;
+        };
+        let len = self.line_end()?;
+        Some(self.take_line(len, false, line))
+    }
+
+    /// The next line of what the reader gives. `line` is that line then, and else has no meaning.
     ///
     /// Makes no read call while a whole line is held, and no more than were granted in all. After
     /// the end and after a fault it makes none, and answers the same again. Takes no memory.
-    pub fn next<R: Intake>(&mut self, reader: &mut R) -> Next
-        ensures { GivesNext R.read_gives reader.old self.old result reader.new self.new }
+    pub fn next<R: Intake>(&mut self, reader: &mut R, line: &mut Line) -> Found
+        ensures { GivesNext R.read_gives reader.old self.old (answer_told result line.new) reader.new self.new }
     {
         match self.phase {
-            Phase::Open => self.gather(reader),
-            Phase::Ended => Next::End,
-            Phase::Faulted(fault) => Next::Fault(fault),
+            Phase::Open => self.gather(reader, line),
+            Phase::Ended => Found::End,
+            Phase::Faulted(fault) => Found::Fault(fault),
         }
     }
 
     // Reads on until a line is held whole, the input ends, or a fault comes.
-    fn gather<R: Intake>(&mut self, reader: &mut R) -> Next
+    fn gather<R: Intake>(&mut self, reader: &mut R, line: &mut Line) -> Found
         requires { self.old.phase ≡ phase.Open }
-        ensures { AnswersOpen R.read_gives reader.old self.old result reader.new self.new }
+        ensures { AnswersOpen R.read_gives reader.old self.old (answer_told result line.new) reader.new self.new }
     {
         let mut long = false;
         loop {
             if let Some(len) = self.line_end() {
-                return self.take_line(len, long);
+                return self.take_line(len, long, line);
             }
             long = self.drop_long(long);
             self.fill(reader);
             match self.phase {
                 Phase::Open => {}
-                Phase::Ended => return self.take_rest(long),
-                Phase::Faulted(fault) => return Next::Fault(fault),
+                Phase::Ended => return self.take_rest(long, line),
+                Phase::Faulted(fault) => return Found::Fault(fault),
             }
         }
     }
@@ -105,26 +127,26 @@ impl LineBuffer {
     }
 
     // Takes off the held bytes up to the first LF, which stands behind `len` of them.
-    fn take_line(&mut self, len: usize, long: bool) -> Next
+    fn take_line(&mut self, len: usize, long: bool, line: &mut Line) -> Found
         requires { len < length self.old.held }
-        ensures answer { result ≡ answer_of long (take len self.old.held) }
+        ensures answer { answer_told result line.new ≡ answer_of long (take len self.old.held) }
         ensures rest { self.new ≡ record self.old { held = drop (len + 1) self.old.held } }
     {
         let from = self.start;
         self.start += len + 1;
-        answer_for(&self.bytes[from..from + len], long)
+        answer_for(&self.bytes[from..from + len], long, line)
     }
 
     // Takes off all held bytes, which the end of the input leaves.
-    fn take_rest(&mut self, long: bool) -> Next
-        ensures answer { result ≡ last_of long self.old.held }
+    fn take_rest(&mut self, long: bool, line: &mut Line) -> Found
+        ensures answer { answer_told result line.new ≡ last_of long self.old.held }
         ensures rest { self.new ≡ record self.old { held = [] } }
     {
-        let line = &self.bytes[self.start..self.end];
-        let answer = if line.is_empty() && !long {
-            Next::End
+        let rest = &self.bytes[self.start..self.end];
+        let answer = if rest.is_empty() && !long {
+            Found::End
         } else {
-            answer_for(line, long)
+            answer_for(rest, long, line)
         };
         self.start = self.end;
         answer
@@ -168,14 +190,14 @@ fn find_line(bytes: &[u8]) -> Option<usize>
 }
 
 // The answer for a line that ends with these bytes, behind more than it may have where it is long.
-fn answer_for(line: &[u8], long: bool) -> Next
-    ensures { result ≡ answer_of long line.now }
+fn answer_for(bytes: &[u8], long: bool, line: &mut Line) -> Found
+    ensures { answer_told result line.new ≡ answer_of long bytes.now }
 {
-    if long || line.len() > LONGEST {
-        Next::Long
-    } else {
-        Next::Line(Line::new(line))
+    if long || bytes.len() > LONGEST {
+        return Found::Long;
     }
+    line.set(bytes);
+    Found::Line
 }
 
 // Whether more may come after a read call with this answer.

@@ -20,8 +20,8 @@ mod reader;
 mod replaying;
 mod spell;
 
-pub use answering::{Answerer, answer_lines};
-pub use answers::{Line, LineFault, Next, Phase};
+pub use answering::{Answerer, Queued, answer_lines};
+pub use answers::{Found, Line, LineFault, Next, Phase};
 pub use buffer::LineBuffer;
 pub use drip::{DripIn, DripOut};
 pub use ends::{FromRead, Intake, Outlet, ReadFault, ToWrite, WriteFailed, put};

@@ -1,24 +1,26 @@
 //! Answers on their way to a writer: they gather on a page, which is written where it has no room.
-ghost use Rattle.std.specs.Prelude.{◌≡◌, ◌++◌, [], false, OnErr, OnOk};
+ghost use Rattle.std.specs.Prelude.{◌≡◌, ◌++◌, [], IfOk, OnErr, OnOk};
 ghost use Rattle.ring_lines.specs.Ends.{WroteFront};
-ghost use Rattle.ring_lines.specs.Lines.{has_lf};
-ghost use Rattle.ring_lines.specs.private.Pages.{Closes, Passes};
+ghost use Rattle.ring_lines.specs.Reader.{answer_told};
+ghost use Rattle.ring_lines.specs.private.Pages.{Closes, Passes, TurnsToNext};
 
-use crate::answers::LineFault;
+use crate::answering::Queued;
+use crate::answers::{Found, Line, LineFault};
 use crate::buffer::LineBuffer;
-use crate::ends::{Outlet, WriteFailed, put};
+use crate::ends::{Intake, Outlet, WriteFailed, put};
 use crate::page::Page;
 use crate::spell::Spell;
 use ring_grammar::{Sink, SinkFailed};
 
 // A page before a writer, as what an answer is put into.
 #[derive(Drop)]
-struct Feeder<'a, W> {
+struct Feeder<'a, 'b, W> {
     page: &'a mut Page,
     writer: &'a mut W,
+    queued: &'a mut Queued<'b>,
 }
 
-impl<W: Outlet> Sink for Feeder<'_, W> {
+impl<W: Outlet> Sink for Feeder<'_, '_, W> {
     ghost use Rattle.ring_lines.specs.laws.Sequences.{Feeds, FeedsFront, feeds_in_sequence};
 
     ghost takes = { Feeds W.write_gives (λ a. a.writer.now) (λ a. a.page.now.text) (λ a. a.page.ghost_name) (λ a. a.writer.ghost_name) };
@@ -28,7 +30,7 @@ impl<W: Outlet> Sink for Feeder<'_, W> {
     ghost laws = { feeds_in_sequence W.write_gives (λ a. a.writer.now) (λ a. a.page.now.text) (λ a. a.page.ghost_name) (λ a. a.writer.ghost_name) };
 
     fn put(&mut self, bytes: &[u8]) -> Result<(), SinkFailed> {
-        match feed(self.page, self.writer, bytes) {
+        match feed(self.page, self.writer, self.queued, bytes) {
             Ok(()) => Ok(()),
             Err(WriteFailed) => Err(SinkFailed),
         }
@@ -36,7 +38,12 @@ impl<W: Outlet> Sink for Feeder<'_, W> {
 }
 
 // A text onto the page; where it has no room, the page is written and then the text.
-fn feed<W: Outlet>(page: &mut Page, writer: &mut W, bytes: &[u8]) -> Result<(), WriteFailed>
+fn feed<W: Outlet>(
+    page: &mut Page,
+    writer: &mut W,
+    queued: &mut Queued<'_>,
+    bytes: &[u8],
+) -> Result<(), WriteFailed>
     ensures ok { OnOk result (Passes W.write_gives writer.old page.old.text bytes.now writer.new page.new.text) }
     ensures err { OnErr result (WroteFront W.write_gives writer.old (page.old.text ++ bytes.now) writer.new) }
 {
@@ -45,6 +52,7 @@ fn feed<W: Outlet>(page: &mut Page, writer: &mut W, bytes: &[u8]) -> Result<(), 
         return Ok(());
     }
     page.cut(len);
+    *queued = None;
     let Ok(()) = page.write_out(writer) else {
         return Err(WriteFailed);
     };
@@ -59,33 +67,43 @@ pub(crate) fn pass_on<A: Spell, W: Outlet>(
     answer: &A,
     page: &mut Page,
     writer: &mut W,
+    queued: &mut Queued<'_>,
 ) -> Result<(), WriteFailed>
     ensures ok { OnOk result (Passes W.write_gives writer.old page.old.text (A.spelling answer.now) writer.new page.new.text) }
     ensures err { OnErr result (WroteFront W.write_gives writer.old (page.old.text ++ A.spelling answer.now) writer.new) }
     ensures legal { OnOk result (A.is_legal answer.now) }
 {
-    let mut feeder = Feeder { page, writer };
+    let mut feeder = Feeder {
+        page,
+        writer,
+        queued,
+    };
     match answer.spell(&mut feeder) {
         Ok(()) => Ok(()),
         Err(SinkFailed) => Err(WriteFailed),
     }
 }
 
-// Writes the page where no line is held, so that answers are out before more is waited for.
-pub(crate) fn write_before_reading<W: Outlet>(
-    lines: &LineBuffer,
+// The next line where a whole one is held. Else the page is written first, so that answers are out
+// before more is waited for.
+#[tactic(auto, using(crate::proofs::Turning::turns_written))]
+pub(crate) fn turn_to_next<R: Intake, W: Outlet>(
+    lines: &mut LineBuffer,
+    reader: &mut R,
+    line: &mut Line,
     page: &mut Page,
     writer: &mut W,
-) -> Result<(), WriteFailed>
-    ensures ok { OnOk result (Passes W.write_gives writer.old page.old.text [] writer.new page.new.text) }
-    ensures emptied { OnOk result (has_lf lines.now.held ≡ false → page.new.text ≡ []) }
-    ensures err { OnErr result (WroteFront W.write_gives writer.old page.old.text writer.new) }
-    ensures still { page.old.text ≡ [] → writer.new ≡ writer.old }
+    queued: &mut Queued<'_>,
+) -> Result<Found, WriteFailed>
+    ensures ok { IfOk result (λ found. TurnsToNext R.read_gives W.write_gives reader.old lines.old writer.old page.old.text (answer_told found line.new) reader.new lines.new writer.new page.new.text) }
+    ensures err { OnErr result (WroteFront W.write_gives writer.old page.old.text writer.new × (reader.new ≡ reader.old)) }
 {
-    if lines.has_line() {
-        return Ok(());
+    if let Some(found) = lines.take_held(line) {
+        return Ok(found);
     }
-    page.write_out(writer)
+    *queued = None;
+    page.write_out(writer)?;
+    Ok(lines.next(reader, line))
 }
 
 // Writes the page, and answers what the lines came to, or that writing failed.

@@ -1,6 +1,6 @@
 ghost use Rattle.std.specs.Prelude.{◌≡◌, [], IfErr, IfOk};
 
-use crate::answers::Next;
+use crate::answers::{Found, Line, Next};
 use crate::buffer::LineBuffer;
 use crate::ends::Intake;
 use std::alloc::{AllocFailed, Global};
@@ -52,7 +52,13 @@ impl<R: Intake> LineReader<R> {
     pub fn next(&mut self) -> Next
         ensures { GivesNext R.read_gives self.old.reader self.old.buffer result self.new.reader self.new.buffer }
     {
-        self.buffer.next(&mut self.reader)
+        let mut line = Line::new();
+        match self.buffer.next(&mut self.reader, &mut line) {
+            Found::Line => Next::Line(line),
+            Found::Long => Next::Long,
+            Found::End => Next::End,
+            Found::Fault(fault) => Next::Fault(fault),
+        }
     }
 }
 

@@ -1,6 +1,6 @@
 ghost use Rattle.ring_lines.specs.Replay.{Replays};
 
-use crate::answering::{Answerer, answer_lines};
+use crate::answering::{Answerer, Queued, answer_lines};
 use crate::answers::LineFault;
 use crate::ends::{Intake, Outlet};
 use ring_any::Any;
@@ -25,7 +25,13 @@ impl Answerer for Replayer {
 
     ghost answers = { λ _. RepliesTo };
 
-    fn answer(&self, state: &mut Mux<Any>, alloc: Global, line: &[u8]) -> Reply {
+    fn answer<'a>(
+        &'a self,
+        state: &mut Mux<Any>,
+        alloc: Global,
+        _queued: &mut Queued<'a>,
+        line: &[u8],
+    ) -> Reply {
         match parse_event(line) {
             Some(event) => state.step(alloc, event),
             None => Reply::Refused(Refusal::BadLine),

@@ -3,6 +3,7 @@ ghost use Rattle.ring_service.specs.Accesses.{reply_of};
 
 use ring_election::RingElection;
 use ring_id::{GroupName, Refusal};
+use ring_lines::Queued;
 use ring_mux::{Command, Reply};
 use ring_node::{Charter, Report};
 use ring_workers::Filed;
@@ -48,6 +49,10 @@ pub trait Access<E: RingElection> {
 
     // the seat's own entries, in order
     ghost mine: { Self.Seat → List (Entry E) };
+
+    /// Waits where callers queue before they call, if they do: the calls of who holds what it gives do
+    /// not wait for those who queue.
+    fn queue<R: Wait>(&self, rt: &R) -> Queued<'_>;
 
     /// A command of a session. Where it is placed, it is the one entry that the seat gains, with its
     /// reply; where it is not, the seat gains none.

@@ -128,6 +128,7 @@ impl<A: Access<Any> + Drop, R: Drop> SeatDesk<A, R> {
 
 impl<A: Access<Any> + Drop, R: Wait + Drop> Desk<Any> for SeatDesk<A, R> {
     fn report(&mut self, report: &Report<Any>) -> Filed {
+        let _queued = self.access.queue(&self.rt);
         self.access.report(&self.rt, &mut self.seat, report)
     }
 }

@@ -11,7 +11,7 @@ use crate::posts::Posts;
 use crate::session::Session;
 use ring_any::Any;
 use ring_id::{GroupName, Refusal};
-use ring_lines::{Intake, LineFault, Outlet, answer_lines};
+use ring_lines::{Intake, LineFault, Outlet, Queued, answer_lines};
 use ring_mux::Command;
 use std::alloc::Global;
 use std::marker::Model;
@@ -117,6 +117,11 @@ impl<A: Access<Any> + Drop> Front<A> {
             },
         };
         answer_lines(self.alloc, &session, seat, reader, writer, reads)
+    }
+
+    /// Waits where the access's callers queue, if they do.
+    pub(crate) fn queue<R: Wait>(&self, rt: &R) -> Queued<'_> {
+        self.access.queue(rt)
     }
 
     /// The access's answer to a command of a session. What waits for the workers is tried first.

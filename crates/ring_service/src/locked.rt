@@ -9,6 +9,7 @@ use crate::entry::{Entry, is_refused};
 use crate::table::{Table, is_starved};
 use ring_election::RingElection;
 use ring_id::{GroupName, NoMemory, Refusal};
+use ring_lines::Queued;
 use ring_mux::Command;
 use ring_node::{Charter, Report};
 use ring_workers::Filed;
@@ -146,6 +147,10 @@ impl<E: RingElection> Access<E> for LockedTable<E> {
     ghost has_seat = { λ _ _. Unit {0} };
 
     ghost mine = { λ seat. seat };
+
+    fn queue<R: Wait>(&self, _rt: &R) -> Queued<'_> {
+        None
+    }
 
     fn call<R: Wait>(
         &self,

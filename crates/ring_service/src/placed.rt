@@ -9,7 +9,7 @@ use itoa::Buffer;
 use ring_any::Any;
 use ring_grammar::{Sink, SinkFailed, print_reply};
 use ring_id::Refusal;
-use ring_lines::{Answerer, Spell, parse_command};
+use ring_lines::{Answerer, Queued, Spell, parse_command};
 use ring_mux::Reply;
 use std::alloc::Global;
 use std::sync::Wait;
@@ -78,10 +78,19 @@ impl<A: Access<Any> + Drop, R: Wait> Answerer for PlacedSession<'_, A, R> {
     ghost answers = { λ placed line seat answer now. PlacesIn placed.session.number line (A.mine seat) answer (A.mine now) };
 
     #[tactic(auto, using(crate::proofs::Placing::unread_place))]
-    fn answer(&self, state: &mut A::Seat, _alloc: Global, line: &[u8]) -> Answer {
+    fn answer<'a>(
+        &'a self,
+        state: &mut A::Seat,
+        _alloc: Global,
+        queued: &mut Queued<'a>,
+        line: &[u8],
+    ) -> Answer {
         let Session { front, rt, number } = &self.session;
         match parse_command(line) {
-            Some(command) => front.answer(*rt, state, *number, command),
+            Some(command) => {
+                self.session.queue(queued);
+                front.answer(*rt, state, *number, command)
+            }
             None => Answer::Unplaced(Refusal::BadLine),
         }
     }

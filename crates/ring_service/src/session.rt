@@ -2,7 +2,7 @@ use crate::access::Access;
 use crate::front::Front;
 use ring_any::Any;
 use ring_id::Refusal;
-use ring_lines::{Answerer, parse_command};
+use ring_lines::{Answerer, Queued, parse_command};
 use ring_mux::Reply;
 use std::alloc::Global;
 use std::sync::Wait;
@@ -13,6 +13,15 @@ pub(crate) struct Session<'a, A: Drop, R> {
     pub(crate) front: &'a Front<A>,
     pub(crate) rt: &'a R,
     pub(crate) number: u32,
+}
+
+impl<'b, A: Access<Any> + Drop, R: Wait> Session<'b, A, R> {
+    /// Queues for the access, where it isn't done yet.
+    pub(crate) fn queue<'a>(&'a self, queued: &mut Queued<'a>) {
+        if queued.is_none() {
+            *queued = self.front.queue(self.rt);
+        }
+    }
 }
 
 impl<A: Access<Any> + Drop, R: Wait> Answerer for Session<'_, A, R> {
@@ -27,12 +36,20 @@ impl<A: Access<Any> + Drop, R: Wait> Answerer for Session<'_, A, R> {
     ghost answers = { λ session line seat reply now. AnswersIn session.number line (A.mine seat) reply (A.mine now) };
 
     #[tactic(auto, using(crate::proofs::Replying::unread_line))]
-    fn answer(&self, state: &mut A::Seat, _alloc: Global, line: &[u8]) -> Reply {
+    fn answer<'a>(
+        &'a self,
+        state: &mut A::Seat,
+        _alloc: Global,
+        queued: &mut Queued<'a>,
+        line: &[u8],
+    ) -> Reply {
         match parse_command(line) {
-            Some(command) => self
-                .front
-                .answer(self.rt, state, self.number, command)
-                .into_reply(),
+            Some(command) => {
+                self.queue(queued);
+                self.front
+                    .answer(self.rt, state, self.number, command)
+                    .into_reply()
+            }
             None => Reply::Refused(Refusal::BadLine),
         }
     }

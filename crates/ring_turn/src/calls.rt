@@ -34,7 +34,6 @@ impl<E: RingElection> TurnLock<E> {
             return Answer::Unplaced(Refusal::SeatSpent);
         }
         seat.left -= 1;
-        let _door = self.door.lock(rt);
         let mut table = self.enter(rt, &mut seat.place);
         let reply = table.call(session, command);
         if is_starved(&reply) {
@@ -63,7 +62,6 @@ impl<E: RingElection> TurnLock<E> {
             return (Answer::Unplaced(Refusal::SeatSpent), Vec::new(self.alloc));
         }
         seat.left -= 1;
-        let _door = self.door.lock(rt);
         let mut table = self.enter(rt, &mut seat.place);
         let (reply, charters) = table.begin(session, group, copies);
         if is_starved(&reply) {
@@ -87,7 +85,6 @@ impl<E: RingElection> TurnLock<E> {
             return Filed::Refused(Refusal::SeatSpent);
         }
         seat.left -= 1;
-        let _door = self.door.lock(rt);
         let mut table = self.enter(rt, &mut seat.place);
         let filed = table.report(report);
         if is_refused(&filed) {

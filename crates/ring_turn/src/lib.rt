@@ -11,6 +11,7 @@
 mod calls;
 mod held;
 mod lock;
+mod queue;
 mod rule;
 mod seat;
 mod serving;

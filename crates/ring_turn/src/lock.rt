@@ -19,9 +19,9 @@ use std::sync::Mutex;
 ///
 /// It is a ticket lock (Mellor-Crummey and Scott, "Algorithms for scalable synchronization on
 /// shared-memory multiprocessors", 1991): a call draws a ticket, waits until that ticket is served, takes
-/// the table from its desk, performs the call, puts the table back and serves the next ticket. Before it
-/// draws, a call takes a plain lock, so that the thread whose ticket is next is a running one. Contracts
-/// see which lock it is, how many seats it has, and the history that it was opened with.
+/// the table from its desk, performs the call, puts the table back and serves the next ticket. Callers
+/// queue at a plain lock before, so that the thread whose ticket is next is a running one. Contracts see
+/// which lock it is, how many seats it has, and the history that it was opened with.
 #[derive(Drop)]
 pub struct TurnLock<E: RingElection> {
     pub(crate) alloc: Global,

@@ -6,6 +6,7 @@ use crate::lock::TurnLock;
 use crate::seat::Seat;
 use ring_election::RingElection;
 use ring_id::GroupName;
+use ring_lines::Queued;
 use ring_mux::Command;
 use ring_node::{Charter, Report};
 use ring_service::{Access, Answer, Filed};
@@ -17,6 +18,10 @@ impl<E: RingElection> Access<E> for TurnLock<E> {
     ghost has_seat = { λ lock seat. seat.lock ≡ lock.id };
 
     ghost mine = { λ seat. seat.mine };
+
+    fn queue<R: Wait>(&self, rt: &R) -> Queued<'_> {
+        Some(TurnLock::queue(self, rt))
+    }
 
     fn call<R: Wait>(&self, rt: &R, seat: &mut Seat<E>, session: u32, command: Command<E>) -> Answer
         requires { seat.old.lock ≡ self.now.id }

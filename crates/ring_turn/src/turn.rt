@@ -13,8 +13,8 @@ use ring_election::RingElection;
 use std::sync::Wait;
 use std::{hint, thread};
 
-/// How often a seat looks at the served number before it lets other threads run.
-const LOOKS: u32 = 100;
+/// How often a thread looks whether its time has come before it lets other threads run.
+pub(crate) const LOOKS: u32 = 100;
 
 impl<E: RingElection> TurnLock<E> {
     // Begins a turn: the table is in hand, with all the turns so far.

@@ -38,6 +38,14 @@ phase_of (Ok count) = if count == 0 then phase.Ended else phase.Open
 phase_of (Err read_fault.Interrupted) = phase.Open
 phase_of (Err read_fault.Failed) = phase.Faulted fault.Read
 
+-- A line that is held whole was given, and no more: the first one.
+pub record TakesHeld (old : BufferView) (answer : Next) (new : BufferView) : Type 0 where
+  pub opened : old.phase ≡ phase.Open
+  pub len : ℕ
+  pub cut : IsCutAt old.held len
+  pub told : answer ≡ answer_of false (take len old.held)
+  pub rest : new ≡ record old { held = drop (len + 1) old.held }
+
 -- One read call, or none where none is left.
 pub record Fills {S : Type 0} (gives : S → Reading → S → Type 0) (from : S) (old : BufferView) (to : S) (new : BufferView) : Type 0 where
   pub log : List Reading

@@ -7,7 +7,7 @@ use Rattle.ring_turn.specs.Seats.{seat_of}
 use Rattle.ring_turn.proofs.Calling.{entered_inside, entered_one, passed_seat, same_after_turn, turned_idle, turned_seat}
 use Rattle.ring_turn.proofs.lock.TurnLock.report.Given.{Over}
 use Rattle.ring_turn.proofs.lock.TurnLock.report.Goals as goal
-use Rattle.ring_turn.proofs.lock.TurnLock.report.Goals.{After-drop-door-2}
+use Rattle.ring_turn.proofs.lock.TurnLock.report.Goals.{After-settle}
 
 pub leave-requires-clause-inside : goal.leave-requires-clause-inside
 leave-requires-clause-inside g c = entered_inside _ _ _ c.enter-table.ensures.entered
@@ -38,7 +38,7 @@ invariant_of-seat-2 g c =
     turned_idle _ _ _ _ _ _ _ _ _ _ c.seat.invariant c.enter-table.ensures.entered made.added c.settle.ensures.settled
 
 -- the turn that was made
-turn : (g : Over) (c : After-drop-door-2 g) → Turns g.E.RingElection.is_two_way g.E.RingElection.is_greatest c.args.seat.now (filing c.args.report.now (was_filed _ _ _ _ _ c.report-filed.ensures (λ is. true≢false (sym (c.if-is_refused.ensures.1 is)))).became) c.settle.result c.report-filed.new.self.book (seat_of c.settle.new.place.table_id (c.seat.inside.left - 1) c.settle.new.place.me.0)
+turn : (g : Over) (c : After-settle g) → Turns g.E.RingElection.is_two_way g.E.RingElection.is_greatest c.args.seat.now (filing c.args.report.now (was_filed _ _ _ _ _ c.report-filed.ensures (λ is. true≢false (sym (c.if-is_refused.ensures.1 is)))).became) c.settle.result c.report-filed.new.self.book (seat_of c.settle.new.place.table_id (c.seat.inside.left - 1) c.settle.new.place.me.0)
 turn g c =
     let some : 0 < c.seat.inside.left = omega (arith, c.if-seat-eq0.false) in
     let made = (was_filed _ _ _ _ _ c.report-filed.ensures (λ is. true≢false (sym (c.if-is_refused.ensures.1 is)))) in
