@@ -115,4 +115,6 @@ pub fn answer_lines<A: Answerer, R: Intake, W: Outlet>(
 }
 
 #[cfg(test)]
+mod queue_tests;
+#[cfg(test)]
 mod tests;
