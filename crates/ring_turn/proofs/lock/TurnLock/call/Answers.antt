@@ -40,7 +40,7 @@ turn g c =
     c.seat.view_is some c.enter-table.ensures.entered made.added c.settle-place.ensures.settled (c.settle-place.ensures.here ∙ c.enter-table.ensures.here)
 
 pub returns-clause-same : goal.returns-clause-same
-returns-clause-same g c = same_after_turn _ _ _ _ _ (turn g c)
+returns-clause-same g c = same_after_turn _ _ _ _ _ (turn g (goal.at.returns-clause-same g c).After-settle-place)
 
 pub returns-clause-call : goal.returns-clause-call
-returns-clause-call g c = (c.call-reply.new.self.book, turn g c)
+returns-clause-call g c = (c.call-reply.new.self.book, turn g (goal.at.returns-clause-call g c).After-settle-place)

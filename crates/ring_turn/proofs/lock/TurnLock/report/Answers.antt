@@ -46,9 +46,9 @@ turn g c =
     c.seat.view_is some c.enter-table.ensures.entered made.added c.settle.ensures.settled (c.settle.ensures.here ∙ c.enter-table.ensures.here)
 
 pub returns-clause-same : goal.returns-clause-same
-returns-clause-same g c = same_after_turn _ _ _ _ _ (turn g c)
+returns-clause-same g c = same_after_turn _ _ _ _ _ (turn g (goal.at.returns-clause-same g c).After-settle)
 
 pub returns-clause-reported : goal.returns-clause-reported
 returns-clause-reported g c =
     let files = (was_filed _ _ _ _ _ c.report-filed.ensures (λ is. true≢false (sym (c.if-is_refused.ensures.1 is)))) in
-    inl (record { became = files.became; old = c.enter-table.result.book; book = c.report-filed.new.self.book; place = c.settle.result; noted = files.noted; answered = files.answered; turn = turn g c })
+    inl (record { became = files.became; old = c.enter-table.result.book; book = c.report-filed.new.self.book; place = c.settle.result; noted = files.noted; answered = files.answered; turn = turn g (goal.at.returns-clause-reported g c).After-settle })
