@@ -1,12 +1,13 @@
 -- The loop that answers lines: the rounds so far, and the answers to the lines that were given.
 use Rattle.std.proofs.Common.{◌≡◌, ◌+◌, ◌*◌, ◌<◌, ◌≤◌, ℕ, true, false, List, [], ◌∷◌, ◌++◌, length, Result, Ok, Err, refl, ap, sym, ◌∙◌, subst, arith, length-append, append-nil, append_assoc, inl, inr}
 use Rattle.std.specs.List.{All, list_all}
-use Rattle.std.proofs.lemmas.List.Elements.{All-nil, All-push}
+use Rattle.std.proofs.lemmas.List.Elements.{All-append, All-nil}
 use Rattle.std.proofs.lemmas.List.Concat.{flat_map-append}
 use Rattle.ring_lines.specs.Ends.{Reading, Writing, bytes_of, goes_on, Wrote, WroteFront}
 use Rattle.ring_lines.specs.Lines.{has_lf, whole_lines_of}
 use Rattle.ring_lines.specs.Buffer.{BufferView}
 use Rattle.ring_lines.specs.Reader.{AnswersOpen, BeginsText, CutsLines, GivesAt, GivesNext, Repeats, ShowsLine, Stops, most_bytes}
+use Rattle.ring_lines.specs.private.Batches.{JoinsHeld}
 use Rattle.ring_lines.specs.private.Pages.{Closes, Passes, TurnsToNext}
 use Rattle.ring_lines.specs.Rounds.{AnswersLines, AreInTurn, Round, Rounds, RunOf, WroteAll, calls_of, read_in, text_of, written_in}
 use Rattle.ring_lines.specs.laws.Sequences.{bytes_of-append}
@@ -18,7 +19,7 @@ use Rattle.ring_lines.specs.declared.answers.Next.{Next}
 use Rattle.ring_lines.specs.declared.answers.Next.TheVariants as next
 use Rattle.ring_lines.proofs.Beginning.{cuts-append, cuts_none, none_of}
 use Rattle.ring_lines.proofs.Gathered.{stops-append}
-use Rattle.ring_lines.proofs.Rounds.{add_calls, add_text, calls_of-add_calls, calls_of-add_text, in_turn-add_text, in_turn-append, in_turn_more, no_answer, owed_first, rounds-add_calls, rounds-add_text, run_length, run_more, written-add_calls, written-add_text}
+use Rattle.ring_lines.proofs.Rounds.{add_calls, add_text, calls_of-add_calls, calls_of-add_text, in_turn-add_text, in_turn-append, in_turn_more, no_answer, owed_first, rounds-add_calls, rounds-add_text, run_length, run_then, written-add_calls, written-add_text}
 
 -- a buffer before its first line
 abbrev pub fresh : ℕ → BufferView
@@ -58,30 +59,28 @@ pub record AnsweringNext {S V A B : Type 0} (reading : S → Reading → S → T
   pub counted : count ≡ length lines
   pub fewer : length (lines ++ come) + most_bytes buffer ≤ 4096 * reads
 
--- one answer more behind what is written and what stands on the page
-text_more : {B : Type 0} (spelling : B → List ℕ) (written page : List ℕ) (given : List B) (answer : B) → written ++ page ≡ text_of spelling given → written ++ (page ++ spelling answer) ≡ text_of spelling (given ++ answer ∷ [])
-text_more spelling written page given answer whole =
-    sym (append_assoc written page (spelling answer))
-    ∙ ap (λ (text : List ℕ). text ++ spelling answer) whole
-    ∙ ap (λ (text : List ℕ). text_of spelling given ++ text) (sym (append-nil (spelling answer)))
-    ∙ sym (flat_map-append spelling given (answer ∷ []))
+-- The same where these lines were given and have no answer yet.
+pub record Owing {S V A B : Type 0} (reading : S → Reading → S → Type 0) (writing : V → Writing → V → Type 0) (answers : List ℕ → A → B → A → Type 0) (spelling : B → List ℕ) (is_legal : B → Type 0) (reader : S) (writer : V) (old : A) (reads count : ℕ) (reader_now : S) (writer_now : V) (come : List (List ℕ)) (buffer : BufferView) (page : List ℕ) (now : A) : Type 0 where
+  pub rounds : List Round
+  pub lines : List (List ℕ)
+  pub given : List B
+  pub run : RunOf answers old lines given now
+  pub legal : All is_legal given
+  pub made : Rounds reading writing reader writer rounds reader_now writer_now
+  pub in_turn : AreInTurn spelling given rounds
+  pub whole : written_in rounds ++ page ≡ text_of spelling given
+  pub spent : length (calls_of rounds) + buffer.reads ≡ reads
+  pub stops : Stops buffer.phase (calls_of rounds) buffer.reads
+  pub cuts : CutsLines buffer.phase (read_in rounds) (lines ++ come) buffer.held
+  pub counted : count ≡ length lines
+  pub fewer : length (lines ++ come) + most_bytes buffer ≤ 4096 * reads
 
--- The buffer gave one line, and this is an answer to it.
-pub record Turned {A B : Type 0} (answers : List ℕ → A → B → A → Type 0) (come : List (List ℕ)) (now : A) (answer : B) (new : A) : Type 0 where
-  pub line : List ℕ
-  pub is_come : come ≡ line ∷ []
-  pub answered : answers line now answer new
-
-module _ {A B : Type 0} (answers : List ℕ → A → B → A → Type 0) where
-  pub turned_line : (come : List (List ℕ)) (after : Phase) (text line : List ℕ) (said : Next) (now : A) (answer : B) (new : A) → said ≡ next.Line line → ShowsLine said come after → text ≡ line → answers text now answer new → Turned answers come now answer new
-  turned_line come after text line said now answer new is shows same answered =
-      let s : ShowsLine (next.Line line) come after = subst (λ (n : Next). ShowsLine n come after) is shows in
-      record { line = line; is_come = s.0; answered = subst (λ (l : List ℕ). answers l now answer new) same answered }
-
-  pub turned_long : (come : List (List ℕ)) (after : Phase) (said : Next) (now : A) (answer : B) (new : A) → said ≡ next.Long → ShowsLine said come after → ((line : List ℕ) → 128 < length line → answers line now answer new) → Turned answers come now answer new
-  turned_long come after said now answer new is shows answered =
-      let s : ShowsLine next.Long come after = subst (λ (n : Next). ShowsLine n come after) is shows in
-      record { line = s.0; is_come = s.1; answered = answered s.0 s.2 }
+-- more answers behind what is written and what stands on the page
+text_then : {B : Type 0} (spelling : B → List ℕ) (written page : List ℕ) (given later : List B) → written ++ page ≡ text_of spelling given → written ++ (page ++ text_of spelling later) ≡ text_of spelling (given ++ later)
+text_then spelling written page given later whole =
+    sym (append_assoc written page (text_of spelling later))
+    ∙ ap (λ (text : List ℕ). text ++ text_of spelling later) whole
+    ∙ sym (flat_map-append spelling given later)
 
 module _ {S V A B : Type 0} (reading : S → Reading → S → Type 0) (writing : V → Writing → V → Type 0) (answers : List ℕ → A → B → A → Type 0) (spelling : B → List ℕ) (is_legal : B → Type 0) (reader : S) (writer : V) (old : A) (reads : ℕ) where
   -- before the first line
@@ -318,54 +317,88 @@ module _ {S V A B : Type 0} (reading : S → Reading → S → Type 0) (writing 
           fewer = omega (arith, ap length same, n.fewer);
         }
 
-    -- the buffer gave a line, and its answer comes behind what stands on the page
-    pub answering_line : (answer : B) (new : A) → Turned answers n.come now answer new → is_legal answer → Answering reading writing answers spelling is_legal reader writer old reads (count + 1) reader_now writer_now buffer (page ++ spelling answer) new
-    answering_line answer new t told =
-        let same : n.lines ++ n.come ≡ n.lines ++ t.line ∷ [] = ap (λ (l : List (List ℕ)). n.lines ++ l) t.is_come in
-        record {
-          rounds = n.rounds;
-          lines = n.lines ++ t.line ∷ [];
-          given = n.given ++ answer ∷ [];
-          run = run_more answers old n.lines n.given now t.line answer new n.run t.answered;
-          legal = All-push is_legal n.given answer n.legal told;
-          made = n.made;
-          in_turn = in_turn-append spelling n.given answer n.rounds n.in_turn;
-          whole = text_more spelling (written_in n.rounds) page n.given answer n.whole;
-          spent = n.spent;
-          stops = n.stops;
-          cuts = subst (λ (lines : List (List ℕ)). CutsLines buffer.phase (read_in n.rounds) lines buffer.held) same n.cuts;
-          counted = omega (arith, length-append n.lines (t.line ∷ []), n.counted);
-          fewer = omega (arith, ap length same, n.fewer);
-        }
+    -- the lines that the buffer gave are owed an answer
+    pub owing_come : Owing reading writing answers spelling is_legal reader writer old reads count reader_now writer_now n.come buffer page now
+    owing_come = record {
+      rounds = n.rounds;
+      lines = n.lines;
+      given = n.given;
+      run = n.run;
+      legal = n.legal;
+      made = n.made;
+      in_turn = n.in_turn;
+      whole = n.whole;
+      spent = n.spent;
+      stops = n.stops;
+      cuts = n.cuts;
+      counted = n.counted;
+      fewer = n.fewer;
+    }
 
-    -- and its answer was passed on
-    pub answering_passed : (answer : B) (new : A) (writer_then : V) (page_then : List ℕ) → Turned answers n.come now answer new → is_legal answer → Passes writing writer_now page (spelling answer) writer_then page_then → Answering reading writing answers spelling is_legal reader writer old reads (count + 1) reader_now writer_then buffer page_then new
-    answering_passed answer new writer_then page_then t told p =
-        let a = answering_line answer new t told in
-        let later : a.rounds ≡ [] → writer_then ≡ writer_now = λ none.
-        let lines : a.lines ≡ [] = cuts_none buffer.phase a.lines buffer.held (subst (λ (rounds : List Round). CutsLines buffer.phase (read_in rounds) a.lines buffer.held) none a.cuts) in
-        absurd (omega (arith, ap length lines, length-append n.lines (t.line ∷ []))) in
-        moved (count + 1) reader_now writer_now buffer (page ++ spelling answer) new a writer_then page_then
-        (record { written = p.written; wrote = p.wrote; whole = p.whole ∙ sym (append-nil (page ++ spelling answer)) }) later
+  -- and so are those that were held behind them
+  pub owing_joined : {K : Type 0} (asks : List ℕ → K → Type 0) (count : ℕ) (reader_now : S) (writer_now : V) (come : List (List ℕ)) (buffer : BufferView) (page : List ℕ) (now : A) (before after : List K) (new : BufferView) → Owing reading writing answers spelling is_legal reader writer old reads count reader_now writer_now come buffer page now → (j : JoinsHeld asks buffer before new after) → Owing reading writing answers spelling is_legal reader writer old reads count reader_now writer_now (come ++ j.given) new page now
+  owing_joined asks count reader_now writer_now come buffer page now before after new o j = record {
+    rounds = o.rounds;
+    lines = o.lines;
+    given = o.given;
+    run = o.run;
+    legal = o.legal;
+    made = o.made;
+    in_turn = o.in_turn;
+    whole = o.whole;
+    spent = omega (arith, o.spent, j.reads);
+    stops = rw (j.phase, j.reads) o.stops;
+    cuts = rw (j.phase, ← append_assoc) (j.cuts (read_in o.rounds) (o.lines ++ come) o.cuts);
+    counted = o.counted;
+    fewer = omega (arith, o.fewer, j.fewer, j.reads, length-append (o.lines ++ come) j.given, ap length (append_assoc o.lines come j.given));
+  }
 
-    -- and writing failed before all of its answer was passed on
-    pub fails_line : (answer : B) (new : A) (writer_then : V) → Turned answers n.come now answer new → WroteFront writing writer_now (page ++ spelling answer) writer_then → AnswersLines reading writing answers spelling is_legal reader writer old reads (Err fault.Write) reader_now writer_then new
-    fails_line answer new writer_then t failed =
-        let same : n.lines ++ n.come ≡ n.lines ++ t.line ∷ [] = ap (λ (l : List (List ℕ)). n.lines ++ l) t.is_come in
-        record {
-          rounds = n.rounds;
-          lines = n.lines ++ t.line ∷ [];
-          given = n.given ++ answer ∷ [];
-          run = run_more answers old n.lines n.given now t.line answer new n.run t.answered;
-          legal = tt;
-          granted = omega (arith, n.spent);
-          in_turn = in_turn-append spelling n.given answer n.rounds n.in_turn;
-          answered = owed_first buffer.phase (calls_of n.rounds) buffer.reads (n.lines ++ t.line ∷ []) buffer.held n.stops (subst (λ (lines : List (List ℕ)). CutsLines buffer.phase (read_in n.rounds) lines buffer.held) same n.cuts);
-          writes = record {
-            out = writer_now;
-            made = n.made;
-            owed = page ++ spelling answer;
-            whole = text_more spelling (written_in n.rounds) page n.given answer n.whole;
-            failed = failed;
-          };
-        }
+  module _ (count : ℕ) (reader_now : S) (writer_now : V) (come : List (List ℕ)) (buffer : BufferView) (page : List ℕ) (now : A) (o : Owing reading writing answers spelling is_legal reader writer old reads count reader_now writer_now come buffer page now) where
+    -- the lines that are owed an answer were answered, and the answers come behind what stands on the page
+    answering_lines : (later : List B) (new : A) → RunOf answers now come later new → All is_legal later → Answering reading writing answers spelling is_legal reader writer old reads (count + length later) reader_now writer_now buffer (page ++ text_of spelling later) new
+    answering_lines later new run legal = record {
+      rounds = o.rounds;
+      lines = o.lines ++ come;
+      given = o.given ++ later;
+      run = run_then answers old o.lines come o.given later now new o.run run;
+      legal = All-append is_legal o.given later o.legal legal;
+      made = o.made;
+      in_turn = in_turn-append spelling o.given later o.rounds o.in_turn;
+      whole = text_then spelling (written_in o.rounds) page o.given later o.whole;
+      spent = o.spent;
+      stops = o.stops;
+      cuts = o.cuts;
+      counted = omega (arith, o.counted, length-append o.lines come, run_length answers now come later new run);
+      fewer = o.fewer;
+    }
+
+    -- and the answers were passed on
+    pub answering_passed : (later : List B) (new : A) (writer_then : V) (page_then : List ℕ) → 0 < length come → RunOf answers now come later new → All is_legal later → Passes writing writer_now page (text_of spelling later) writer_then page_then → Answering reading writing answers spelling is_legal reader writer old reads (count + length later) reader_now writer_then buffer page_then new
+    unfolding answering_lines
+    answering_passed later new writer_then page_then some run legal p =
+        let a = answering_lines later new run legal in
+        let late : a.rounds ≡ [] → writer_then ≡ writer_now = λ none.
+        let lines : o.lines ++ come ≡ [] = cuts_none buffer.phase (o.lines ++ come) buffer.held (subst (λ (rounds : List Round). CutsLines buffer.phase (read_in rounds) (o.lines ++ come) buffer.held) none o.cuts) in
+        absurd (omega (arith, some, ap length lines, length-append o.lines come)) in
+        moved (count + length later) reader_now writer_now buffer (page ++ text_of spelling later) new a writer_then page_then
+        (record { written = p.written; wrote = p.wrote; whole = p.whole ∙ sym (append-nil (page ++ text_of spelling later)) }) late
+
+    -- and writing failed before all of their answers were passed on
+    pub fails_lines : (later : List B) (new : A) (writer_then : V) → RunOf answers now come later new → WroteFront writing writer_now (page ++ text_of spelling later) writer_then → AnswersLines reading writing answers spelling is_legal reader writer old reads (Err fault.Write) reader_now writer_then new
+    fails_lines later new writer_then run failed = record {
+      rounds = o.rounds;
+      lines = o.lines ++ come;
+      given = o.given ++ later;
+      run = run_then answers old o.lines come o.given later now new o.run run;
+      legal = tt;
+      granted = omega (arith, o.spent);
+      in_turn = in_turn-append spelling o.given later o.rounds o.in_turn;
+      answered = owed_first buffer.phase (calls_of o.rounds) buffer.reads (o.lines ++ come) buffer.held o.stops o.cuts;
+      writes = record {
+        out = writer_now;
+        made = o.made;
+        owed = page ++ text_of spelling later;
+        whole = text_then spelling (written_in o.rounds) page o.given later o.whole;
+        failed = failed;
+      };
+    }

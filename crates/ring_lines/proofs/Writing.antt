@@ -65,3 +65,8 @@ where_ok (Err b) says also = says
 pub where_err : {A B P Q : Type 0} (answer : Result A B) → OnErr answer P → (P → Q) → OnErr answer Q
 where_err (Ok a) says also = says
 where_err (Err b) says also = also says
+
+-- what is so anyway is so where there is an error
+pub err_anyway : {A B P : Type 0} (answer : Result A B) → P → OnErr answer P
+err_anyway (Ok a) is = tt
+err_anyway (Err b) is = is

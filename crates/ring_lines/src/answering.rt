@@ -2,6 +2,7 @@ ghost use Rattle.std.specs.Prelude.{◌≡◌};
 ghost use Rattle.ring_lines.specs.Rounds.{AnswersLines};
 
 use crate::answers::{Found, Line, LineFault};
+use crate::batch::Batch;
 use crate::buffer::LineBuffer;
 use crate::ends::{Intake, Outlet};
 use crate::page::Page;
@@ -18,23 +19,37 @@ pub type Queued<'a> = Option<MutexGuard<'a, ()>>;
 
 /// What answers lines, one after another.
 ///
-/// What an answer changes is its state, and the answerer itself stays as it is. The ghost members say
-/// what an answer needs of the state, which it keeps, and which answer may be given to which line in
-/// which state, and what the state is after that. A line is given without its LF.
+/// A line is read before it is answered: what it asks depends on its bytes alone. What an answer changes
+/// is its state, and the answerer itself stays as it is. The ghost members say what a line asks, what an
+/// answer needs of the state, which it keeps, and which answer may be given to which line in which state,
+/// and what the state is after that. A line is given without its LF.
 pub trait Answerer {
     ghost use Rattle.std.specs.Prelude.{List, ℕ, ◌<◌, length};
 
     /// What answers change.
     type State;
 
+    /// What a line asks.
+    type Asked: Copy;
+
     /// What it answers.
     type Answer: Spell + Drop;
 
     ghost holds: { Self → Self.State → Type 0 };
 
+    ghost asks: { List ℕ → Self.Asked → Type 0 };
+
     ghost answers: { Self → List ℕ → Self.State → Self.Answer → Self.State → Type 0 };
 
-    /// The answer to a line.
+    /// What a line asks.
+    fn read(&self, line: &[u8]) -> Self::Asked
+        ensures { asks line.now result };
+
+    /// What any line of more than 128 bytes asks, which were dropped.
+    fn read_long(&self) -> Self::Asked
+        ensures { (line : List ℕ) → 128 < length line → asks line result };
+
+    /// The answer to what a line asks.
     ///
     /// Where many answer from one thing in turns, it may wait for the head of their queue and leave that in
     /// `queued`, so that the answers after it find it there.
@@ -43,17 +58,11 @@ pub trait Answerer {
         state: &mut Self::State,
         alloc: Global,
         queued: &mut Queued<'a>,
-        line: &[u8],
+        asked: Self::Asked,
     ) -> Self::Answer
         requires { holds self.now state.old }
         ensures kept { holds self.now state.new }
-        ensures answer { answers self.now line.now state.old result state.new };
-
-    /// The answer to any line of more than 128 bytes, which were dropped.
-    fn answer_long(&self, state: &mut Self::State) -> Self::Answer
-        requires { holds self.now state.old }
-        ensures kept { holds self.now state.new }
-        ensures answer { (line : List ℕ) → 128 < length line → answers self.now line state.old result state.new };
+        ensures answer { (line : List ℕ) → asks line asked → answers self.now line state.old result state.new };
 }
 
 /// Answers each line of the reader by the spelling of one answer to the writer, in order.
@@ -64,8 +73,9 @@ pub trait Answerer {
 /// answered; at `Write` a front of the answers was written; at `NoMemory` nothing was read or answered.
 /// Unless writing failed, each answer is legal. Makes at most `reads` read calls.
 ///
-/// What an answer left in `queued` is let go before each read call, before each write call, and where no
-/// byte is held: tests say so, and no clause.
+/// Lines that are held are read before the first of them is answered, at most 64 of them, and their
+/// answers are spelled after the last of them is given. What an answer left in `queued` is let go in
+/// between: tests say so, and no clause.
 pub fn answer_lines<A: Answerer, R: Intake, W: Outlet>(
     alloc: Global,
     answerer: &A,
@@ -84,33 +94,28 @@ pub fn answer_lines<A: Answerer, R: Intake, W: Outlet>(
     let Ok(mut page) = Page::new(alloc, PAGE) else {
         return Err(LineFault::NoMemory);
     };
+    let Ok(mut batch) = Batch::new(alloc) else {
+        return Err(LineFault::NoMemory);
+    };
     let mut line = Line::new();
-    let mut queued = None;
     let mut count = 0;
     loop {
-        let Ok(found) = turn_to_next(
-            &mut lines,
-            reader,
-            &mut line,
-            &mut page,
-            writer,
-            &mut queued,
-        ) else {
+        let Ok(found) = turn_to_next(&mut lines, reader, &mut line, &mut page, writer) else {
             return Err(LineFault::Write);
         };
-        let answer = match found {
-            Found::Line => answerer.answer(state, alloc, &mut queued, line.bytes()),
-            Found::Long => answerer.answer_long(state),
+        let asked = match found {
+            Found::Line => answerer.read(line.bytes()),
+            Found::Long => answerer.read_long(),
             Found::End => return close(&mut page, writer, Ok(count)),
             Found::Fault(fault) => return close(&mut page, writer, Err(fault)),
         };
-        if lines.is_empty() {
-            queued = None;
-        }
-        let Ok(()) = pass_on(&answer, &mut page, writer, &mut queued) else {
+        batch.begin(asked);
+        batch.read_held(answerer, &mut lines, &mut line);
+        batch.answer(answerer, state, alloc);
+        let Ok(()) = pass_on(batch.given(), &mut page, writer) else {
             return Err(LineFault::Write);
         };
-        count += 1;
+        count += batch.given().len() as u64;
     }
 }
 

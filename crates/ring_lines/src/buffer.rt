@@ -1,4 +1,4 @@
-ghost use Rattle.std.specs.Prelude.{◌≡◌, ◌+◌, ◌-◌, ◌<◌, ◌≤◌, ◌||◌, ◌==◌, [], false, length, take, drop, position, slice_range, nat_lt, if◌then◌else◌, IfOk, IfSome, IsTrue, ◌↔◌, IfNone};
+ghost use Rattle.std.specs.Prelude.{◌≡◌, ◌+◌, ◌-◌, ◌<◌, ◌≤◌, ◌||◌, ◌==◌, [], false, length, take, drop, position, slice_range, nat_lt, if◌then◌else◌, IfOk, IfSome, IfNone};
 ghost use Rattle.ring_lines.specs.Ends.{reading};
 ghost use Rattle.ring_lines.specs.Reader.{answer_told};
 ghost use Rattle.ring_lines.specs.private.Filling.{answer_of, phase_of};
@@ -54,14 +54,6 @@ impl LineBuffer {
             reads,
             phase: Phase::Open,
         })
-    }
-
-    /// Whether no byte is held. Takes no memory.
-    #[inline(always)]
-    pub(crate) fn is_empty(&self) -> bool
-        ensures { IsTrue result ↔ (self.now.held ≡ []) }
-    {
-        self.start == self.end
     }
 
     /// Whether a whole line is held, so that the next call reads nothing.

@@ -11,6 +11,7 @@
 
 mod answering;
 mod answers;
+mod batch;
 mod buffer;
 mod drip;
 mod ends;

@@ -1,26 +1,25 @@
 //! Answers on their way to a writer: they gather on a page, which is written where it has no room.
-ghost use Rattle.std.specs.Prelude.{◌≡◌, ◌++◌, [], IfOk, OnErr, OnOk};
+ghost use Rattle.std.specs.Prelude.{◌≡◌, ◌++◌, [], All, IfOk, OnErr, OnOk};
 ghost use Rattle.ring_lines.specs.Ends.{WroteFront};
 ghost use Rattle.ring_lines.specs.Reader.{answer_told};
+ghost use Rattle.ring_lines.specs.Rounds.{text_of};
 ghost use Rattle.ring_lines.specs.private.Pages.{Closes, Passes, TurnsToNext};
 
-use crate::answering::Queued;
 use crate::answers::{Found, Line, LineFault};
 use crate::buffer::LineBuffer;
 use crate::ends::{Intake, Outlet, WriteFailed, put};
 use crate::page::Page;
-use crate::spell::Spell;
+use crate::spell::{Spell, spell_all};
 use ring_grammar::{Sink, SinkFailed};
 
 // A page before a writer, as what an answer is put into.
 #[derive(Drop)]
-struct Feeder<'a, 'b, W> {
+struct Feeder<'a, W> {
     page: &'a mut Page,
     writer: &'a mut W,
-    queued: &'a mut Queued<'b>,
 }
 
-impl<W: Outlet> Sink for Feeder<'_, '_, W> {
+impl<W: Outlet> Sink for Feeder<'_, W> {
     ghost use Rattle.ring_lines.specs.laws.Sequences.{Feeds, FeedsFront, feeds_in_sequence};
 
     ghost takes = { Feeds W.write_gives (λ a. a.writer.now) (λ a. a.page.now.text) (λ a. a.page.ghost_name) (λ a. a.writer.ghost_name) };
@@ -30,7 +29,7 @@ impl<W: Outlet> Sink for Feeder<'_, '_, W> {
     ghost laws = { feeds_in_sequence W.write_gives (λ a. a.writer.now) (λ a. a.page.now.text) (λ a. a.page.ghost_name) (λ a. a.writer.ghost_name) };
 
     fn put(&mut self, bytes: &[u8]) -> Result<(), SinkFailed> {
-        match feed(self.page, self.writer, self.queued, bytes) {
+        match feed(self.page, self.writer, bytes) {
             Ok(()) => Ok(()),
             Err(WriteFailed) => Err(SinkFailed),
         }
@@ -41,7 +40,6 @@ impl<W: Outlet> Sink for Feeder<'_, '_, W> {
 fn feed<W: Outlet>(
     page: &mut Page,
     writer: &mut W,
-    queued: &mut Queued<'_>,
     bytes: &[u8],
 ) -> Result<(), WriteFailed>
     ensures ok { OnOk result (Passes W.write_gives writer.old page.old.text bytes.now writer.new page.new.text) }
@@ -52,33 +50,27 @@ fn feed<W: Outlet>(
         return Ok(());
     }
     page.cut(len);
-    *queued = None;
     let Ok(()) = page.write_out(writer) else {
         return Err(WriteFailed);
     };
     put(writer, bytes)
 }
 
-// Passes an answer on: onto the page, which is written before it where it has no room.
+// Passes answers on, in order: onto the page, which is written before one where it has no room.
 //
-// At `Err` a front of what the page held and of the answer was written, and the last write call
+// At `Err` a front of what the page held and of the answers was written, and the last write call
 // failed or took no byte.
 pub(crate) fn pass_on<A: Spell, W: Outlet>(
-    answer: &A,
+    answers: &[A],
     page: &mut Page,
     writer: &mut W,
-    queued: &mut Queued<'_>,
 ) -> Result<(), WriteFailed>
-    ensures ok { OnOk result (Passes W.write_gives writer.old page.old.text (A.spelling answer.now) writer.new page.new.text) }
-    ensures err { OnErr result (WroteFront W.write_gives writer.old (page.old.text ++ A.spelling answer.now) writer.new) }
-    ensures legal { OnOk result (A.is_legal answer.now) }
+    ensures ok { OnOk result (Passes W.write_gives writer.old page.old.text (text_of A.spelling answers.now) writer.new page.new.text) }
+    ensures err { OnErr result (WroteFront W.write_gives writer.old (page.old.text ++ text_of A.spelling answers.now) writer.new) }
+    ensures legal { OnOk result (All A.is_legal answers.now) }
 {
-    let mut feeder = Feeder {
-        page,
-        writer,
-        queued,
-    };
-    match answer.spell(&mut feeder) {
+    let mut feeder = Feeder { page, writer };
+    match spell_all(answers, &mut feeder) {
         Ok(()) => Ok(()),
         Err(SinkFailed) => Err(WriteFailed),
     }
@@ -93,7 +85,6 @@ pub(crate) fn turn_to_next<R: Intake, W: Outlet>(
     line: &mut Line,
     page: &mut Page,
     writer: &mut W,
-    queued: &mut Queued<'_>,
 ) -> Result<Found, WriteFailed>
     ensures ok { IfOk result (λ found. TurnsToNext R.read_gives W.write_gives reader.old lines.old writer.old page.old.text (answer_told found line.new) reader.new lines.new writer.new page.new.text) }
     ensures err { OnErr result (WroteFront W.write_gives writer.old page.old.text writer.new × (reader.new ≡ reader.old)) }
@@ -101,7 +92,6 @@ pub(crate) fn turn_to_next<R: Intake, W: Outlet>(
     if let Some(found) = lines.take_held(line) {
         return Ok(found);
     }
-    *queued = None;
     page.write_out(writer)?;
     Ok(lines.next(reader, line))
 }

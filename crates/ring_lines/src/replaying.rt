@@ -6,7 +6,7 @@ use crate::ends::{Intake, Outlet};
 use ring_any::Any;
 use ring_grammar::parse_event;
 use ring_id::Refusal;
-use ring_mux::{Mux, Reply};
+use ring_mux::{Event, Mux, Reply};
 use std::alloc::Global;
 
 /// What answers a schedule: a line that spells an event by the reply of a mux to its step, and any
@@ -15,31 +15,39 @@ use std::alloc::Global;
 pub(crate) struct Replayer;
 
 impl Answerer for Replayer {
-    ghost use Rattle.ring_lines.specs.Replay.{RepliesTo};
+    ghost use Rattle.ring_lines.specs.Replay.{AsksEvent, RepliesTo};
 
     type State = Mux<Any>;
+
+    type Asked = Option<Event<Any>>;
 
     type Answer = Reply;
 
     ghost holds = { λ _ _. Unit {0} };
 
+    ghost asks = { AsksEvent };
+
     ghost answers = { λ _. RepliesTo };
+
+    fn read(&self, line: &[u8]) -> Option<Event<Any>> {
+        parse_event(line)
+    }
+
+    fn read_long(&self) -> Option<Event<Any>> {
+        None
+    }
 
     fn answer<'a>(
         &'a self,
         state: &mut Mux<Any>,
         alloc: Global,
         _queued: &mut Queued<'a>,
-        line: &[u8],
+        asked: Option<Event<Any>>,
     ) -> Reply {
-        match parse_event(line) {
+        match asked {
             Some(event) => state.step(alloc, event),
             None => Reply::Refused(Refusal::BadLine),
         }
-    }
-
-    fn answer_long(&self, _state: &mut Mux<Any>) -> Reply {
-        Reply::Refused(Refusal::BadLine)
     }
 }
 

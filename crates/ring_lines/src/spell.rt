@@ -1,4 +1,5 @@
-ghost use Rattle.std.specs.Prelude.{OnErr, OnOk};
+ghost use Rattle.std.specs.Prelude.{All, OnErr, OnOk};
+ghost use Rattle.ring_lines.specs.Rounds.{text_of};
 
 use ring_grammar::{Sink, SinkFailed, print_reply};
 use ring_mux::Reply;
@@ -19,6 +20,18 @@ pub trait Spell {
         ensures ok { OnOk result (S.takes out.old (spelling self.now) out.new) }
         ensures err { OnErr result (S.takes_front out.old (spelling self.now) out.new) }
         ensures legal { OnOk result (is_legal self.now) };
+}
+
+/// Puts the spellings of all of these, in order, or fails after a front of them. What is put whole is legal.
+pub(crate) fn spell_all<A: Spell, S: Sink>(answers: &[A], out: &mut S) -> Result<(), SinkFailed>
+    ensures ok { OnOk result (S.takes out.old (text_of A.spelling answers.now) out.new) }
+    ensures err { OnErr result (S.takes_front out.old (text_of A.spelling answers.now) out.new) }
+    ensures legal { OnOk result (All A.is_legal answers.now) }
+{
+    for answer in answers {
+        answer.spell(out)?;
+    }
+    Ok(())
 }
 
 /// A reply is spelled by its line.

@@ -9,8 +9,8 @@ use itoa::Buffer;
 use ring_any::Any;
 use ring_grammar::{Sink, SinkFailed, print_reply};
 use ring_id::Refusal;
-use ring_lines::{Answerer, Queued, Spell, parse_command};
-use ring_mux::Reply;
+use ring_lines::{Answerer, Queued, Spell};
+use ring_mux::{Command, Reply};
 use std::alloc::Global;
 use std::sync::Wait;
 
@@ -68,14 +68,27 @@ pub(crate) struct PlacedSession<'a, A: Drop, R> {
 
 impl<A: Access<Any> + Drop, R: Wait> Answerer for PlacedSession<'_, A, R> {
     ghost use Rattle.ring_service.specs.Places.{PlacesIn};
+    ghost use Rattle.ring_service.specs.Sessions.{AsksCommand};
 
     type State = A::Seat;
+
+    type Asked = Option<Command<Any>>;
 
     type Answer = Answer;
 
     ghost holds = { λ placed seat. A.has_seat placed.session.front.now seat };
 
+    ghost asks = { AsksCommand };
+
     ghost answers = { λ placed line seat answer now. PlacesIn placed.session.number line (A.mine seat) answer (A.mine now) };
+
+    fn read(&self, line: &[u8]) -> Option<Command<Any>> {
+        self.session.read(line)
+    }
+
+    fn read_long(&self) -> Option<Command<Any>> {
+        self.session.read_long()
+    }
 
     #[tactic(auto, using(crate::proofs::Placing::unread_place))]
     fn answer<'a>(
@@ -83,20 +96,15 @@ impl<A: Access<Any> + Drop, R: Wait> Answerer for PlacedSession<'_, A, R> {
         state: &mut A::Seat,
         _alloc: Global,
         queued: &mut Queued<'a>,
-        line: &[u8],
+        asked: Option<Command<Any>>,
     ) -> Answer {
         let Session { front, rt, number } = &self.session;
-        match parse_command(line) {
+        match asked {
             Some(command) => {
                 self.session.queue(queued);
                 front.answer(*rt, state, *number, command)
             }
             None => Answer::Unplaced(Refusal::BadLine),
         }
-    }
-
-    #[tactic(auto, using(crate::proofs::Placing::long_place))]
-    fn answer_long(&self, _state: &mut A::Seat) -> Answer {
-        Answer::Unplaced(Refusal::BadLine)
     }
 }

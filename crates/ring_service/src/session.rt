@@ -3,7 +3,7 @@ use crate::front::Front;
 use ring_any::Any;
 use ring_id::Refusal;
 use ring_lines::{Answerer, Queued, parse_command};
-use ring_mux::Reply;
+use ring_mux::{Command, Reply};
 use std::alloc::Global;
 use std::sync::Wait;
 
@@ -25,15 +25,27 @@ impl<'b, A: Access<Any> + Drop, R: Wait> Session<'b, A, R> {
 }
 
 impl<A: Access<Any> + Drop, R: Wait> Answerer for Session<'_, A, R> {
-    ghost use Rattle.ring_service.specs.Sessions.{AnswersIn};
+    ghost use Rattle.ring_service.specs.Sessions.{AnswersIn, AsksCommand};
 
     type State = A::Seat;
+
+    type Asked = Option<Command<Any>>;
 
     type Answer = Reply;
 
     ghost holds = { λ session seat. A.has_seat session.front.now seat };
 
+    ghost asks = { AsksCommand };
+
     ghost answers = { λ session line seat reply now. AnswersIn session.number line (A.mine seat) reply (A.mine now) };
+
+    fn read(&self, line: &[u8]) -> Option<Command<Any>> {
+        parse_command(line)
+    }
+
+    fn read_long(&self) -> Option<Command<Any>> {
+        None
+    }
 
     #[tactic(auto, using(crate::proofs::Replying::unread_line))]
     fn answer<'a>(
@@ -41,9 +53,9 @@ impl<A: Access<Any> + Drop, R: Wait> Answerer for Session<'_, A, R> {
         state: &mut A::Seat,
         _alloc: Global,
         queued: &mut Queued<'a>,
-        line: &[u8],
+        asked: Option<Command<Any>>,
     ) -> Reply {
-        match parse_command(line) {
+        match asked {
             Some(command) => {
                 self.queue(queued);
                 self.front
@@ -52,9 +64,5 @@ impl<A: Access<Any> + Drop, R: Wait> Answerer for Session<'_, A, R> {
             }
             None => Reply::Refused(Refusal::BadLine),
         }
-    }
-
-    fn answer_long(&self, _state: &mut A::Seat) -> Reply {
-        Reply::Refused(Refusal::BadLine)
     }
 }

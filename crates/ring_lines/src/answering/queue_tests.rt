@@ -7,8 +7,9 @@ use std::cell::RefCell;
 use std::process::Abort;
 use std::sync::{Mutex, Wait};
 
-// The lock at which answers queue, and marks of what was done: a small letter where it was free, and
-// the great one, or `!`, where it was held.
+// The lock at which answers queue, and marks of what was done: `r` a line was read, `l` a long one, `q` it was queued for,
+// `a` a line was answered, `s` its answer was spelled, `<` a read call, `>` a write call. Where the lock
+// was held, the letter is a great one, and the others are `!`.
 #[derive(Drop)]
 struct Watched {
     door: Mutex<()>,
@@ -57,27 +58,36 @@ impl Spell for Told<'_> {
 impl<'b, R: Wait> Answerer for Queueing<'b, R> {
     type State = ();
 
+    type Asked = ();
+
     type Answer = Told<'b>;
 
     ghost holds = { λ _ _. Unit {0} };
 
+    ghost asks = { λ _ _. Unit {0} };
+
     ghost answers = { λ _ _ _ _ _. Unit {0} };
+
+    fn read(&self, _line: &[u8]) {
+        self.watched.note(b'r', b'R');
+    }
+
+    fn read_long(&self) {
+        self.watched.note(b'l', b'L');
+    }
 
     fn answer<'a>(
         &'a self,
         _state: &mut (),
         _alloc: Global,
         queued: &mut Queued<'a>,
-        _line: &[u8],
+        _asked: (),
     ) -> Told<'b> {
         if queued.is_none() {
             self.watched.note(b'q', b'!');
             *queued = Some(self.watched.door.lock(self.rt));
         }
-        self.answer_long(&mut ())
-    }
-
-    fn answer_long(&self, _state: &mut ()) -> Told<'b> {
+        self.watched.note(b'a', b'A');
         Told {
             watched: self.watched,
             text: self.text,
@@ -134,7 +144,7 @@ fn notes<R: Wait + AllocGlobal>(
     let text = vec![in alloc; 0; len]?;
     let watched = Watched {
         door: Mutex::new(()),
-        log: RefCell::new(Vec::with_capacity(alloc, 100)?),
+        log: RefCell::new(Vec::with_capacity(alloc, 200)?),
     };
     let queueing = Queueing {
         rt,
@@ -163,12 +173,24 @@ fn assert_notes<R: Wait + Abort + AllocGlobal>(
 }
 
 #[test]
-fn the_queue_is_left_before_reading_and_writing(rt: HostRuntime) {
-    assert_notes(&rt, &[b"a\nb\nc", b"d\n"], 9, b"<qSS><qs><");
-    assert_notes(&rt, &[b"a\n", b"b"], 9, b"<qs><<qs>");
+fn the_queue_is_held_while_lines_are_answered(rt: HostRuntime) {
+    assert_notes(&rt, &[b"a\nb\nc", b"d\n"], 9, b"<rrqAAss><rqAs><");
+    assert_notes(&rt, &[b"a\n", b"b"], 9, b"<rqAs><<rqAs>");
+    assert_notes(&rt, &[&[b'a'; 200], b"\nb\n"], 9, b"<<lrqAAss><");
 }
 
 #[test]
 fn the_queue_is_left_where_the_page_is_full(rt: HostRuntime) {
-    assert_notes(&rt, &[b"a\nb\nc\nd"], 40000, b"<qSS>>qS><qs>");
+    assert_notes(&rt, &[b"a\nb\nc\nd"], 40000, b"<rrrqAAAss>>s><rqAs>");
+}
+
+#[test]
+fn at_most_64_lines_are_answered_together(rt: HostRuntime) {
+    let mut wanted = [b'r'; 200];
+    wanted[0] = b'<';
+    wanted[65] = b'q';
+    wanted[66..130].fill(b'A');
+    wanted[130..194].fill(b's');
+    wanted[194..].copy_from_slice(b"rqAs><");
+    assert_notes(&rt, &[&[b'\n'; 65]], 9, &wanted);
 }

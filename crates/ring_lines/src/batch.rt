@@ -1,0 +1,104 @@
+//! Lines that are answered together: what each of them asks is read before the first of them is answered.
+ghost use Rattle.std.specs.Prelude.{◌≡◌, ◌≤◌, ◌∷◌, [], length, vec_capacity};
+ghost use Rattle.ring_lines.specs.private.Batches.{AnswersAll, JoinsHeld};
+
+use crate::answering::{Answerer, Queued};
+use crate::answers::{Found, Line};
+use crate::buffer::LineBuffer;
+use std::alloc::{AllocError, Global};
+use std::marker::Model;
+
+/// How many lines are answered together at most.
+const MOST: usize = 64;
+
+/// What lines asked that are answered together, and the answers to those that were answered last.
+#[derive(Drop)]
+pub(crate) struct Batch<A: Answerer> {
+    asked: Vec<A::Asked>,
+    given: Vec<A::Answer>,
+}
+
+impl<A: Answerer> Model for Batch<A> {
+    ghost use Rattle.std.specs.Prelude.{vec_capacity, vec_len};
+    ghost use Rattle.ring_lines.specs.private.Batches.{BatchView, HasRoom};
+
+    ghost Value = { BatchView A.Asked A.Answer };
+
+    ghost view = { λ a. record { asked = a.asked.items; given = a.given.items } };
+
+    ghost invariant = { λ a. HasRoom (vec_capacity a.asked) (vec_capacity a.given) (vec_len a.asked) };
+}
+
+impl<A: Answerer> Batch<A> {
+    /// A batch of no line, with room for all that it may have.
+    pub(crate) fn new(alloc: Global) -> Result<Batch<A>, AllocError> {
+        Ok(Batch {
+            asked: Vec::with_capacity(alloc, MOST)?,
+            given: Vec::with_capacity(alloc, MOST)?,
+        })
+    }
+
+    /// Takes what a line asks as the first of a new batch. Takes no memory.
+    pub(crate) fn begin(&mut self, asked: A::Asked)
+        ensures { self.new.asked ≡ asked ∷ [] }
+    {
+        self.asked.clear();
+        self.asked.push_reserved(asked);
+    }
+
+    /// Reads whole lines that are held, as many as the batch has room for. Takes no memory.
+    pub(crate) fn read_held(&mut self, answerer: &A, lines: &mut LineBuffer, line: &mut Line)
+        ensures { JoinsHeld A.asks lines.old self.old.asked lines.new self.new.asked }
+    {
+        while self.asked.len() < MOST {
+            let Some(found) = lines.take_held(line) else {
+                return;
+            };
+            let asked = match found {
+                Found::Line => answerer.read(line.bytes()),
+                _ => answerer.read_long(),
+            };
+            self.asked.push_reserved(asked);
+        }
+    }
+
+    /// Answers all that was asked, in order. Who queues for the answers has let go of the head of the
+    /// queue afterwards.
+    pub(crate) fn answer(&mut self, answerer: &A, state: &mut A::State, alloc: Global)
+        requires { A.holds answerer.now state.old }
+        ensures kept { A.holds answerer.now state.new }
+        ensures answered { AnswersAll A.asks (A.answers answerer.now) self.old.asked state.old self.new.given state.new }
+    {
+        self.given.clear();
+        answer_all(answerer, state, alloc, &self.asked, &mut self.given);
+    }
+
+    /// The answers that were given last.
+    pub(crate) fn given(&self) -> &[A::Answer]
+        ensures { result.now ≡ self.now.given }
+    {
+        &self.given
+    }
+}
+
+// Answers what lines asked, one after another.
+fn answer_all<A: Answerer>(
+    answerer: &A,
+    state: &mut A::State,
+    alloc: Global,
+    asked: &[A::Asked],
+    given: &mut Vec<A::Answer>,
+)
+    requires holds { A.holds answerer.now state.old }
+    requires none { given.old.items ≡ [] }
+    requires room { length asked.now ≤ vec_capacity given.old }
+    ensures kept { A.holds answerer.now state.new }
+    ensures answered { AnswersAll A.asks (A.answers answerer.now) asked.now state.old given.new.items state.new }
+    ensures room { vec_capacity given.new ≡ vec_capacity given.old }
+{
+    let mut queued = None;
+    for question in asked {
+        let answer = answerer.answer(state, alloc, &mut queued, *question);
+        given.push_reserved(answer);
+    }
+}
