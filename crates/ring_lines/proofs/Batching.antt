@@ -1,9 +1,8 @@
 -- Lines that are answered together: what they ask, and the run of their answers.
-use Rattle.std.proofs.Common.{◌≡◌, ◌+◌, ◌<◌, ◌≤◌, ℕ, true, false, Bool, List, [], ◌∷◌, ◌++◌, length, take, drop, refl, ap, sym, ◌∙◌, subst, arith, length-append, length-drop, append-nil, append_assoc}
+use Rattle.std.proofs.Common.{◌≡◌, ◌+◌, ◌<◌, ℕ, false, List, [], ◌∷◌, ◌++◌, length, take, drop, refl, ap, sym, ◌∙◌, subst, arith, length-append, length-drop, append-nil, append_assoc}
 use Rattle.std.specs.List.{AllZip}
 use Rattle.ring_lines.specs.Buffer.{BufferView}
 use Rattle.ring_lines.specs.Reader.{BeginsText, CutsLines, ShowsLine, answer_told}
-use Rattle.ring_lines.specs.Rounds.{RunOf}
 use Rattle.ring_lines.specs.private.Batches.{AnswersAll, JoinsHeld}
 use Rattle.ring_lines.specs.private.Filling.{TakesHeld, answer_of}
 use Rattle.ring_lines.specs.declared.answers.Found.{Found}
@@ -93,8 +92,8 @@ module _ {K : Type 0} (asks : List ℕ → K → Type 0) (old : BufferView) (bef
         phase = rw t.rest j.phase;
         reads = rw t.rest j.reads;
         cuts = λ text lines cuts.
-        let begins : BeginsText text (lines ++ j.given) mid.held = subst (λ (p : Phase). CutsLines p text (lines ++ j.given) mid.held) opened (j.cuts text lines cuts) in
-        rw (opened, t.rest, ← append_assoc) (begins_then text (lines ++ j.given) mid.held (line ∷ []) _ begins (subst (λ (held : List ℕ). BeginsText held (line ∷ []) (drop (t.len + 1) mid.held)) (sym t.cut.cut) (begins_line line (drop (t.len + 1) mid.held) t.cut.uncut)));
+            let begins : BeginsText text (lines ++ j.given) mid.held = subst (λ (p : Phase). CutsLines p text (lines ++ j.given) mid.held) opened (j.cuts text lines cuts) in
+            rw (opened, t.rest, ← append_assoc) (begins_then text (lines ++ j.given) mid.held (line ∷ []) _ begins (subst (λ (held : List ℕ). BeginsText held (line ∷ []) (drop (t.len + 1) mid.held)) (sym t.cut.cut) (begins_line line (drop (t.len + 1) mid.held) t.cut.uncut)));
         fewer = rw t.rest (omega (arith, j.fewer, t.cut.inside, length-append j.given (line ∷ []), length-drop (t.len + 1) mid.held));
         asked = λ come all. rw (← append_assoc) (zip_push asks (come ++ j.given) asked line question (j.asked come all) one);
       }

@@ -37,11 +37,7 @@ impl<W: Outlet> Sink for Feeder<'_, W> {
 }
 
 // A text onto the page; where it has no room, the page is written and then the text.
-fn feed<W: Outlet>(
-    page: &mut Page,
-    writer: &mut W,
-    bytes: &[u8],
-) -> Result<(), WriteFailed>
+fn feed<W: Outlet>(page: &mut Page, writer: &mut W, bytes: &[u8]) -> Result<(), WriteFailed>
     ensures ok { OnOk result (Passes W.write_gives writer.old page.old.text bytes.now writer.new page.new.text) }
     ensures err { OnErr result (WroteFront W.write_gives writer.old (page.old.text ++ bytes.now) writer.new) }
 {

@@ -1,8 +1,8 @@
 -- What filing the reports of nodes comes to: a report of the running term informs its member, and a
 -- filing leaves what was said before as it was.
-use Rattle.std.proofs.Common.{◌≡◌, ◌<◌, ℕ, zero, suc, Bool, true, false, cond, List, [], ◌∷◌, ◌++◌, length, Option, None, Some, refl, sym, ap, subst, ◌∙◌, arith, inl, inr}
+use Rattle.std.proofs.Common.{◌≡◌, ℕ, zero, suc, Bool, true, false, cond, List, [], ◌∷◌, ◌++◌, length, Option, None, Some, refl, sym, ap, subst, ◌∙◌, arith, inl, inr}
 use Rattle.std.specs.Prelude.{◌-◌, ◌==◌, slice_get, slice_set}
-use Rattle.std.specs.Option.{option_and_then, option_map}
+use Rattle.std.specs.Option.{option_and_then}
 use Rattle.std.specs.Str.{bytes_eq}
 use Rattle.std.proofs.lemmas.Bool.{cases_Bool}
 use Rattle.std.proofs.lemmas.Cmp.{nat_list_eq_equiv}
@@ -15,8 +15,8 @@ use Rattle.ring_node.specs.Nodes.{Seated, report_of}
 use Rattle.ring_node.specs.Reports.{Told}
 use Rattle.ring_world.specs.Settlements.{EachReports}
 use Rattle.ring_terms.specs.Charters.{running_charter, running_in}
-use Rattle.ring_terms.specs.Moves.{Informs, InformsIn, LeadsAfter, inform}
-use Rattle.ring_terms.specs.Object.{GroupView, InGroup, Object, OfGroup, TermView, find, last_term, with_last}
+use Rattle.ring_terms.specs.Moves.{Informs, LeadsAfter}
+use Rattle.ring_terms.specs.Object.{GroupView, InGroup, Object, OfGroup, TermView, find, last_term}
 use Rattle.ring_terms.specs.Standings.{IsInformed, IsInformedIn}
 use Rattle.ring_terms.specs.declared.standing.Noting.{Noting}
 use Rattle.ring_terms.specs.declared.standing.Noting.TheVariants.{Noted, Known, Stale}
@@ -24,7 +24,7 @@ use Rattle.ring_terms.specs.Notes.{Notes}
 use Rattle.ring_mux.proofs.Carrying.{last_written}
 use Rattle.ring_mux.proofs.Holding.{find-with_group, same_name}
 use Rattle.ring_service.specs.Finishing.{AllInformed, FilesEach, FilesOne}
-use Rattle.ring_service.specs.Tables.{HasFiled, TableView}
+use Rattle.ring_service.specs.Tables.{TableView}
 
 -- what is there after a write: at the place the written, and elsewhere what was there
 written_here : (xs : List Bool) (i : ℕ) (x y : Bool) → slice_get xs i ≡ Some x → slice_get (slice_set xs i y) i ≡ Some y

@@ -1,5 +1,5 @@
 -- What an answer of an access says of a line, where its place is told too.
-use Rattle.std.proofs.Common.{◌≡◌, ◌<◌, ℕ, List, length, refl}
+use Rattle.std.proofs.Common.{ℕ, List, refl}
 use Rattle.ring_id.specs.declared.refusal.Refusal.TheVariants.{BadLine}
 use Rattle.ring_any.specs.Any.{any_greatest, any_two_way}
 use Rattle.ring_any.specs.declared.any.Any.{Any}
@@ -12,7 +12,7 @@ use Rattle.ring_service.specs.declared.access.Answer.{Answer}
 use Rattle.ring_service.specs.declared.access.Answer.TheVariants.{Placed, Unplaced}
 use Rattle.ring_service.specs.declared.entry.Entry.{Entry}
 use Rattle.ring_service.specs.declared.entry.Entry.TheVariants.{Call}
-use Rattle.ring_service.proofs.Replying.{answers_line, long_line, unread_line}
+use Rattle.ring_service.proofs.Replying.{answers_line, unread_line}
 
 -- a line that spells a command is answered by what the access answers to it
 pub places_line : (session : ℕ) (line : List ℕ) (command : Command Any) (mine : List (Entry Any)) (answer : Answer) (now : List (Entry Any)) →
@@ -23,7 +23,3 @@ places_line session line command mine (Unplaced refusal) now spelled a = (answer
 -- a line that spells none is refused, and has no place
 pub unread_place : (session : ℕ) (line : List ℕ) (mine : List (Entry Any)) → ((command : Command Any) → Spells line (Client command) → ⊥) → PlacesIn session line mine (Unplaced BadLine) mine
 unread_place session line mine unread = (unread_line session line mine unread, refl)
-
--- among them each line of more than 128 bytes
-pub long_place : (session : ℕ) (line : List ℕ) (mine : List (Entry Any)) → 128 < length line → PlacesIn session line mine (Unplaced BadLine) mine
-long_place session line mine long = (long_line session line mine long, refl)

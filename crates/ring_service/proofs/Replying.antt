@@ -1,12 +1,11 @@
 -- What an answer of an access says of the line that asked for it.
-use Rattle.std.proofs.Common.{◌≡◌, ◌≤◌, ◌<◌, ℕ, List, [], ◌∷◌, ◌++◌, length, refl, sym, ◌∙◌, append-nil, arith, inl, inr}
+use Rattle.std.proofs.Common.{ℕ, List, [], ◌∷◌, refl, sym, ◌∙◌, append-nil, inl, inr}
 use Rattle.ring_id.specs.declared.refusal.Refusal.TheVariants.{BadLine}
 use Rattle.ring_any.specs.Any.{any_greatest, any_two_way}
 use Rattle.ring_any.specs.declared.any.Any.{Any}
 use Rattle.ring_mux.specs.declared.event.Command.{Command}
 use Rattle.ring_mux.specs.declared.event.Command.TheVariants.{Start}
 use Rattle.ring_mux.specs.declared.event.Event.TheVariants.{Client}
-use Rattle.ring_mux.specs.declared.reply.Reply.{Reply}
 use Rattle.ring_mux.specs.declared.reply.Reply.TheVariants.{Refused}
 use Rattle.ring_node.specs.declared.charter.Charter.{Charter}
 use Rattle.ring_grammar.specs.Spelling.{Spells}
@@ -44,7 +43,3 @@ answers_line session line command mine (Unplaced refusal) now spelled a =
 -- a line that spells none is refused
 pub unread_line : (session : ℕ) (line : List ℕ) (mine : List (Entry Any)) → ((command : Command Any) → Spells line (Client command) → ⊥) → AnswersIn session line mine (Refused BadLine) mine
 unread_line session line mine unread = ([], inr (inr (record { unread = unread; refused = refl; none = refl })), sym (append-nil mine))
-
--- among them each line of more than 128 bytes
-pub long_line : (session : ℕ) (line : List ℕ) (mine : List (Entry Any)) → 128 < length line → AnswersIn session line mine (Refused BadLine) mine
-long_line session line mine long = unread_line session line mine (λ command spelled. let short : length line ≤ 128 = spelled.short in absurd (omega arith))

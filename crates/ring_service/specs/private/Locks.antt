@@ -14,7 +14,6 @@ use Rattle.ring_service.specs.declared.access.Answer.TheVariants.{Placed, Unplac
 use Rattle.ring_service.specs.declared.entry.Entry.{Entry}
 use Rattle.ring_service.specs.declared.entry.Entry.TheVariants.{Call}
 use Rattle.ring_workers.specs.declared.desk.Filed.{Filed}
-use Rattle.ring_workers.specs.declared.desk.Filed.TheVariants as filed
 
 -- A call that was made: the table has it, its place is the length of the history after it, and the
 -- seat has it too.

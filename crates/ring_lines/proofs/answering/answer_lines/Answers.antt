@@ -1,4 +1,4 @@
-use Rattle.std.proofs.Common.{ap, subst, List, [], ◌∷◌, ◌++◌}
+use Rattle.std.proofs.Common.{ap, subst, [], ◌∷◌, ◌++◌}
 use Rattle.std.specs.List.{AllZip}
 use Rattle.ring_lines.specs.Reader.{ShowsLine, answer_told}
 use Rattle.ring_lines.specs.Rounds.{RunOf}

@@ -1,6 +1,5 @@
-use Rattle.std.proofs.Common.{rules, ◌≡◌, ◌*◌, ◌-◌, List, arith, sym, ◌∙◌, ap}
+use Rattle.std.proofs.Common.{arith, ◌∙◌, ap}
 use Rattle.std.specs.List.{slice_get}
-use Rattle.std.specs.Slice.{IsItemAt}
 use Rattle.ring_service.proofs.Chunking.{found_in_chunk, found_in_tail}
 use Rattle.ring_service.proofs.chunks.Chunks.get.Goals as goal
 

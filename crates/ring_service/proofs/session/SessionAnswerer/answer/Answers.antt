@@ -1,6 +1,8 @@
--- The reply to a line is what the access answers to its command.
+-- The reply to a line is what the access answers to the command that it spells.
+use Rattle.std.proofs.Common.{subst}
+use Rattle.ring_service.specs.Sessions.{AsksCommand}
 use Rattle.ring_service.proofs.Replying.{answers_line}
 use Rattle.ring_service.proofs.session.SessionAnswerer.answer.Goals as goal
 
 pub returns-in-Some-clause-answer : goal.returns-in-Some-clause-answer
-returns-in-Some-clause-answer g c = rw c.into_reply.ensures (answers_line _ _ c.in-Some.command _ _ _ c.in-Some.ensures.some c.answer.ensures.entry)
+returns-in-Some-clause-answer g c = λ line asks. rw c.into_reply.ensures (answers_line _ line c.in-Some.command _ _ _ (subst (AsksCommand line) c.in-Some.is asks) c.answer.ensures.entry)
