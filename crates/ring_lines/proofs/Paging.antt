@@ -1,24 +1,10 @@
 -- What is put on a page, and what is written of it.
-use Rattle.std.proofs.Common.{◌≡◌, ◌≤◌, ℕ, List, ◌++◌, ◌∷◌, [], length, take, refl, arith, length-append}
+use Rattle.std.proofs.Common.{◌≡◌, ◌≤◌, ℕ, List, ◌++◌, [], length, take, refl, arith, length-append}
 use Rattle.std.proofs.lemmas.List.{take_at}
-use Rattle.ring_lines.specs.Ends.{Writing, CallsLead, bytes_of, Wrote, WroteFront}
-use Rattle.ring_lines.specs.Page.{PageView, PageTakes}
-use Rattle.ring_lines.proofs.Calling.{Calls-add}
+use Rattle.ring_lines.specs.Ends.{Writing, Wrote}
 use Rattle.ring_lines.specs.laws.Sequences.{wrote_none}
 use Rattle.ring_lines.specs.private.Pages.{Passes}
 use Rattle.ring_grammar.specs.Appending.{AppendsFront}
-
--- the calls add their bytes to the text on a page
-page_text : (from : PageView) (log : List Writing) (to : PageView) → CallsLead PageTakes from log to → to.text ≡ from.text ++ bytes_of log
-page_text = Calls-add PageTakes (λ page. page.text) (λ from answer to takes. takes.text)
-
--- what was put on it in part can be cut off again
-pub take-wrote_front : (from to : PageView) (text : List ℕ) → WroteFront PageTakes from text to → take (length from.text) to.text ≡ from.text
-take-wrote_front from to text w = rw (page_text from (w.before ++ w.last ∷ []) to w.calls) (take_at from.text _ _ refl)
-
-pub length-wrote_front : (from to : PageView) (text : List ℕ) → WroteFront PageTakes from text to → length from.text ≤ length to.text
-length-wrote_front from to text w =
-    rw (page_text from (w.before ++ w.last ∷ []) to w.calls) (omega (arith, length-append from.text (bytes_of (w.before ++ w.last ∷ []))))
 
 -- the page is as it was once a front that was put on it is cut off
 pub take-appends_front : (from text to : List ℕ) → AppendsFront from text to → take (length from) to ≡ from

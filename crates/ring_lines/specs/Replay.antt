@@ -1,6 +1,6 @@
 -- Replays over bytes: each line of the input is answered by one line, and the answers are one run of
 -- the election object and of the worlds below it.
-use Rattle.std.specs.Prelude.{◌≡◌, ◌⊎◌, ℕ, List, [], Option, Some, None, Result}
+use Rattle.std.specs.Prelude.{◌≡◌, ◌⊎◌, ℕ, List, [], Result}
 use Rattle.ring_id.specs.declared.refusal.Refusal.TheVariants.{BadLine}
 use Rattle.ring_any.specs.Any.{any_greatest, any_table, any_two_way}
 use Rattle.ring_any.specs.declared.any.Any.{Any}
@@ -31,11 +31,6 @@ pub record IsBad (line : List ℕ) (old : Held Any AnyMsg) (answer : Reply) (new
   pub none : (event : Event Any) → ¬ (Spells line event)
   pub refused : answer ≡ Refused BadLine
   pub same : new ≡ old
-
--- What a line asks: the event that it spells, or nothing where it spells none.
-abbrev pub AsksEvent : List ℕ → Option (Event Any) → Type 0
-AsksEvent line (Some event) = Spells line event
-AsksEvent line None = (event : Event Any) → ¬ (Spells line event)
 
 -- the reply to a line
 abbrev pub RepliesTo : List ℕ → Held Any AnyMsg → Reply → Held Any AnyMsg → Type 0

@@ -15,7 +15,8 @@ use std::alloc::Global;
 pub(crate) struct Replayer;
 
 impl Answerer for Replayer {
-    ghost use Rattle.ring_lines.specs.Replay.{AsksEvent, RepliesTo};
+    ghost use Rattle.ring_lines.specs.Replay.{RepliesTo};
+    ghost use Rattle.ring_lines.specs.private.Asking.{AsksEvent};
 
     type State = Mux<Any>;
 

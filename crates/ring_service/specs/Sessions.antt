@@ -1,6 +1,6 @@
 -- Sessions over bytes: each line of the input is answered by one line. What a line adds to the list of
 -- entries that the session's seat has is a call of this session, with the reply that the line got.
-use Rattle.std.specs.Prelude.{◌≡◌, ◌⊎◌, ℕ, List, [], ◌∷◌, ◌++◌, Option, Some, None, Result}
+use Rattle.std.specs.Prelude.{◌≡◌, ◌⊎◌, ℕ, List, [], ◌∷◌, ◌++◌, Result}
 use Rattle.ring_id.specs.declared.refusal.Refusal.{Refusal}
 use Rattle.ring_id.specs.declared.refusal.Refusal.TheVariants.{BadLine}
 use Rattle.ring_any.specs.Any.{any_greatest, any_two_way}
@@ -41,11 +41,6 @@ pub record IsUnread (line : List ℕ) (answer : Reply) (gained : List (Entry Any
   pub unread : (command : Command Any) → ¬ (Spells line (Client command))
   pub refused : answer ≡ Refused BadLine
   pub none : gained ≡ []
-
--- What a line asks: the client command that it spells, or nothing where it spells none.
-abbrev pub AsksCommand : List ℕ → Option (Command Any) → Type 0
-AsksCommand line (Some command) = Spells line (Client command)
-AsksCommand line None = (command : Command Any) → ¬ (Spells line (Client command))
 
 -- the reply to a line of this session, and what the seat gained by it
 abbrev pub RepliesTo : ℕ → List ℕ → Reply → List (Entry Any) → Type 0

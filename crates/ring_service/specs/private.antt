@@ -1,3 +1,4 @@
+pub mod Asking
 pub mod Chunks
 pub mod Locks
 pub mod Posts

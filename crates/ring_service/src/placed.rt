@@ -68,7 +68,7 @@ pub(crate) struct PlacedSession<'a, A: Drop, R> {
 
 impl<A: Access<Any> + Drop, R: Wait> Answerer for PlacedSession<'_, A, R> {
     ghost use Rattle.ring_service.specs.Places.{PlacesIn};
-    ghost use Rattle.ring_service.specs.Sessions.{AsksCommand};
+    ghost use Rattle.ring_service.specs.private.Asking.{AsksCommand};
 
     type State = A::Seat;
 

@@ -25,7 +25,8 @@ impl<'b, A: Access<Any> + Drop, R: Wait> Session<'b, A, R> {
 }
 
 impl<A: Access<Any> + Drop, R: Wait> Answerer for Session<'_, A, R> {
-    ghost use Rattle.ring_service.specs.Sessions.{AnswersIn, AsksCommand};
+    ghost use Rattle.ring_service.specs.Sessions.{AnswersIn};
+    ghost use Rattle.ring_service.specs.private.Asking.{AsksCommand};
 
     type State = A::Seat;
 

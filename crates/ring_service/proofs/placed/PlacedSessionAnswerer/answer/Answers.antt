@@ -1,6 +1,6 @@
 -- The answer to a line is what the access answers to the command that it spells.
 use Rattle.std.proofs.Common.{subst}
-use Rattle.ring_service.specs.Sessions.{AsksCommand}
+use Rattle.ring_service.specs.private.Asking.{AsksCommand}
 use Rattle.ring_service.proofs.Placing.{places_line}
 use Rattle.ring_service.proofs.placed.PlacedSessionAnswerer.answer.Goals as goal
 

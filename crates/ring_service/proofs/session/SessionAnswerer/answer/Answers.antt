@@ -1,6 +1,6 @@
 -- The reply to a line is what the access answers to the command that it spells.
 use Rattle.std.proofs.Common.{subst}
-use Rattle.ring_service.specs.Sessions.{AsksCommand}
+use Rattle.ring_service.specs.private.Asking.{AsksCommand}
 use Rattle.ring_service.proofs.Replying.{answers_line}
 use Rattle.ring_service.proofs.session.SessionAnswerer.answer.Goals as goal
 
