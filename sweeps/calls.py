@@ -13,24 +13,18 @@ import tempfile
 
 from sweep import Bad, ROOT
 
-# Sessions over a front, some of which fail.
-FRONT = ("front::tests::a_session_counts_its_lines", "front::tests::a_session_tells_which_end_failed")
-# Two sessions or two threads at one table.
+# Sessions over a front, some of which fail, and two sessions or two threads at one table.
 SHARED = ("session_rows::", "thread_rows::")
 # Tests that ask once more, by crate and by the beginnings of their names: for each growth they have to pass.
 ASK_AGAIN = {
-    "ring_grammar_tests": ("",),
-    "ring_lines_tests": ("",),
     "ring_rows_tests": ("",),
-    "ring_service_tests": (*FRONT, "table::tests::"),
-    "ring_turn_rows_tests": ("seat_rows::", *SHARED),
+    "ring_turn_rows_tests": ("seat_rows::", "table_rows::", *SHARED),
     "ring_worker_rows_tests": ("starved_worker::",),
 }
 # Tests that start threads, and end whichever growth is refused.
 THREADED = {
-    "ring_service_tests": FRONT,
     "ring_turn_rows_tests": SHARED,
-    "ringd_tests": ("listening::tests::a_failed_", "running::tests::a_run_says_that_it_listens"),
+    "ringd_tests": ("tests::listening::a_failed_", "tests::running::a_run_says_", "tests::running::a_spent_guest_"),
 }
 # What the test program says where a test ends by an error, and where it stops at an assertion.
 ENDED, STOPPED = b"the test failed: its result gives status 1\n", b"\ntest stopped at "

@@ -73,6 +73,3 @@ fn read_input(rt: &(impl Input + AllocGlobal)) -> io::Result<String> {
     BufReader::new(rt.alloc(), rt.reader())?.read_to_string(&mut text)?;
     Ok(text)
 }
-
-#[cfg(test)]
-mod tests;

@@ -185,6 +185,3 @@ fn compare(alloc: Global, place: u64, reply: &Reply, wanted: &str) -> Result<(),
     }
     Ok(())
 }
-
-#[cfg(test)]
-mod tests;

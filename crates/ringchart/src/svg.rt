@@ -343,6 +343,3 @@ impl Drawing {
         Ok(())
     }
 }
-
-#[cfg(test)]
-mod tests;

@@ -230,6 +230,3 @@ fn name(alloc: Global, member: NodeId, leads: bool) -> Result<String, AllocError
         Ok(name)
     }
 }
-
-#[cfg(test)]
-mod tests;

@@ -122,6 +122,3 @@ fn owned(alloc: Global, word: Option<&str>) -> Result<Option<String>, AllocError
         None => Ok(None),
     }
 }
-
-#[cfg(test)]
-mod tests;

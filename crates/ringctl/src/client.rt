@@ -84,6 +84,3 @@ impl<S: Read + Write + Drop> Client<S> {
 fn read_bounded<R: BufRead>(reader: &mut R, line: &mut String) -> io::Result<usize> {
     reader.take(LONGEST).read_line(line)
 }
-
-#[cfg(test)]
-mod tests;

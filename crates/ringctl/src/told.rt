@@ -80,6 +80,3 @@ impl Told {
         News { started, leader }
     }
 }
-
-#[cfg(test)]
-mod tests;

@@ -207,6 +207,3 @@ fn line_of(alloc: Global, words: &[&str]) -> Result<String, AllocError> {
     }
     Ok(line)
 }
-
-#[cfg(test)]
-mod tests;
