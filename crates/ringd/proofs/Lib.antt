@@ -1,12 +1,2 @@
-mod Subcommands
-mod CommandLine
-mod Counts
-mod Levels
-mod Rows
-mod Taken
 mod Telling
-mod Numbers
-mod Adding
 mod Wholes
-mod Gaining
-mod Turned

@@ -1,10 +1,10 @@
 -- What `serve` and `run` tell, from their file to their end.
 use Rattle.std.specs.Prelude.{◌≡◌, List, ℕ}
 use Rattle.ring_lines.specs.Ends.{Writing}
-use Rattle.ringd.specs.declared.fault.ProgramFault.{ProgramFault}
-use Rattle.ringd.specs.declared.fault.ProgramFault.TheVariants.{Bad, Listen, Unreadable}
-use Rattle.ringd.specs.Listening.{BothAt}
-use Rattle.ringd.specs.Running.{FirstOrNone}
+use Rattle.ring_server.specs.declared.fault.ProgramFault.{ProgramFault}
+use Rattle.ring_server.specs.declared.fault.ProgramFault.TheVariants.{Bad, Listen, Unreadable}
+use Rattle.ring_server.specs.Listening.{BothAt}
+use Rattle.ring_server.specs.Running.{FirstOrNone}
 
 -- What was written at a fault of `serve`: nothing before the port is listened on, and then what `BothAt` says.
 abbrev pub ServedAt : {V : Type 0} → (V → Writing → V → Type 0) → V → List ℕ → List ℕ → ProgramFault → V → Type 0

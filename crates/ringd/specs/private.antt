@@ -1,4 +1,1 @@
-pub mod Listening
 pub mod Run
-pub mod Running
-pub mod Words

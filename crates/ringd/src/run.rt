@@ -1,16 +1,13 @@
 //! What the program does with the world: its standard streams, its file and its port.
 ghost use Rattle.std.specs.Prelude.{◌≡◌, ◌≤◌, ◌++◌, ◌⊎◌, ℕ, List, IfErr, IfOk, IfSome, MatchResult, length};
 ghost use Rattle.ring_lines.specs.Ends.{Wrote, WroteFront};
-ghost use Rattle.ringd.specs.Listening.{closed_line, listening_line};
+ghost use Rattle.ring_server.specs.Listening.{closed_line, listening_line};
 ghost use Rattle.ringd.specs.private.Run.{IsOfFile};
 ghost use Rattle.ringd.specs.Run.{RanAt, ServedAt};
 
-use crate::config::Config;
-use crate::fault::ProgramFault;
-use crate::listening::{accept_loop, tell};
-use crate::reading::read_config;
-use crate::running::{Limits, run_loop};
+use ring_config::{Config, read_config};
 use ring_lines::{FromRead, Outlet, ToWrite};
+use ring_server::{Limits, ProgramFault, accept_loop, run_loop, tell};
 use std::alloc::Global;
 use std::fs::Files;
 use std::io::{ErrorKind, Read};

@@ -1,7 +1,7 @@
 use super::{read_whole, tell_version};
-use crate::fault::ProgramFault;
-use crate::words::{WordsFault, read_words};
 use ring_lines::Page;
+use ring_server::ProgramFault;
+use ring_words::{WordsFault, read_words};
 use std::alloc::{AllocError, Global};
 
 // What is read of a text; asked for again where memory is refused.

@@ -1,0 +1,10 @@
+//! The configuration of a service, and the TOML text that spells it.
+//!
+//! `read_config` gives a configuration only of a text that spells it, and calls no such text bad.
+#![tactic(auto)]
+
+mod config;
+mod reading;
+
+pub use config::{Config, ConfigFault};
+pub use reading::read_config;

@@ -1,0 +1,245 @@
+-- Words that the command line takes, where they name `serve` or `run`, give rows with what those need.
+use Rattle.std.proofs.Common.{◌≡◌, ◌∙◌, ◌||◌, Bool, ℕ, codes, cond, true, false, not, refl, sym, ap, subst, inl, inr, List, [], ◌∷◌, length, Option, Some, None, option_map}
+use Rattle.std.specs.Prelude.{find, pos, slice_get, unwrap_or, option_and_then}
+use Rattle.std.specs.Str.{bytes_eq}
+use Rattle.clap.specs.Kinds.{range_kinds}
+use Rattle.clap.specs.Lexer.{without_minus}
+use Rattle.clap.specs.Takes.{is_given}
+use Rattle.clap.specs.ValueTests.{accepts}
+use Rattle.clap.specs.Values.{read_as, reading_of}
+use Rattle.clap.specs.Facts.{parser_of_value}
+use Rattle.clap.specs.declared.builder.value_parser.Reading.{Reading}
+use Rattle.clap.specs.declared.builder.value_parser.Reading.TheVariants.{WithoutMinus}
+use Rattle.clap.specs.declared.builder.value_parser.ValueParser.{ValueParser}
+use Rattle.clap.specs.Walk.{Row, Rule, Text, first_of, one_of, row_text, rows_after}
+use Rattle.clap.specs.declared.error.kind.ErrorKind.TheVariants.{DisplayHelp, MissingRequiredArgument}
+use Rattle.clap.specs.declared.builder.value_parser.ValueParser.TheVariants as parser
+use Rattle.clap.proofs.ValueTestLemmas.{accepts-Accepts}
+use Rattle.ring_words.specs.private.Words.{HasFile, HasNumber, IsRun, IsRunOf, IsServeOf, IsServed, MayHaveNumber}
+use Rattle.ring_words.specs.Words.{IsGiven, Names, config_rule}
+use Rattle.ring_words.specs.declared.words.Order.{Order}
+use Rattle.ring_words.specs.declared.words.Order.TheVariants.{Replay, Run, Serve}
+use Rattle.ring_words.proofs.CommandLine.{IsLevel, names_one, run_below, serve_below}
+use Rattle.ring_words.proofs.Levels.{Each, EachKeeps, Keeps}
+use Rattle.ring_words.proofs.Rows.{IsRead, KeepDefaults, flag_keeps, level_checks, level_reads, no_default, other_default, other_use, own_use, row_given, row_reads, set_keeps}
+use Rattle.ring_words.proofs.Subcommands.{second_has_none}
+
+-- the arguments of `serve`, as a parse reads them
+abbrev serve_config : Rule
+serve_config = unwrap_or (slice_get serve_below.rules 0) config_rule
+
+abbrev serve_connections : Rule
+serve_connections = unwrap_or (slice_get serve_below.rules 1) config_rule
+
+-- those of `run`
+abbrev run_config : Rule
+run_config = unwrap_or (slice_get run_below.rules 0) config_rule
+
+abbrev run_sessions : Rule
+run_sessions = unwrap_or (slice_get run_below.rules 1) config_rule
+
+abbrev run_idle : Rule
+run_idle = unwrap_or (slice_get run_below.rules 2) config_rule
+
+abbrev run_places : Rule
+run_places = unwrap_or (slice_get run_below.rules 3) config_rule
+
+-- the help flag of both
+abbrev help_flag : Rule
+help_flag = unwrap_or (slice_get serve_below.rules 2) config_rule
+
+-- rows of a file that was given
+has_file : (a : Rule) (rows : List Row) → a.id ≡ codes "config" → Each (IsRead a) rows → is_given a.id rows ≡ true → HasFile rows
+has_file a rows named read given =
+    let found = row_given a rows given in
+    let well = row_reads a rows found.0 read found.1 in
+    record {
+      path = well.text;
+      file = ap (λ (id : Text). first_of id rows) (sym named) ∙ ap (option_and_then (λ (r : Row). slice_get r.values 0)) found.1 ∙ well.first;
+    }
+
+-- the row of an option with a number in bounds
+has_number : (a : Rule) (name : Text) (least most : ℕ) (rows : List Row) (row : Row) → a.id ≡ name → a.parser ≡ Some (parser.Signed (pos least) (pos most)) → Each (IsRead a) rows
+    → find (λ (r : Row). bytes_eq r.id a.id) rows ≡ Some row → HasNumber name least most rows
+has_number a name least most rows row named parsed read found =
+    let well = row_reads a rows row read found in
+    let how : row.reading ≡ WithoutMinus = well.read ∙ ap (λ (p : Option ValueParser). reading_of (parser_of_value p)) parsed in
+    let reads : row_text row ≡ Some (without_minus well.text) =
+    ap (λ (by : Reading). option_map (read_as by) (slice_get row.values 0)) how ∙ ap (option_map (read_as WithoutMinus)) well.first in
+    let accepted = subst (λ (p : Option ValueParser). accepts a.ignore_case (parser_of_value p) well.text ≡ true) parsed well.passed in
+    record {
+      text = well.text;
+      given = ap (λ (id : Text). one_of id rows) (sym named) ∙ ap (option_and_then row_text) found ∙ reads;
+      passed = accepts-Accepts a.ignore_case (parser.Signed (pos least) (pos most)) well.text accepted;
+    }
+
+-- and of one that may be left out
+may_have_number : (a : Rule) (name : Text) (least most : ℕ) (rows : List Row) → a.id ≡ name → a.parser ≡ Some (parser.Signed (pos least) (pos most)) → Each (IsRead a) rows
+    → MayHaveNumber name least most rows
+may_have_number a name least most rows named parsed read = go (find (λ (r : Row). bytes_eq r.id a.id) rows) refl
+  where
+    go : (o : Option Row) → find (λ (r : Row). bytes_eq r.id a.id) rows ≡ o → MayHaveNumber name least most rows
+    go None none = inl (ap (λ (id : Text). one_of id rows) (sym named) ∙ ap (option_and_then row_text) none)
+    go (Some row) found = inr (has_number a name least most rows row named parsed read found)
+
+-- a use of the help flag never keeps anything from being answered by help
+help_keeps : (good : Row → Type 0) → Keeps serve_below good help_flag
+help_keeps good values rows all none =
+    let asked : DisplayHelp ∷ [] ≡ [] = second_has_none (range_kinds 0 0 (length values)) (DisplayHelp ∷ []) none in
+    absurd (cc)
+
+-- each argument of `serve` keeps the rows of its file well read, and those of its number
+serve_keeps_config : EachKeeps serve_below (IsRead serve_config) serve_below.rules
+serve_keeps_config = (
+  set_keeps false serve_config serve_config (own_use serve_config) refl,
+  (
+    set_keeps false serve_config serve_connections (other_use serve_config serve_connections refl) refl,
+    (
+      help_keeps (IsRead serve_config),
+      tt,
+    ),
+  ),
+)
+
+serve_keeps_connections : EachKeeps serve_below (IsRead serve_connections) serve_below.rules
+serve_keeps_connections = (
+  set_keeps false serve_connections serve_config (other_use serve_connections serve_config refl) refl,
+  (
+    set_keeps false serve_connections serve_connections (own_use serve_connections) refl,
+    (
+      help_keeps (IsRead serve_connections),
+      tt,
+    ),
+  ),
+)
+
+-- so does each argument of `run`
+run_keeps_config : EachKeeps run_below (IsRead run_config) run_below.rules
+run_keeps_config = (
+  set_keeps false run_config run_config (own_use run_config) refl,
+  (
+    set_keeps false run_config run_sessions (other_use run_config run_sessions refl) refl,
+    (
+      set_keeps false run_config run_idle (other_use run_config run_idle refl) refl,
+      (
+        flag_keeps false run_config run_places refl refl,
+        (
+          help_keeps (IsRead run_config),
+          tt,
+        ),
+      ),
+    ),
+  ),
+)
+
+run_keeps_sessions : EachKeeps run_below (IsRead run_sessions) run_below.rules
+run_keeps_sessions = (
+  set_keeps false run_sessions run_config (other_use run_sessions run_config refl) refl,
+  (
+    set_keeps false run_sessions run_sessions (own_use run_sessions) refl,
+    (
+      set_keeps false run_sessions run_idle (other_use run_sessions run_idle refl) refl,
+      (
+        flag_keeps false run_sessions run_places refl refl,
+        (
+          help_keeps (IsRead run_sessions),
+          tt,
+        ),
+      ),
+    ),
+  ),
+)
+
+run_keeps_idle : EachKeeps run_below (IsRead run_idle) run_below.rules
+run_keeps_idle = (
+  set_keeps false run_idle run_config (other_use run_idle run_config refl) refl,
+  (
+    set_keeps false run_idle run_sessions (other_use run_idle run_sessions refl) refl,
+    (
+      set_keeps false run_idle run_idle (own_use run_idle) refl,
+      (
+        flag_keeps false run_idle run_places refl refl,
+        (
+          help_keeps (IsRead run_idle),
+          tt,
+        ),
+      ),
+    ),
+  ),
+)
+
+-- the default of the flag of `run` keeps the rows of any other argument well read, and no other argument has one
+run_defaults : (wanted : Rule) → bytes_eq run_places.id wanted.id ≡ false → KeepDefaults (IsRead wanted) run_below.rules
+run_defaults wanted other = (
+  no_default (IsRead wanted) run_config refl,
+  (
+    no_default (IsRead wanted) run_sessions refl,
+    (
+      no_default (IsRead wanted) run_idle refl,
+      (
+        other_default wanted run_places other,
+        (
+          no_default (IsRead wanted) help_flag refl,
+          tt,
+        ),
+      ),
+    ),
+  ),
+)
+
+-- what is required was given, where the last checks have no mistake
+both_given : (x y : Bool) → cond (not x || (not y || false)) (MissingRequiredArgument ∷ []) [] ≡ [] → (x ≡ true) × (y ≡ true)
+both_given true true none = (refl, refl)
+both_given true false none = absurd (cc)
+both_given false y none = absurd (cc)
+
+one_given : (x : Bool) → cond (not x || false) (MissingRequiredArgument ∷ []) [] ≡ [] → x ≡ true
+one_given true none = refl
+one_given false none = absurd (cc)
+
+-- the level of `serve` gives a file and a number
+serve_gives : (rows : List Row) → IsLevel serve_below rows → IsServed rows
+serve_gives rows level =
+    let there = rows_after serve_below.rules [] level.given in
+    let given = both_given (is_given serve_config.id there) (is_given serve_connections.id there) (level_checks serve_below level.given level.fine) in
+    let config_read = level_reads serve_below (IsRead serve_config) serve_keeps_config (no_default (IsRead serve_config) serve_config refl, (no_default (IsRead serve_config) serve_connections refl, (no_default (IsRead serve_config) help_flag refl, tt))) level.given level.fine in
+    let connections_read = level_reads serve_below (IsRead serve_connections) serve_keeps_connections (no_default (IsRead serve_connections) serve_config refl, (no_default (IsRead serve_connections) serve_connections refl, (no_default (IsRead serve_connections) help_flag refl, tt))) level.given level.fine in
+    let row = row_given serve_connections there given.1 in
+    subst IsServed (sym level.is) (record {
+      file = has_file serve_config there refl config_read given.0;
+      connections = has_number serve_connections (codes "connections") 1 64 there row.0 refl refl connections_read row.1;
+    })
+
+-- the level of `run` gives a file, and may give two numbers
+run_gives : (rows : List Row) → IsLevel run_below rows → IsRun rows
+run_gives rows level =
+    let there = rows_after run_below.rules [] level.given in
+    let given = one_given (is_given run_config.id there) (level_checks run_below level.given level.fine) in
+    let config_read = level_reads run_below (IsRead run_config) run_keeps_config (run_defaults run_config refl) level.given level.fine in
+    let sessions_read = level_reads run_below (IsRead run_sessions) run_keeps_sessions (run_defaults run_sessions refl) level.given level.fine in
+    let idle_read = level_reads run_below (IsRead run_idle) run_keeps_idle (run_defaults run_idle refl) level.given level.fine in
+    subst IsRun (sym level.is) (record {
+      file = has_file run_config there refl config_read given;
+      sessions = may_have_number run_sessions (codes "sessions") 1 64 there refl refl sessions_read;
+      idle = may_have_number run_idle (codes "idle") 0 86400 there refl refl idle_read;
+    })
+
+-- words that name `serve` give its rows
+pub named_serves : (words : List Text) (rows : List Row) → Names words (codes "serve") rows → IsServed rows
+named_serves words rows names = serve_gives rows ((names_one words (codes "serve") rows names).1.0 refl)
+
+-- and words that name `run`
+pub named_runs : (words : List Text) (rows : List Row) → Names words (codes "run") rows → IsRun rows
+named_runs words rows names = run_gives rows ((names_one words (codes "run") rows names).1.1 refl)
+
+-- so the order of `serve` is the one that the words give
+pub serves_as_given : (words : List Text) (rows : List Row) (order : Order) → Names words (codes "serve") rows → IsServeOf rows order → IsGiven words order
+serves_as_given words rows Replay names told = absurd told
+serves_as_given words rows (Serve path connections) names told = (rows, names, told)
+serves_as_given words rows (Run path sessions idle places) names told = absurd told
+
+-- and so that of `run`
+pub runs_as_given : (words : List Text) (rows : List Row) (order : Order) → Names words (codes "run") rows → IsRunOf rows order → IsGiven words order
+runs_as_given words rows Replay names told = absurd told
+runs_as_given words rows (Serve path connections) names told = absurd told
+runs_as_given words rows (Run path sessions idle places) names told = (rows, names, told)

@@ -1,0 +1,69 @@
+use Rattle.std.proofs.Common.{◌∙◌, List, ap, inl, inr, map, subst}
+use Rattle.std.specs.Prelude.{string_bytes}
+use Rattle.clap.specs.Words.{Text, app_of, found_of, rows_of, takes}
+use Rattle.ring_words.specs.Words.{Names, ringd_app}
+use Rattle.ring_words.proofs.CommandLine.{fails_for_memory, meets, names_one, replay_is_taken}
+use Rattle.ring_words.proofs.Taken.{named_runs, named_serves, runs_as_given, serves_as_given}
+use Rattle.ring_words.proofs.words.read_words.Goals as goal
+
+pub returns-in_err-matches-clause-replay : goal.returns-in_err-matches-clause-replay
+returns-in_err-matches-clause-replay c = λ program are.
+    fails_for_memory (app_of c.in_ok-command.field-0) (map string_bytes c.args.words.now) c.in_err-matches.field-0.0 c.from_residual-in_err-matches.result c.in_ok-command.ensures
+    c.in_err-matches.ensures.passes c.from_residual-in_err-matches.ensures.1 (ap (λ (words : List Text). takes ringd_app words) are ∙ replay_is_taken program)
+
+pub returns-in_err-matches-clause-taken : goal.returns-in_err-matches-clause-taken
+returns-in_err-matches-clause-taken c =
+    fails_for_memory (app_of c.in_ok-command.field-0) (map string_bytes c.args.words.now) c.in_err-matches.field-0.0 c.from_residual-in_err-matches.result c.in_ok-command.ensures
+    c.in_err-matches.ensures.passes c.from_residual-in_err-matches.ensures.1
+
+pub returns-in-replay-clause-order : goal.returns-in-replay-clause-order
+returns-in-replay-clause-order c =
+    let words = map string_bytes c.args.words.now in
+    let rows = rows_of (found_of c.in-Some.given.now) in
+    let names = meets (app_of c.in_ok-command.field-0) words c.in_ok-matches.matches c.in-Some.name.now rows c.in_ok-command.ensures c.in_ok-matches.ensures.kinds c.in_ok-matches.ensures.matches
+    c.in-Some.ensures.name c.in-Some.ensures.rows in
+    (rows, subst (λ (name : Text). Names words name rows) c.in-replay.is names)
+
+pub serve_order-requires : goal.serve_order-requires
+serve_order-requires c =
+    let words = map string_bytes c.args.words.now in
+    let rows = rows_of (found_of c.in-Some.given.now) in
+    let names = meets (app_of c.in_ok-command.field-0) words c.in_ok-matches.matches c.in-Some.name.now rows c.in_ok-command.ensures c.in_ok-matches.ensures.kinds c.in_ok-matches.ensures.matches
+    c.in-Some.ensures.name c.in-Some.ensures.rows in
+    named_serves words rows (subst (λ (name : Text). Names words name rows) c.in-serve.is names)
+
+pub returns-in-serve-clause-order : goal.returns-in-serve-clause-order
+returns-in-serve-clause-order c =
+    let words = map string_bytes c.args.words.now in
+    let rows = rows_of (found_of c.in-Some.given.now) in
+    let names = meets (app_of c.in_ok-command.field-0) words c.in_ok-matches.matches c.in-Some.name.now rows c.in_ok-command.ensures c.in_ok-matches.ensures.kinds c.in_ok-matches.ensures.matches
+    c.in-Some.ensures.name c.in-Some.ensures.rows in
+    serves_as_given words rows c.in_ok-serve_order-in-serve.field-0 (subst (λ (name : Text). Names words name rows) c.in-serve.is names) c.in_ok-serve_order-in-serve.ensures
+
+pub run_order-requires : goal.run_order-requires
+run_order-requires c =
+    let words = map string_bytes c.args.words.now in
+    let rows = rows_of (found_of c.in-Some.given.now) in
+    let names = meets (app_of c.in_ok-command.field-0) words c.in_ok-matches.matches c.in-Some.name.now rows c.in_ok-command.ensures c.in_ok-matches.ensures.kinds c.in_ok-matches.ensures.matches
+    c.in-Some.ensures.name c.in-Some.ensures.rows in
+    named_runs words rows (subst (λ (name : Text). Names words name rows) c.in-run.is names)
+
+pub returns-in-run-clause-order : goal.returns-in-run-clause-order
+returns-in-run-clause-order c =
+    let words = map string_bytes c.args.words.now in
+    let rows = rows_of (found_of c.in-Some.given.now) in
+    let names = meets (app_of c.in_ok-command.field-0) words c.in_ok-matches.matches c.in-Some.name.now rows c.in_ok-command.ensures c.in_ok-matches.ensures.kinds c.in_ok-matches.ensures.matches
+    c.in-Some.ensures.name c.in-Some.ensures.rows in
+    runs_as_given words rows c.in_ok-run_order-in-run.field-0 (subst (λ (name : Text). Names words name rows) c.in-run.is names) c.in_ok-run_order-in-run.ensures
+
+pub unreachable-requires-in_default-name : goal.unreachable-requires-in_default-name
+unreachable-requires-in_default-name c =
+    let words = map string_bytes c.args.words.now in
+    let rows = rows_of (found_of c.in-Some.given.now) in
+    let names = meets (app_of c.in_ok-command.field-0) words c.in_ok-matches.matches c.in-Some.name.now rows c.in_ok-command.ensures c.in_ok-matches.ensures.kinds c.in_ok-matches.ensures.matches
+    c.in-Some.ensures.name c.in-Some.ensures.rows in
+    elim ((names_one words c.in-Some.name.now rows names).0) [
+      | inl replay ↦ c.in_default-name.not-replay replay
+      | inr (inl serve) ↦ c.in_default-name.not-serve serve
+      | inr (inr run) ↦ c.in_default-name.not-run run
+    ]

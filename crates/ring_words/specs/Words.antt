@@ -1,0 +1,108 @@
+-- The words that the program takes, and the order that they give.
+-- ---- the command line
+use Rattle.std.specs.Prelude.{◌≡◌, ◌≢◌, ◌≤◌, [], ⊤, Bool, ℕ, codes, pos, List, MatchOption, Option, None, Some, string_bytes, true, false}
+use Rattle.std.specs.Str.Parse.{digits_value, without_leading_plus}
+use Rattle.clap.specs.Words.{App, IsAmong, Row, Rule, Text, fault_of, first_of, kind_of, new_app, new_rule, one_of, subcommand_of, with_rule, with_subcommand}
+use Rattle.clap.specs.Simple.{new_shape, on_top}
+use Rattle.clap.specs.declared.builder.action.ArgAction.TheVariants.{SetTrue}
+use Rattle.clap.specs.declared.builder.value_parser.ValueParser.TheVariants as parser
+use Rattle.clap.specs.declared.error.Error.{Error}
+use Rattle.clap.specs.declared.error.kind.ErrorKind.TheVariants.{OutOfMemory}
+use Rattle.ring_words.specs.declared.words.Order.{Order}
+use Rattle.ring_words.specs.declared.words.Order.TheVariants.{Replay, Run, Serve}
+use Rattle.ring_words.specs.declared.words.WordsFault.{WordsFault}
+use Rattle.ring_words.specs.declared.words.WordsFault.TheVariants.{Usage, NoMemory}
+
+-- the name of a configuration's file, which must be given
+abbrev pub config_rule : Rule
+config_rule = record (new_rule (codes "config")) { value_names = 1; required = true }
+
+-- an option with a number from the least to the most
+abbrev pub number_rule : Text → ℕ → ℕ → Rule
+number_rule name least most = record (new_rule name) { long = Some name; value_names = 1; parser = Some (parser.Signed (pos least) (pos most)) }
+
+-- how many connections `serve` accepts, which must be given
+abbrev pub connections_rule : Rule
+connections_rule = record (number_rule (codes "connections") 1 64) { required = true }
+
+-- how many sessions `run` has at a time, and after how many seconds of silence it ends one
+abbrev pub sessions_rule : Rule
+sessions_rule = number_rule (codes "sessions") 1 64
+
+abbrev pub idle_rule : Rule
+idle_rule = number_rule (codes "idle") 0 86400
+
+-- whether `run` tells places
+abbrev pub places_rule : Rule
+places_rule = record (new_rule (codes "places")) { long = Some (codes "places"); action = Some SetTrue }
+
+-- `serve CONFIG --connections K`
+abbrev pub serve_app : App
+serve_app = with_rule (with_rule (new_app (codes "serve")) config_rule) connections_rule
+
+-- `run CONFIG`, with `--sessions N`, `--idle SECONDS` and `--places` where they are given
+abbrev pub run_app : App
+run_app = with_rule (with_rule (with_rule (with_rule (new_app (codes "run")) config_rule) sessions_rule) idle_rule) places_rule
+
+-- the command line: one of the subcommands `replay`, `serve` and `run` must be given; it has a version
+abbrev pub ringd_app : App
+ringd_app =
+    with_subcommand
+    (with_subcommand
+    (with_subcommand (on_top (λ s. record s { subcommand_required = true; has_version = true }) (new_app (codes "ringd"))) (new_shape (codes "replay")))
+    serve_app.top)
+    run_app.top
+
+-- ---- what the words give
+
+-- The command line takes the words, and they name this subcommand, with these rows for its arguments.
+pub record Names (words : List Text) (name : Text) (rows : List Row) : Type 0 where
+  pub taken : fault_of ringd_app words ≡ []
+  pub named : subcommand_of ringd_app words ≡ Some (name, rows)
+
+-- The text is that of the number, which lies in the bounds.
+pub record IsNumberIn (least most : ℕ) (text : Text) (n : ℕ) : Type 0 where
+  pub value : n ≡ digits_value 10 (without_leading_plus text)
+  pub some : least ≤ n
+  pub few : n ≤ most
+
+-- The rows of `serve`: its file and its number of connections.
+pub record Serves (rows : List Row) (path : Text) (connections : ℕ) : Type 0 where
+  pub file : first_of (codes "config") rows ≡ Some path
+  pub text : Text
+  pub given : one_of (codes "connections") rows ≡ Some text
+  pub number : IsNumberIn 1 64 text connections
+
+-- the number that is given for an option, or the usual one where none is
+abbrev pub IsGivenOr : ℕ → ℕ → ℕ → Option Text → ℕ → Type 0
+IsGivenOr usual least most given n = MatchOption given (n ≡ usual) (λ text. IsNumberIn least most text n)
+
+-- a flag: false where it has no text, and else what its text says
+abbrev pub IsFlag : Option Text → Bool → Type 0
+IsFlag given flag = (given ≡ None → flag ≡ false) × (given ≡ Some (codes "true") → flag ≡ true) × (given ≡ Some (codes "false") → flag ≡ false)
+
+-- The rows of `run`: its file, its number of sessions, 16 where none is given, its seconds, 0 where none
+-- are given, and whether it tells places.
+pub record Runs (rows : List Row) (path : Text) (sessions idle : ℕ) (places : Bool) : Type 0 where
+  pub file : first_of (codes "config") rows ≡ Some path
+  pub sessions_given : IsGivenOr 16 1 64 (one_of (codes "sessions") rows) sessions
+  pub idle_given : IsGivenOr 0 0 86400 (one_of (codes "idle") rows) idle
+  pub places_given : IsFlag (one_of (codes "places") rows) places
+
+-- the command line takes the words, and this is the order that they give
+abbrev pub IsGiven : List Text → Order → Type 0
+IsGiven words Replay = (rows : List Row) × Names words (codes "replay") rows
+IsGiven words (Serve path connections) = (rows : List Row) × Names words (codes "serve") rows × Serves rows (string_bytes path) connections
+IsGiven words (Run path sessions idle places) = (rows : List Row) × Names words (codes "run") rows × Runs rows (string_bytes path) sessions idle places
+
+-- ---- why words give none
+
+-- the words have a mistake of the error's kind, or memory was refused
+abbrev pub HasCause : List Text → WordsFault → Type 0
+HasCause words (Usage error) = IsAmong (kind_of error) (fault_of ringd_app words)
+HasCause words NoMemory = ⊤
+
+-- what the error is told as: itself, where it is not for want of memory
+abbrev pub IsFaultOf : Error → WordsFault → Type 0
+IsFaultOf error (Usage given) = (given ≡ error) × (kind_of error ≢ OutOfMemory)
+IsFaultOf error NoMemory = kind_of error ≡ OutOfMemory

@@ -1,0 +1,250 @@
+//! The words of the command line, and what they ask for.
+ghost use Rattle.std.specs.Prelude.{◌≡◌, ◌↔◌, ◌∷◌, [], ℕ, List, IfErr, IfOk, IsOkUnless, IsTrue, codes, false, map, string_bytes, true};
+ghost use Rattle.clap.specs.Words.{app_of, found_of, kind_of, rows_of, rule_of, takes, Text};
+ghost use Rattle.clap.specs.declared.error.kind.ErrorKind.TheVariants.{DisplayVersion, ValueValidation};
+ghost use Rattle.ring_words.specs.Words.{HasCause, IsFaultOf, IsGiven, config_rule, connections_rule, idle_rule, places_rule, ringd_app, run_app, serve_app, sessions_rule};
+ghost use Rattle.ring_words.specs.private.Words.{IsLocal, IsRun, IsRunOf, IsServeOf, IsServed};
+
+use clap::error::ErrorKind;
+use clap::{Arg, ArgAction, ArgMatches, Command};
+use std::alloc::{AllocError, Global};
+use thiserror::Error;
+
+// The version that `--version` tells.
+const VERSION: &str = "1.0.0";
+
+// How many sessions `run` has at a time where no number is given.
+const SESSIONS: u32 = 16;
+
+/// What the words ask the program to do.
+#[derive(Debug, Drop)]
+pub enum Order {
+    /// `ringd replay`: replies on standard output to the lines of standard input.
+    Replay,
+    /// `ringd serve CONFIG --connections K`: sessions for so many clients, and then the end.
+    Serve {
+        path: String,
+        connections: u32,
+    },
+    /// `ringd run CONFIG`: sessions for all clients, so many at a time, until the process is ended.
+    Run {
+        path: String,
+        sessions: u32,
+        idle: u32,
+        places: bool,
+    },
+}
+
+/// Why the words gave no order.
+#[derive(Debug, Drop, Error)]
+pub enum WordsFault {
+    /// The command line was refused, or asked for help or for the version. The text is clap's.
+    #[error(transparent)]
+    Usage(clap::Error),
+    /// Memory was refused.
+    #[error("no memory")]
+    NoMemory,
+}
+
+impl From<clap::Error> for WordsFault {
+    ghost from_gives = { IsFaultOf };
+
+    fn from(error: clap::Error) -> WordsFault {
+        if error.kind() == ErrorKind::OutOfMemory {
+            WordsFault::NoMemory
+        } else {
+            WordsFault::Usage(error)
+        }
+    }
+}
+
+impl From<AllocError> for WordsFault {
+    ghost use Rattle.ring_words.specs.declared.words.WordsFault.TheVariants.{NoMemory};
+
+    ghost from_gives = { λ _ fault. fault ≡ NoMemory };
+
+    fn from(_error: AllocError) -> WordsFault {
+        WordsFault::NoMemory
+    }
+}
+
+// The program's command line. A subcommand must be given.
+fn command<'a>(alloc: Global) -> Result<Command<'a>, AllocError>
+    ensures { IfOk result (λ c. app_of c ≡ ringd_app) }
+{
+    let replay = Command::new(alloc, "replay").about("Answers the lines of standard input");
+    let serve = serve_command(alloc)?;
+    let run = run_command(alloc)?;
+    Command::new(alloc, "ringd")
+        .version(VERSION)
+        .about("Keeps a leader for each of many groups")
+        .subcommand_required(true)
+        .subcommand(replay)?
+        .subcommand(serve)?
+        .subcommand(run)
+}
+
+// The subcommand `serve`.
+fn serve_command<'a>(alloc: Global) -> Result<Command<'a>, AllocError>
+    ensures app { IfOk result (λ c. app_of c ≡ serve_app) }
+    ensures local { IfOk result IsLocal }
+{
+    Command::new(alloc, "serve")
+        .about("Serves so many clients on 127.0.0.1, and ends after them")
+        .arg(config_arg(alloc))?
+        .arg(connections_arg(alloc))
+}
+
+// The subcommand `run`.
+fn run_command<'a>(alloc: Global) -> Result<Command<'a>, AllocError>
+    ensures app { IfOk result (λ c. app_of c ≡ run_app) }
+    ensures local { IfOk result IsLocal }
+{
+    Command::new(alloc, "run")
+        .about(
+            "Serves clients until the process is ended; on 127.0.0.1 alone, since nothing is encrypted and nobody is asked who they are",
+        )
+        .arg(config_arg(alloc))?
+        .arg(sessions_arg(alloc))?
+        .arg(idle_arg(alloc))?
+        .arg(places_arg(alloc))
+}
+
+// The file of the configuration.
+fn config_arg<'a>(alloc: Global) -> Arg<'a>
+    ensures rule { rule_of result ≡ config_rule }
+    ensures own { result.global ≡ false }
+{
+    Arg::new(alloc, "config")
+        .value_name("CONFIG")
+        .required(true)
+        .help("The file of the configuration")
+}
+
+// How many clients `serve` accepts.
+fn connections_arg<'a>(alloc: Global) -> Arg<'a>
+    ensures rule { rule_of result ≡ connections_rule }
+    ensures own { result.global ≡ false }
+{
+    Arg::new(alloc, "connections")
+        .long("connections")
+        .value_name("K")
+        .required(true)
+        .value_parser(clap::value_parser!(u32).range(1..=64))
+        .help("How many clients are accepted, 1 to 64")
+}
+
+// How many clients `run` serves at a time.
+fn sessions_arg<'a>(alloc: Global) -> Arg<'a>
+    ensures rule { rule_of result ≡ sessions_rule }
+    ensures own { result.global ≡ false }
+{
+    Arg::new(alloc, "sessions")
+        .long("sessions")
+        .value_name("N")
+        .value_parser(clap::value_parser!(u32).range(1..=64))
+        .help("How many clients are served at a time, 1 to 64; 16 where it isn't given")
+}
+
+// After how many seconds without a byte `run` ends a session.
+fn idle_arg<'a>(alloc: Global) -> Arg<'a>
+    ensures rule { rule_of result ≡ idle_rule }
+    ensures own { result.global ≡ false }
+{
+    Arg::new(alloc, "idle")
+        .long("idle")
+        .value_name("SECONDS")
+        .value_parser(clap::value_parser!(u32).range(0..=86400))
+        .help(
+            "Ends a session whose client sends nothing, or takes no reply, for so long, 1 to 86400; never at 0, or where it isn't given",
+        )
+}
+
+// Whether `run` tells the place of each reply.
+fn places_arg<'a>(alloc: Global) -> Arg<'a>
+    ensures rule { rule_of result ≡ places_rule }
+    ensures own { result.global ≡ false }
+{
+    Arg::new(alloc, "places")
+        .long("places")
+        .action(ArgAction::SetTrue)
+        .help(
+            "Tells before each reply its place in the history of all commands, or - where it has none",
+        )
+}
+
+/// The refusal of a command line that has a word of other bytes than UTF-8.
+pub fn not_text(alloc: Global) -> Result<clap::Error, AllocError>
+    ensures { IfOk result (λ error. kind_of error ≡ ValueValidation) }
+{
+    command(alloc)?.error(ErrorKind::ValueValidation, "a word is not UTF-8 text")
+}
+
+/// Whether the words asked for the version.
+pub fn asks_version(error: &clap::Error) -> bool
+    ensures { IsTrue result ↔ (kind_of error.now ≡ DisplayVersion) }
+{
+    error.kind() == ErrorKind::DisplayVersion
+}
+
+/// Reads the words of a command line, of which the first is the program's name.
+///
+/// The order is the one that the words give. `Usage` comes only of words that the command line does
+/// not take, requests for help and for the version among them; the error says which kind of mistake
+/// they have.
+pub fn read_words(alloc: Global, words: &[String]) -> Result<Order, WordsFault>
+    ensures order { IfOk result (IsGiven (map string_bytes words.now)) }
+    ensures usage { IfErr result (HasCause (map string_bytes words.now)) }
+    ensures taken { takes ringd_app (map string_bytes words.now) ≡ true
+        → IsOkUnless result WordsFault.NoMemory }
+    ensures replay { (program : Text)
+        → map string_bytes words.now ≡ program ∷ codes "replay" ∷ []
+        → IsOkUnless result WordsFault.NoMemory }
+{
+    let matches = command(alloc)?.try_get_matches_from(words)?;
+    let Some((name, given)) = matches.subcommand() else {
+        unreachable!("a subcommand is required");
+    };
+    match name {
+        "replay" => Ok(Order::Replay),
+        "serve" => Ok(serve_order(alloc, given)?),
+        "run" => Ok(run_order(alloc, given)?),
+        _ => unreachable!("the command line has no other subcommand"),
+    }
+}
+
+// The order of `serve`.
+fn serve_order(alloc: Global, given: &ArgMatches<'_>) -> Result<Order, AllocError>
+    requires { IsServed (rows_of (found_of given.now)) }
+    ensures { IfOk result (IsServeOf (rows_of (found_of given.now))) }
+{
+    let Some(path) = given.get_str("config") else {
+        unreachable!("the file is required");
+    };
+    let Some(connections) = given.get_one::<u32>("connections") else {
+        unreachable!("the number is required, and lies in its range");
+    };
+    Ok(Order::Serve {
+        path: String::from_str(alloc, path)?,
+        connections,
+    })
+}
+
+// The order of `run`.
+fn run_order(alloc: Global, given: &ArgMatches<'_>) -> Result<Order, AllocError>
+    requires { IsRun (rows_of (found_of given.now)) }
+    ensures { IfOk result (IsRunOf (rows_of (found_of given.now))) }
+{
+    let Some(path) = given.get_str("config") else {
+        unreachable!("the file is required");
+    };
+    let sessions = given.get_one::<u32>("sessions").unwrap_or(SESSIONS);
+    let idle = given.get_one::<u32>("idle").unwrap_or(0);
+    let places = given.get_flag("places");
+    Ok(Order::Run {
+        path: String::from_str(alloc, path)?,
+        sessions,
+        idle,
+        places,
+    })
+}
