@@ -141,6 +141,3 @@ fn event_of_four(word: &[u8], group: &[u8], argument: &[u8], end: &[u8]) -> Opti
         None
     }
 }
-
-#[cfg(test)]
-mod tests;

@@ -181,6 +181,3 @@ fn put_term<W: Sink>(number: u128, leader: Option<NodeId>, out: &mut W) -> Resul
         None => out.put(b":-"),
     }
 }
-
-#[cfg(test)]
-mod tests;

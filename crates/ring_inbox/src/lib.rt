@@ -12,6 +12,3 @@ mod rule;
 
 pub use opening::inbox;
 pub use passes::{Put, ReceiverPass, SenderPass, Take, TryTake};
-
-#[cfg(test)]
-mod tests;

@@ -118,8 +118,3 @@ pub fn answer_lines<A: Answerer, R: Intake, W: Outlet>(
         count += batch.given().len() as u64;
     }
 }
-
-#[cfg(test)]
-mod queue_tests;
-#[cfg(test)]
-mod tests;

@@ -101,6 +101,3 @@ impl Sink for Page {
         Ok(())
     }
 }
-
-#[cfg(test)]
-mod tests;

@@ -12,7 +12,7 @@ use std::alloc::Global;
 /// What answers a schedule: a line that spells an event by the reply of a mux to its step, and any
 /// other line by `no bad-line`.
 #[derive(Clone, Copy, Debug)]
-pub(crate) struct Replayer;
+struct Replayer;
 
 impl Answerer for Replayer {
     ghost use Rattle.ring_lines.specs.Replay.{RepliesTo};
@@ -73,6 +73,3 @@ pub fn replay<R: Intake, W: Outlet>(
     };
     answer_lines(alloc, &Replayer, &mut mux, reader, writer, reads)
 }
-
-#[cfg(test)]
-mod tests;

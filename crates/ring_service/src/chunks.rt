@@ -91,6 +91,3 @@ impl<T> Chunks<T> {
         self.tail.push_reserved(item);
     }
 }
-
-#[cfg(test)]
-mod tests;

@@ -174,6 +174,3 @@ impl<A: Access<Any> + Drop> Front<A> {
         }
     }
 }
-
-#[cfg(test)]
-mod tests;

@@ -118,6 +118,3 @@ impl<'a, E> IntoIterator for &'a History<E> {
         self.iter()
     }
 }
-
-#[cfg(test)]
-mod tests;

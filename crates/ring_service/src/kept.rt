@@ -82,6 +82,3 @@ impl Spell for KeptReply {
         }
     }
 }
-
-#[cfg(test)]
-mod tests;

@@ -23,8 +23,6 @@ mod posts;
 mod service;
 mod session;
 mod table;
-#[cfg(test)]
-mod trial;
 mod twice;
 
 pub use access::{Access, Answer};

@@ -189,6 +189,3 @@ impl<E: RingElection> Access<E> for LockedTable<E> {
         seat.report(&mut self.table.lock(rt), report)
     }
 }
-
-#[cfg(test)]
-mod tests;

@@ -187,6 +187,3 @@ where
     }
     Ok(())
 }
-
-#[cfg(test)]
-mod tests;

@@ -221,6 +221,3 @@ fn share<E: RingElection>(
     }
     Ok(shared)
 }
-
-#[cfg(test)]
-mod tests;

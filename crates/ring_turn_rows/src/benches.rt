@@ -5,7 +5,7 @@ ghost use Rattle.ring_turn.specs.Seats.{fresh_seats};
 use ring_any::Any;
 use ring_grammar::{parse_command, print_reply};
 use ring_id::{GroupName, NoMemory, Refusal};
-use ring_mux::Command;
+use ring_mux::{Command, Reply};
 use ring_node::{Charter, Report};
 use ring_service::{Access, Answer, Filed, LockedSeat, LockedTable, Table};
 use ring_turn::{Seat, TurnLock};
@@ -83,6 +83,13 @@ fn room<T>(alloc: Global, count: usize) -> Result<Vec<T>, AllocError>
     }
 }
 
+/// Whether a reply is spelled so; none where memory is refused twice.
+pub fn is_line(alloc: Global, reply: &Reply, line: &[u8]) -> Option<bool> {
+    let mut text = room(alloc, 64).ok()?;
+    print_reply(reply, &mut text).ok()?;
+    Some(text.as_slice() == line)
+}
+
 /// Says whether an answer's reply has this line, and its place is that.
 pub fn expect(alloc: Global, answer: &Answer, line: &[u8], at: usize) -> Result<(), Fail> {
     let Answer::Placed { reply, place } = answer else {
@@ -91,9 +98,7 @@ pub fn expect(alloc: Global, answer: &Answer, line: &[u8], at: usize) -> Result<
     if *place != at {
         return Err("another place".into());
     }
-    let mut text = room(alloc, 64)?;
-    print_reply(reply, &mut text).map_err(|_| "a reply was cut")?;
-    if text.as_slice() != line {
+    if is_line(alloc, reply, line) != Some(true) {
         return Err("another reply".into());
     }
     Ok(())

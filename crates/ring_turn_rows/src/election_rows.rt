@@ -1,85 +1,22 @@
 //! Rows of elections that the workers of a service decide.
 ghost use Rattle.std.specs.Prelude.{◌≤◌};
 
-use crate::grounds::{Ended, Ground, Keeper, by_lock, by_turns, has_told};
+use crate::benches::is_line;
+use crate::grounds::{Ended, Ground, Keeper, by_lock, by_turns, has_told, nodes_of};
+use crate::meetings::{Meeting, new_meeting, reaches};
 use ring_any::Any;
 use ring_id::{GroupName, NodeId};
-use ring_lines::{parse_command, print_reply};
+use ring_lines::parse_command;
 use ring_node::Node;
-use ring_service::{Access, Filed, Waiting};
-use ring_workers::{Gate, Handed, OpenGate, Pass, Why};
+use ring_service::{Access, Entry, Filed, Table, Waiting};
+use ring_terms::Noting;
+use ring_workers::OpenGate;
 use ring_world::{Settlement, settle};
 use std::alloc::Global;
 use std::collections::VecDeque;
-use std::sync::atomic::{AtomicU64, Ordering};
 use std::sync::{Arc, Wait};
-use std::thread;
 use std::thread::Threads;
-use std::time::{Clock, Duration};
-
-// How often a gate looks for what it waits for, a millisecond apart.
-const LOOKS: u32 = 10000;
-
-/// Holds each of two workers' first item until the other has entered its first, and counts the items.
-#[derive(Drop)]
-struct Meeting<R> {
-    rt: R,
-    entered: AtomicU64,
-    left: AtomicU64,
-}
-
-// Whether a number is reached within so many looks.
-fn reaches<R: Clock>(rt: &R, number: &AtomicU64, goal: u64) -> bool {
-    for _ in 0..LOOKS {
-        if goal <= number.load(Ordering::SeqCst) {
-            return true;
-        }
-        thread::sleep(rt, Duration::from_millis(1));
-    }
-    false
-}
-
-impl<R: Clock> Gate for Meeting<R> {
-    fn enter(&self, _worker: usize, turn: u64) -> Pass {
-        if turn != 1 {
-            return Pass::Go;
-        }
-        self.entered.fetch_add(1, Ordering::SeqCst);
-        if reaches(&self.rt, &self.entered, 2) {
-            Pass::Go
-        } else {
-            Pass::Halt
-        }
-    }
-
-    fn leave(&self, _worker: usize, _turn: u64) {
-        self.left.fetch_add(1, Ordering::SeqCst);
-    }
-}
-
-// A gate that nobody has entered.
-fn new_meeting<R: Copy>(rt: &R, alloc: Global) -> Option<Arc<Meeting<R>>> {
-    let gate = Meeting {
-        rt: *rt,
-        entered: AtomicU64::new(0),
-        left: AtomicU64::new(0),
-    };
-    Arc::new(alloc, gate).ok()
-}
-
-// The nodes that all workers handed over, each of which was told to stop.
-fn nodes_of(alloc: Global, handed: Vec<Handed<Any>>) -> Option<Vec<Node<Any>>> {
-    let mut nodes = Vec::new(alloc);
-    for one in handed {
-        if one.why != Why::Stopped {
-            return None;
-        }
-        let Ok(_) = one.append_to(&mut nodes) else {
-            return None;
-        };
-    }
-    Some(nodes)
-}
+use std::time::Clock;
 
 // Whether these are four nodes of one term, settled, which all know 2.
 fn all_know_two(nodes: &[Node<Any>]) -> bool {
@@ -99,9 +36,7 @@ where
     A: Access<Any> + Drop,
 {
     let answer = keeper.call(rt, 1, parse_command(b"terms a")?);
-    let mut text = Vec::with_capacity(alloc, 64).ok()?;
-    print_reply(&answer.into_reply(), &mut text).ok()?;
-    Some(text.as_slice() == line)
+    is_line(alloc, &answer.into_reply(), line)
 }
 
 // Whether the reports of all nodes are known already.
@@ -122,9 +57,17 @@ where
 
 const FOUR: &[u8] = b"create a peterson\njoin a 4\njoin a 1\njoin a 3\njoin a 2\nstart a\n";
 
-// Two workers that must both run decide a term of four members: whether all came to rest, and the table knows
-// what they know.
-fn decides<R, A>(rt: &R, alloc: Global, ground: Ground<A>, gate: &Meeting<R>) -> Option<bool>
+/// What is left of a term of four members: whether all came to rest and the table knows what they know, the table,
+/// and the nodes.
+#[derive(Drop)]
+struct Decided<A: Access<Any> + Drop> {
+    all: bool,
+    keeper: Keeper<A>,
+    nodes: Vec<Node<Any>>,
+}
+
+// Two workers that must both run decide a term of four members.
+fn decides<R, A>(rt: &R, alloc: Global, ground: Ground<A>, gate: &Meeting<R>) -> Option<Decided<A>>
 where
     R: Threads + Wait + Clock,
     A: Access<Any> + Send + Sync + Drop + 'static,
@@ -141,7 +84,8 @@ where
     let nodes = nodes_of(alloc, handed)?;
     let decided = terms_are(rt, alloc, &mut keeper, b"terms 1:2\n")?;
     let known = are_known(rt, &mut keeper, &nodes)?;
-    Some(all && decided && all_know_two(&nodes) && known)
+    let all = all && decided && all_know_two(&nodes) && known;
+    Some(Decided { all, keeper, nodes })
 }
 
 // The same over a turn lock, where an inbox has this capacity.
@@ -155,7 +99,7 @@ fn decides_in_turn<R: Threads + Wait + Clock + Copy + Send + Sync + Drop + 'stat
     let gate = new_meeting(rt, alloc)?;
     let copy = Arc::try_clone(&gate).ok()?;
     let ground = by_turns(rt, alloc, 2, 100, inbox, copy)?;
-    decides(rt, alloc, ground, &gate)
+    Some(decides(rt, alloc, ground, &gate)?.all)
 }
 
 #[test]
@@ -167,22 +111,52 @@ fn two_workers_decide_a_term_in_turn(rt: HostRuntime) {
     }
 }
 
-// The same over a locked table.
+// How many reports that were known already stand in a history.
+fn known(table: &Table<Any>) -> usize {
+    let mut known = 0usize;
+    for entry in table.history() {
+        if let Entry::Filing {
+            noting: Noting::Known,
+            ..
+        } = entry
+        {
+            known = known.saturating_add(1);
+        }
+    }
+    known
+}
+
+// Whether the reports of four settled nodes are all filed anew, and known already.
+fn finishes_known(table: &mut Table<Any>, nodes: &[Node<Any>]) -> bool {
+    let (before, told) = (table.history().len(), known(table));
+    table.finish(nodes).is_ok()
+        && known(table) == told.saturating_add(4)
+        && table.history().len() == before.saturating_add(4)
+}
+
+// The same over a locked table, at which the nodes are filed once more when all is done.
 fn decides_by_lock<R: Threads + Wait + Clock + Copy + Send + Sync + Drop + 'static>(
     rt: &R,
     alloc: Global,
-) -> Option<bool> {
+    inbox: usize,
+) -> Option<bool>
+    requires { (1 ≤ inbox) × (inbox ≤ 65536) }
+{
     let gate = new_meeting(rt, alloc)?;
     let copy = Arc::try_clone(&gate).ok()?;
-    let ground = by_lock(rt, alloc, 2, 64, copy)?;
-    decides(rt, alloc, ground, &gate)
+    let ground = by_lock(rt, alloc, 2, inbox, copy)?;
+    let Decided { all, keeper, nodes } = decides(rt, alloc, ground, &gate)?;
+    let mut table = keeper.into_access()?.into_table();
+    Some(all && finishes_known(&mut table, &nodes))
 }
 
 #[test]
 fn two_workers_decide_a_term_by_a_lock(rt: HostRuntime) {
     let alloc = rt.alloc();
-    let first = decides_by_lock(&rt, alloc);
-    assert!(rt; first == Some(true) || decides_by_lock(&rt, alloc) == Some(true));
+    for inbox in [64, 1] {
+        let first = decides_by_lock(&rt, alloc, inbox);
+        assert!(rt; first == Some(true) || decides_by_lock(&rt, alloc, inbox) == Some(true));
+    }
 }
 
 // The lines by which twenty groups of the members 1 and 2 are made, and each is started once.
@@ -259,7 +233,9 @@ where
         waiting,
     } = ground.end(rt);
     let nodes = nodes_of(alloc, handed)?;
-    Some(is_all_told(&told) && keeper.is_alone() && all_begun(alloc, &nodes, &waiting)?)
+    Some(
+        is_all_told(&told) && keeper.into_access().is_some() && all_begun(alloc, &nodes, &waiting)?,
+    )
 }
 
 // The same over a turn lock.
@@ -274,8 +250,26 @@ fn begins_in_turn<R: Threads + Wait + Clock + Copy + Send + Drop + 'static>(
 }
 
 #[test]
-fn no_begin_is_lost(rt: HostRuntime) {
+fn no_begin_is_lost_in_turn(rt: HostRuntime) {
     let alloc = rt.alloc();
     let first = begins_in_turn(&rt, alloc);
     assert!(rt; first == Some(true) || begins_in_turn(&rt, alloc) == Some(true));
+}
+
+// The same over a locked table.
+fn begins_by_lock<R: Threads + Wait + Clock + Copy + Send + Drop + 'static>(
+    rt: &R,
+    alloc: Global,
+) -> Option<bool> {
+    let lines = twenty_groups(alloc)?;
+    let gate = Arc::new(alloc, OpenGate).ok()?;
+    let ground = by_lock(rt, alloc, 2, 1, gate)?;
+    begins_twenty(rt, alloc, ground, &lines)
+}
+
+#[test]
+fn no_begin_is_lost_by_a_lock(rt: HostRuntime) {
+    let alloc = rt.alloc();
+    let first = begins_by_lock(&rt, alloc);
+    assert!(rt; first == Some(true) || begins_by_lock(&rt, alloc) == Some(true));
 }

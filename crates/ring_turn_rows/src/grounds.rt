@@ -4,10 +4,10 @@ ghost use Rattle.std.specs.Prelude.{◌≡◌, ◌+◌, ◌*◌, ◌^◌, ◌<�
 use ring_any::Any;
 use ring_lines::{FromRead, Intake, LineFault, Outlet, ToWrite};
 use ring_mux::Command;
-use ring_node::Report;
+use ring_node::{Node, Report};
 use ring_service::{Access, Answer, Closing, Filed, Front, LockedTable, Service, Table, Waiting};
 use ring_turn::TurnLock;
-use ring_workers::{Gate, Handed, Pass};
+use ring_workers::{Gate, Handed, Pass, Why};
 use std::alloc::Global;
 use std::collections::VecDeque;
 use std::marker::Model;
@@ -119,6 +119,29 @@ where
     ) -> Option<Vec<u8>> {
         let mut writer = ToWrite(Vec::new(alloc));
         match self.serve_placed(rt, number, &mut FromRead(lines), &mut writer, 1000) {
+            Ok(_) => Some(writer.0),
+            Err(_) => None,
+        }
+    }
+
+    /// One session over memory by the other caller's seat: what was written. None at a fault.
+    pub fn other_session<R: Wait>(
+        &mut self,
+        rt: &R,
+        alloc: Global,
+        number: u32,
+        lines: &[u8],
+    ) -> Option<Vec<u8>> {
+        let front = self.service.front();
+        let mut writer = ToWrite(Vec::new(alloc));
+        match front.serve(
+            rt,
+            &mut self.other,
+            number,
+            &mut FromRead(lines),
+            &mut writer,
+            1000,
+        ) {
             Ok(_) => Some(writer.0),
             Err(_) => None,
         }
@@ -240,11 +263,25 @@ impl<A: Access<Any> + Drop> Keeper<A> {
         self.access.report(rt, &mut self.seat, report)
     }
 
-    /// Whether nobody else shares the access.
-    pub fn is_alone(self) -> bool {
+    /// The access, if nobody else shares it.
+    pub fn into_access(self) -> Option<A> {
         let Keeper { access, seat: _ } = self;
-        Arc::into_inner(access).is_some()
+        Arc::into_inner(access)
     }
+}
+
+/// The nodes that all workers handed over, each of which was told to stop.
+pub fn nodes_of(alloc: Global, handed: Vec<Handed<Any>>) -> Option<Vec<Node<Any>>> {
+    let mut nodes = Vec::new(alloc);
+    for one in handed {
+        if one.why != Why::Stopped {
+            return None;
+        }
+        let Ok(_) = one.append_to(&mut nodes) else {
+            return None;
+        };
+    }
+    Some(nodes)
 }
 
 /// Whether a session came to its end with this text.

@@ -1,6 +1,6 @@
 //! Rows of one seat: how many turns it has, and which places its calls get.
 
-use crate::benches::{Bench, LockedBench, TurnBench, ask, ask_once, expect, file, start};
+use crate::benches::{Bench, LockedBench, TurnBench, ask, ask_once, expect, file, is_line, start};
 use ring_any::Any;
 use ring_id::{GroupName, Refusal};
 use ring_node::{Charter, Report};
@@ -89,6 +89,9 @@ fn started<R: Wait, B: Bench>(
 ) -> Result<Report<Any>, Fail> {
     let (told, charters) = start(rt, bench, group);
     expect(alloc, &told, b"term 1\n", 3)?;
+    if charters.len() != 1 {
+        return Err("another number of charters".into());
+    }
     first_report(alloc, charters.first().ok_or("no charter")?)
 }
 
@@ -130,7 +133,8 @@ fn refuses_a_start<R: Wait, B: Bench>(rt: &R, alloc: Global, mut bench: B) -> Re
     let group = GroupName::from_bytes(b"a").map_err(|_| "no name")?;
     let (told, charters) = start(rt, &mut bench, group);
     expect(alloc, &told, b"no no-group\n", 1)?;
-    Ok(charters.is_empty())
+    let spelled = is_line(alloc, &told.into_reply(), b"no no-group\n");
+    Ok(spelled == Some(true) && charters.is_empty())
 }
 
 #[test]

@@ -103,7 +103,20 @@ const FIRST: &[u8] = b"create a chang\njoin a 5\nstart a\nmembers a\ndrain a 1\n
 
 const SECOND: &[u8] = b"join a 5\ncut a 5 left\ngroups";
 
-// Two sessions, one after the other: whether each line got its reply, and each command its entry.
+/// Two sessions, one after the other: whether each line got its reply.
+pub fn answers_each<R, A>(rt: &R, alloc: Global, ground: &mut Ground<A>) -> bool
+where
+    R: Wait,
+    A: Access<Any> + Send + Sync + Drop + 'static,
+    A::Seat: Send + 'static,
+{
+    let first = ground.session(rt, alloc, 1, FIRST);
+    let second = ground.session(rt, alloc, 2, SECOND);
+    has_told(&first, b"ok\nok\nterm 1\nmembers 5\nno bad-line\n")
+        && has_told(&second, b"no member\nno bad-line\ngroups a\n")
+}
+
+// The same two sessions: whether each line got its reply, and each command its entry.
 fn two_sessions<R, A>(rt: &R, alloc: Global, ground: Ground<A>) -> bool
 where
     R: Threads + Wait,
@@ -111,13 +124,10 @@ where
     A::Seat: Send + 'static,
 {
     let mut ground = ground;
-    let first = ground.session(rt, alloc, 1, FIRST);
-    let second = ground.session(rt, alloc, 2, SECOND);
+    let told = answers_each(rt, alloc, &mut ground);
     let third = ground.placed(rt, alloc, 3, b"groups\n");
     let _ended = ground.end(rt);
-    has_told(&first, b"ok\nok\nterm 1\nmembers 5\nno bad-line\n")
-        && has_told(&second, b"no member\nno bad-line\ngroups a\n")
-        && has_told(&third, b"7 groups a\n")
+    told && has_told(&third, b"7 groups a\n")
 }
 
 // The same by a turn lock and by a locked table. None where memory is refused.

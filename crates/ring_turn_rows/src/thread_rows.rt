@@ -1,7 +1,7 @@
 //! Rows of threads that share a table: where the calls of each are placed, and that the table has no others.
 ghost use Rattle.std.specs.Prelude.{◌≡◌, ℕ, IfSome};
 
-use crate::grounds::{Ground, ShutGate, by_lock, by_turns, has_told};
+use crate::grounds::{Ended, Ground, Keeper, ShutGate, by_lock, by_turns, has_told};
 use ring_any::Any;
 use ring_id::{GroupName, NodeId};
 use ring_lines::parse_command;
@@ -284,9 +284,33 @@ fn is_all_ok(told: &Option<Vec<u8>>) -> bool {
     }
 }
 
+// How many identities from a number on joined in this session, in order.
+fn joined(table: &Table<Any>, from: u32, number: u32) -> u32 {
+    let mut next = from;
+    for entry in table.history() {
+        if let Entry::Call {
+            session,
+            command: Command::Join(_, node),
+            reply: _,
+        } = entry
+            && *session == number
+            && node.get() == next
+        {
+            next = next.saturating_add(1);
+        }
+    }
+    next.saturating_sub(from)
+}
+
 // Two sessions in two threads, in which a hundred identities join each: whether each line was told that it is
-// done, and there are no other entries.
-fn two_sessions<R, A>(rt: &R, alloc: Global, ground: Ground<A>, low: &[u8], high: &[u8]) -> bool
+// done, and there are no other entries. What is left is the table.
+fn two_sessions<R, A>(
+    rt: &R,
+    alloc: Global,
+    ground: Ground<A>,
+    low: &[u8],
+    high: &[u8],
+) -> (bool, Keeper<A>)
 where
     R: Threads + Wait + Sync,
     A: Access<Any> + Send + Sync + Drop + 'static,
@@ -296,12 +320,17 @@ where
     let made = ground.session(rt, alloc, 1, b"create a chang\n");
     let (mut ground, first, second) = ground.two_sessions(rt, alloc, low, high);
     let last = ground.placed(rt, alloc, 3, b"groups\n");
-    let _ended = ground.end(rt);
-    let told = is_all_ok(&first) && is_all_ok(&second);
-    has_told(&made, b"ok\n") && told && has_told(&last, b"202 groups a\n")
+    let Ended {
+        keeper,
+        handed: _,
+        waiting: _,
+    } = ground.end(rt);
+    let told = has_told(&made, b"ok\n") && is_all_ok(&first) && is_all_ok(&second);
+    (told && has_told(&last, b"202 groups a\n"), keeper)
 }
 
-// The same by a turn lock and by a locked table. None where memory is refused.
+// The same by a turn lock and by a locked table, in whose history each session's calls stand in order. None where
+// memory is refused.
 fn both_serve<R>(rt: &R, alloc: Global) -> Option<bool>
 where
     R: Threads + Wait + Clock + Copy + Send + Sync + Drop + 'static,
@@ -310,9 +339,13 @@ where
     let gate = Arc::new(alloc, ShutGate).ok()?;
     let copy = Arc::try_clone(&gate).ok()?;
     let ground = by_turns(rt, alloc, 1, 200, 1, gate)?;
-    let turns = two_sessions(rt, alloc, ground, &low, &high);
+    let (turns, _) = two_sessions(rt, alloc, ground, &low, &high);
     let ground = by_lock(rt, alloc, 1, 1, copy)?;
-    Some(turns && two_sessions(rt, alloc, ground, &low, &high))
+    let (locks, keeper) = two_sessions(rt, alloc, ground, &low, &high);
+    let table = keeper.into_access()?.into_table();
+    let whole = table.history().len() == 202;
+    let ordered = joined(&table, 1, 1) == 100 && joined(&table, 101, 2) == 100;
+    Some(turns && locks && whole && ordered)
 }
 
 #[test]

@@ -42,6 +42,3 @@ pub fn print_groups<W: Sink>(names: &GroupList, out: &mut W) -> Result<(), SinkF
     put_groups(names.as_slice(), out)?;
     out.put(b"\n")
 }
-
-#[cfg(test)]
-mod tests;

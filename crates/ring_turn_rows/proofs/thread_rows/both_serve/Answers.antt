@@ -8,5 +8,5 @@ pub two_sessions-turns-requires-sync-A : goal.two_sessions-turns-requires-sync-A
 two_sessions-turns-requires-sync-A g c κs within = record { shared = table_sync.shared }
 
 -- the seats of the locked table may go to threads
-pub two_sessions-requires-send-A-Seat : goal.two_sessions-requires-send-A-Seat
-two_sessions-requires-send-A-Seat g c κs within = search (sendable, locked_seat_send) depth 20
+pub two_sessions-locks-requires-send-A-Seat : goal.two_sessions-locks-requires-send-A-Seat
+two_sessions-locks-requires-send-A-Seat g c κs within = search (sendable, locked_seat_send) depth 20

@@ -1,0 +1,194 @@
+use ring_grammar::{Sink, SinkFailed};
+use ring_lines::{Answerer, Intake, Outlet, Queued, ReadFault, Spell, WriteFailed, answer_lines};
+use std::alloc::{AllocError, Global};
+use std::cell::RefCell;
+use std::process::Abort;
+use std::sync::{Mutex, Wait};
+
+// The lock at which answers queue, and marks of what was done: `r` a line was read, `l` a long one, `q` it was queued for,
+// `a` a line was answered, `s` its answer was spelled, `<` a read call, `>` a write call. Where the lock
+// was held, the letter is a great one, and the others are `!`.
+#[derive(Drop)]
+struct Watched {
+    door: Mutex<()>,
+    log: RefCell<Vec<u8>>,
+}
+
+impl Watched {
+    // Notes one of two marks. Nothing where memory is refused.
+    fn note(&self, free: u8, held: u8) {
+        let mark = match self.door.try_lock() {
+            Some(_) => free,
+            None => held,
+        };
+        if let Ok(mut log) = self.log.try_borrow_mut() {
+            let _ = log.push(mark);
+        }
+    }
+}
+
+// Answers each line by a text, and queues where it doesn't hold the head of the queue.
+#[derive(Drop)]
+struct Queueing<'a, R> {
+    rt: &'a R,
+    watched: &'a Watched,
+    text: &'a [u8],
+}
+
+// A text, which notes how the lock is while it is spelled.
+#[derive(Drop)]
+struct Told<'a> {
+    watched: &'a Watched,
+    text: &'a [u8],
+}
+
+impl Spell for Told<'_> {
+    ghost spelling = { λ told. told.text.now };
+
+    ghost is_legal = { λ _. Unit {0} };
+
+    fn spell<S: Sink>(&self, out: &mut S) -> Result<(), SinkFailed> {
+        self.watched.note(b's', b'S');
+        out.put(self.text)
+    }
+}
+
+impl<'b, R: Wait> Answerer for Queueing<'b, R> {
+    type State = ();
+
+    type Asked = ();
+
+    type Answer = Told<'b>;
+
+    ghost holds = { λ _ _. Unit {0} };
+
+    ghost asks = { λ _ _. Unit {0} };
+
+    ghost answers = { λ _ _ _ _ _. Unit {0} };
+
+    fn read(&self, _line: &[u8]) {
+        self.watched.note(b'r', b'R');
+    }
+
+    fn read_long(&self) {
+        self.watched.note(b'l', b'L');
+    }
+
+    fn answer<'a>(
+        &'a self,
+        _state: &mut (),
+        _alloc: Global,
+        queued: &mut Queued<'a>,
+        _asked: (),
+    ) -> Told<'b> {
+        if queued.is_none() {
+            self.watched.note(b'q', b'!');
+            *queued = Some(self.watched.door.lock(self.rt));
+        }
+        self.watched.note(b'a', b'A');
+        Told {
+            watched: self.watched,
+            text: self.text,
+        }
+    }
+}
+
+// A reader that gives these pieces, one for each read call.
+#[derive(Drop)]
+struct Pieces<'a> {
+    watched: &'a Watched,
+    pieces: &'a [&'a [u8]],
+    next: usize,
+}
+
+impl Intake for Pieces<'_> {
+    ghost read_gives = { λ _ _ _. Unit {0} };
+
+    fn read(&mut self, buffer: &mut [u8]) -> Result<usize, ReadFault> {
+        self.watched.note(b'<', b'!');
+        let Some(piece) = self.pieces.get(self.next) else {
+            return Ok(0);
+        };
+        self.next = self.next.saturating_add(1);
+        let len = piece.len().min(buffer.len());
+        buffer[..len].copy_from_slice(&piece[..len]);
+        Ok(len)
+    }
+}
+
+// A writer that takes all.
+#[derive(Drop)]
+struct Taking<'a> {
+    watched: &'a Watched,
+}
+
+impl Outlet for Taking<'_> {
+    ghost write_gives = { λ _ _ _. Unit {0} };
+
+    fn write(&mut self, bytes: &[u8]) -> Result<usize, WriteFailed> {
+        self.watched.note(b'>', b'!');
+        Ok(bytes.len())
+    }
+}
+
+// Whether these marks are noted while the lines of these pieces are answered by a text of so many bytes.
+fn notes<R: Wait + AllocGlobal>(
+    rt: &R,
+    pieces: &[&[u8]],
+    len: usize,
+    wanted: &[u8],
+) -> Result<bool, AllocError> {
+    let alloc = rt.alloc();
+    let text = vec![in alloc; 0; len]?;
+    let watched = Watched {
+        door: Mutex::new(()),
+        log: RefCell::new(Vec::with_capacity(alloc, 200)?),
+    };
+    let queueing = Queueing {
+        rt,
+        watched: &watched,
+        text: &text,
+    };
+    let mut reader = Pieces {
+        watched: &watched,
+        pieces,
+        next: 0,
+    };
+    let mut writer = Taking { watched: &watched };
+    let answered = answer_lines(alloc, &queueing, &mut (), &mut reader, &mut writer, 100);
+    Ok(answered.is_ok() && watched.log.into_inner().as_slice() == wanted)
+}
+
+// The same, tried again where memory is refused.
+fn assert_notes<R: Wait + Abort + AllocGlobal>(
+    rt: &R,
+    pieces: &[&[u8]],
+    len: usize,
+    wanted: &[u8],
+) {
+    let first = notes(rt, pieces, len, wanted);
+    assert!(rt; first == Ok(true) || notes(rt, pieces, len, wanted) == Ok(true));
+}
+
+#[test]
+fn the_queue_is_held_while_lines_are_answered(rt: HostRuntime) {
+    assert_notes(&rt, &[b"a\nb\nc", b"d\n"], 9, b"<rrqAAss><rqAs><");
+    assert_notes(&rt, &[b"a\n", b"b"], 9, b"<rqAs><<rqAs>");
+    assert_notes(&rt, &[&[b'a'; 200], b"\nb\n"], 9, b"<<lrqAAss><");
+}
+
+#[test]
+fn the_queue_is_left_where_the_page_is_full(rt: HostRuntime) {
+    assert_notes(&rt, &[b"a\nb\nc\nd"], 40000, b"<rrrqAAAss>>s><rqAs>");
+}
+
+#[test]
+fn at_most_64_lines_are_answered_together(rt: HostRuntime) {
+    let mut wanted = [b'r'; 200];
+    wanted[0] = b'<';
+    wanted[65] = b'q';
+    wanted[66..130].fill(b'A');
+    wanted[130..194].fill(b's');
+    wanted[194..].copy_from_slice(b"rqAs><");
+    assert_notes(&rt, &[&[b'\n'; 65]], 9, &wanted);
+}
