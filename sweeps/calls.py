@@ -17,8 +17,10 @@ from sweep import Bad, ROOT
 SHARED = ("session_rows::", "thread_rows::")
 # Tests that ask once more, by crate and by the beginnings of their names: for each growth they have to pass.
 ASK_AGAIN = {
+    "ring_line_rows_tests": ("",),
     "ring_rows_tests": ("",),
-    "ring_turn_rows_tests": ("seat_rows::", "table_rows::", *SHARED),
+    "ring_table_rows_tests": ("seat_rows::", "table_rows::"),
+    "ring_turn_rows_tests": SHARED,
     "ring_worker_rows_tests": ("starved_worker::",),
 }
 # Tests that start threads, and end whichever growth is refused.

@@ -2,17 +2,12 @@
 //!
 //! All but `drain`, which rows call to bring a world to rest, is tests. A module of rows is one
 //! subject: a node, a world, the scans that a world is spared, its worked schedules, the settlement of
-//! nodes, groups at once, reports, replays over memory, and how much work rings take. The tests of
-//! `ring_grammar` and of `ring_lines` stand here too, in `grammar` and `lines`.
+//! nodes, groups at once, reports, replays over memory, and how much work rings take.
 #![tactic(auto)]
 
 mod drains;
 #[cfg(test)]
 mod events;
-#[cfg(test)]
-mod grammar;
-#[cfg(test)]
-mod lines;
 #[cfg(test)]
 mod memory;
 #[cfg(test)]

@@ -1,10 +1,10 @@
 //! Rows of elections that the workers of a service decide.
 ghost use Rattle.std.specs.Prelude.{◌≤◌};
 
-use crate::benches::is_line;
 use crate::grounds::{Ended, Ground, Keeper, by_lock, by_turns, has_told, nodes_of};
 use crate::meetings::{Meeting, new_meeting, reaches};
 use ring_any::Any;
+use ring_grammar::print_reply;
 use ring_id::{GroupName, NodeId};
 use ring_lines::parse_command;
 use ring_node::Node;
@@ -36,7 +36,9 @@ where
     A: Access<Any> + Drop,
 {
     let answer = keeper.call(rt, 1, parse_command(b"terms a")?);
-    is_line(alloc, &answer.into_reply(), line)
+    let mut told = Vec::with_capacity(alloc, 64).ok()?;
+    print_reply(&answer.into_reply(), &mut told).ok()?;
+    Some(told.as_slice() == line)
 }
 
 // Whether the reports of all nodes are known already.

@@ -1,28 +1,17 @@
-//! Worked rows of tables and their histories, and of tables that many share, by a turn lock and by a locked
-//! table: their seats, their sessions, their threads, the elections that workers decide, and how a service ends.
-//! Each is a run with the values that it must come to.
+//! Worked rows of tables that many share, by a turn lock and by a locked table: their sessions, their threads, the
+//! elections that workers decide, and how a service ends. Each is a run with the values that it must come to.
 #![tactic(auto)]
 
-#[cfg(test)]
-mod benches;
 #[cfg(test)]
 mod election_rows;
 #[cfg(test)]
 mod grounds;
 #[cfg(test)]
-mod history_rows;
-#[cfg(test)]
-mod kept_rows;
-#[cfg(test)]
 mod meetings;
-#[cfg(test)]
-mod seat_rows;
 #[cfg(test)]
 mod service_rows;
 #[cfg(test)]
 mod session_rows;
-#[cfg(test)]
-mod table_rows;
 #[cfg(test)]
 mod thread_rows;
 #[cfg(test)]

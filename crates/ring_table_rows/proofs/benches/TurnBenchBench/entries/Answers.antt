@@ -1,7 +1,7 @@
 use Rattle.std.proofs.Common.{[], ◌∷◌, ◌++◌, ap, sym, ◌∙◌, subst}
 use Rattle.ring_turn.specs.Seats.{HasAllSeats}
 use Rattle.ring_turn.proofs.Returning.{row_is_all}
-use Rattle.ring_turn_rows.proofs.benches.TurnBenchBench.entries.Goals as goal
+use Rattle.ring_table_rows.proofs.benches.TurnBenchBench.entries.Goals as goal
 
 pub close-requires : goal.close-requires
 close-requires c =

@@ -1,6 +1,6 @@
 use Rattle.std.proofs.Common.{ap}
 use Rattle.ring_turn.proofs.Returning.{last_fresh}
-use Rattle.ring_turn_rows.proofs.benches.TurnBench.new.Goals as goal
+use Rattle.ring_table_rows.proofs.benches.TurnBench.new.Goals as goal
 
 pub invariant_of-bench : goal.invariant_of-bench
 invariant_of-bench c =
