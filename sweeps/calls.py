@@ -21,12 +21,13 @@ ASK_AGAIN = {
     "ring_rows_tests": ("",),
     "ring_table_rows_tests": ("seat_rows::", "table_rows::"),
     "ring_turn_rows_tests": SHARED,
+    "ring_word_rows_tests": ("",),
     "ring_worker_rows_tests": ("starved_worker::",),
 }
 # Tests that start threads, and end whichever growth is refused.
 THREADED = {
+    "ring_server_rows_tests": ("listening::a_failed_", "running::a_run_says_", "running::a_spent_guest_"),
     "ring_turn_rows_tests": SHARED,
-    "ringd_tests": ("tests::listening::a_failed_", "tests::running::a_run_says_", "tests::running::a_spent_guest_"),
 }
 # What the test program says where a test ends by an error, and where it stops at an assertion.
 ENDED, STOPPED = b"the test failed: its result gives status 1\n", b"\ntest stopped at "

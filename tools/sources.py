@@ -7,19 +7,26 @@ IMPL = re.compile(r"impl(?:<(?P<own>.*?)>)? (?:(?P<of>\w.*?) for )?(?P<for>[&\w]
 OWN = re.compile(r"(?:^|, )(\w+)(?=:|,|$)")
 TYPE = re.compile(r"^(?:pub(?:\([^)]*\))? )?(?:struct|enum) (\w+)", re.M)
 WORD = re.compile(r"\w+")
-CALL = re.compile(r"(?:(\.)|(\w+)::)?\b([a-z_]\w*)\b")
+CALL = re.compile(r"(?:(?P<before>\w*)\s*(?P<dot>\.)|(?P<owner>\w+)::)?\b(?P<name>[a-z_]\w*)\b(?P<given>\(|::<)?")
 
 
 class Function:
-    """A function by its path below the crate, its lines in its file, from 0 and with its attributes, and its body's text."""
+    """A function by its path below the crate, its lines in its file, from 0 and with its attributes, what its
+    body calls, the words of its file, and the type for which it is a trait's, if it is one."""
 
-    def __init__(self, file, path, first, body, last, text):
+    def __init__(self, file, path, lines, text, named, serves):
         self.file, self.path = file, path
-        self.first, self.body, self.last = first, body, last
-        self.calls = set(CALL.findall(text))
+        self.first, self.body, self.last = lines
+        self.calls = {tuple(it.groupdict("").values()) for it in CALL.finditer(text) if it["given"] or it["owner"]}
+        self.named, self.serves = named, serves
 
     def name(self):
         return self.path.rpartition("::")[2]
+
+    def owner(self):
+        """The type that it is of, with the trait if it is a trait's; nothing where it is of none."""
+        of = self.path.split("::")[-2:-1]
+        return of[0] if of and of[0][:1].isupper() else ""
 
     def folder(self):
         """Where the files of its proof stand, below proofs."""
@@ -60,6 +67,13 @@ def owner_of(line, module, types):
     return [*module, named[1]] if named else []
 
 
+def served_by(line):
+    """The name of the type for which an `impl` line has a trait's functions, if it has."""
+    found = IMPL.match(line)
+    named = found and found["of"] and re.search(r"(\w+)(<|$)", found["for"])
+    return named[1] if named else None
+
+
 def head_of(lines, at):
     """The last line of the head of the function at a line: where its body begins, or where it ends without one."""
     depth = 0
@@ -76,9 +90,10 @@ def head_of(lines, at):
 def functions_in(file, text, types):
     """The functions of a source file that have a body, without those of its modules, such as tests."""
     lines, found, owner, module = text.split("\n"), [], [], module_of(file)
+    named, serves = set(WORD.findall(text)), None
     for at, line in enumerate(lines):
         if line[:1].strip() and line[0] not in "})":
-            owner = owner_of(line, module, types)
+            owner, serves = owner_of(line, module, types), served_by(line)
         head = FN.match(line)
         if not head or len(head[1]) != (4 if owner else 0):
             continue
@@ -92,7 +107,8 @@ def functions_in(file, text, types):
         first = at
         while lines[first - 1].lstrip().startswith("#["):
             first -= 1
-        found.append(Function(file, path, first, body, last, "\n".join(lines[body : last + 1])))
+        text = "\n".join(lines[body : last + 1])
+        found.append(Function(file, path, (first, body, last), text, named, serves))
     return found
 
 
@@ -107,15 +123,25 @@ def functions_of(folder):
 
 
 def called(function, by_name):
-    """The functions that one may call, by their names and by the types that stand before these."""
-    found = []
-    for dot, owner, name in function.calls:
+    """The functions that one may call, by their names and by what stands before these.
+
+    What is called on `self` is taken to be of the caller's type, and what is called on another value
+    not to be. A trait's function is called for a type only where the caller's file names that type: else
+    the caller knows the trait alone. A name without arguments is a call only behind a type, as in
+    `map(NodeId::get)`. A call that this leaves out costs no more than that an edit is tried again, alone."""
+    found, own = [], function.owner()
+    for before, dot, owner, name, _ in function.calls:
         for it in by_name.get(name, ()):
-            of = it.path.split("::")[-2:-1] or [""]
-            is_method = of[0][:1].isupper()
-            if is_method and (dot or owner[:1].islower() or of[0].startswith(owner.replace("Self", "")) and owner):
-                found.append(it)
-            elif not is_method and not dot and not owner[:1].isupper():
+            of = it.owner()
+            if not of:
+                fits = not dot and not owner[:1].isupper()
+            elif before == "self" or owner == "Self":
+                fits = own.startswith(of) or of.startswith(own)
+            elif dot:
+                fits = of != own
+            else:
+                fits = owner != "" and of.startswith(owner)
+            if fits and (not it.serves or it.serves in function.named):
                 found.append(it)
     return found
 

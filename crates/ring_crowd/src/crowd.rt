@@ -2,7 +2,8 @@
 use anyhow::{Context, Result, anyhow, bail};
 use ring_any::Any;
 use ring_lines::{FromRead, ToWrite};
-use ring_service::{Front, LockedSeat, LockedTable, Service, StartFault, Table};
+use ring_service::{Front, Service, StartFault};
+use ring_table::{LockedSeat, LockedTable, Table};
 use std::alloc::Global;
 use std::sync::{Arc, Wait};
 use std::thread;

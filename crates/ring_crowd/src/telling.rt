@@ -1,10 +1,10 @@
 //! The lines of a history.
 use anyhow::{Result, anyhow};
 use ring_any::Any;
+use ring_events::Command;
 use ring_id::{GroupName, NodeId};
 use ring_lines::Spell;
-use ring_mux::Command;
-use ring_service::Entry;
+use ring_table::Entry;
 use ring_terms::Noting;
 use std::alloc::Global;
 use std::fmt::Write;

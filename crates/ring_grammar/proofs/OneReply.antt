@@ -13,8 +13,8 @@ use Rattle.ring_id.specs.Identity.{number_of, weight_of}
 use Rattle.ring_id.specs.Refusals.{word_in_table}
 use Rattle.ring_id.specs.declared.refusal.Refusal.{Refusal}
 use Rattle.ring_id.specs.declared.refusal.Refusal.TheVariants.{BadLine, NoGroup, Exists, GroupLimit, Member, NotMember, RingFull, Empty, TermLimit, NoTerm, NotInTerm, OneWay, NoMemory, SeatSpent}
-use Rattle.ring_mux.specs.declared.reply.Reply.{Reply}
-use Rattle.ring_mux.specs.declared.reply.Reply.TheVariants.{Done, Term, Leader, Undecided, Members, Terms, Groups, Moved, Idle, Pending, Drained, Refused}
+use Rattle.ring_events.specs.declared.reply.Reply.{Reply}
+use Rattle.ring_events.specs.declared.reply.Reply.TheVariants.{Done, Term, Leader, Undecided, Members, Terms, Groups, Moved, Idle, Pending, Drained, Refused}
 use Rattle.ring_grammar.specs.OneSpelling.{HaveOneSpelling, RepliesAreLines}
 use Rattle.ring_grammar.specs.private.Reading.{words_in}
 use Rattle.ring_grammar.specs.Identities.{IsNode, node_word, weight_text}

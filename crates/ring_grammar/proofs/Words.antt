@@ -11,9 +11,9 @@ use Rattle.ring_any.specs.declared.any.Any.TheVariants.{LeLann, Chang, Hirschber
 use Rattle.ring_id.specs.Identity.{number_of, weight_of}
 use Rattle.ring_id.specs.declared.side.Side.{Side}
 use Rattle.ring_id.specs.declared.side.Side.TheVariants.{Left, Right}
-use Rattle.ring_mux.specs.declared.event.Command.TheVariants.{Create, Join, Leave, Start, Who, Members, Terms, Groups}
-use Rattle.ring_mux.specs.declared.event.Event.{Event}
-use Rattle.ring_mux.specs.declared.event.Event.TheVariants.{Client, Deliver, Cut, Pending, Drain}
+use Rattle.ring_events.specs.declared.event.Command.TheVariants.{Create, Join, Leave, Start, Who, Members, Terms, Groups}
+use Rattle.ring_events.specs.declared.event.Event.{Event}
+use Rattle.ring_events.specs.declared.event.Event.TheVariants.{Client, Deliver, Cut, Pending, Drain}
 use Rattle.ring_grammar.specs.Identities.{IsNode, IsNumber, node_word, weight_text}
 use Rattle.ring_grammar.specs.private.Reading.{Reads, words_in}
 use Rattle.ring_grammar.specs.Spelling.{IsEvent, Spells, event_words, line_of, side_word}

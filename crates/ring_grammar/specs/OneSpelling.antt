@@ -1,7 +1,7 @@
 -- That each value has one spelling, and each spelling one value.
 use Rattle.std.specs.Prelude.{◌≡◌, ◌==◌, ℕ, false, List, [], ◌∷◌, ◌++◌}
 use Rattle.std.specs.List.{list_any}
-use Rattle.ring_mux.specs.declared.reply.Reply.{Reply}
+use Rattle.ring_events.specs.declared.reply.Reply.{Reply}
 use Rattle.ring_grammar.specs.Spelling.{SpellsReply}
 
 -- The values that are legal have one spelling each, and no line spells two values.

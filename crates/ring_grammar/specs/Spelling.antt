@@ -9,13 +9,13 @@ use Rattle.ring_id.specs.declared.side.Side.{Side}
 use Rattle.ring_id.specs.declared.side.Side.TheVariants.{Left, Right}
 use Rattle.ring_any.specs.Any.{word_of}
 use Rattle.ring_any.specs.declared.any.Any.{Any}
-use Rattle.ring_mux.specs.declared.event.Command.{Command}
-use Rattle.ring_mux.specs.declared.event.Command.TheVariants.{Create, Join, Leave, Start, Who, Members, Terms, Groups}
-use Rattle.ring_mux.specs.declared.event.Event.{Event}
-use Rattle.ring_mux.specs.declared.event.Event.TheVariants.{Client, Deliver, Cut, Pending, Drain}
-use Rattle.ring_mux.specs.declared.reply.Reply.{Reply}
-use Rattle.ring_mux.specs.declared.reply.Reply.TheVariants.{Done, Term, Leader, Undecided, Moved, Idle, Drained, Refused}
-use Rattle.ring_mux.specs.declared.reply.Reply.TheVariants as reply
+use Rattle.ring_events.specs.declared.event.Command.{Command}
+use Rattle.ring_events.specs.declared.event.Command.TheVariants.{Create, Join, Leave, Start, Who, Members, Terms, Groups}
+use Rattle.ring_events.specs.declared.event.Event.{Event}
+use Rattle.ring_events.specs.declared.event.Event.TheVariants.{Client, Deliver, Cut, Pending, Drain}
+use Rattle.ring_events.specs.declared.reply.Reply.{Reply}
+use Rattle.ring_events.specs.declared.reply.Reply.TheVariants.{Done, Term, Leader, Undecided, Moved, Idle, Drained, Refused}
+use Rattle.ring_events.specs.declared.reply.Reply.TheVariants as reply
 use Rattle.ring_grammar.specs.Identities.{IsNode, IsNumber, node_word}
 
 -- words joined by one space

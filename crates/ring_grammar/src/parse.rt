@@ -1,15 +1,15 @@
 ghost use Rattle.std.specs.Prelude.{◌≡◌, ◌∷◌, [], IfSome, IfNone};
 ghost use Rattle.ring_any.specs.declared.any.Any.{Any};
-ghost use Rattle.ring_mux.specs.declared.event.Event.{Event};
-ghost use Rattle.ring_mux.specs.declared.event.Command.{Command};
-ghost use Rattle.ring_mux.specs.declared.event.Event.TheVariants.{Client};
+ghost use Rattle.ring_events.specs.declared.event.Event.{Event};
+ghost use Rattle.ring_events.specs.declared.event.Command.{Command};
+ghost use Rattle.ring_events.specs.declared.event.Event.TheVariants.{Client};
 ghost use Rattle.ring_grammar.specs.private.Reading.{Reads, client_part, words_in};
 ghost use Rattle.ring_grammar.specs.Spelling.{IsEvent, Spells, event_words};
 
 use crate::parts::cut;
 use crate::values::{count, kind, name, node, node_number, side};
 use ring_any::Any;
-use ring_mux::{Command, Event};
+use ring_events::{Command, Event};
 
 /// The greatest number of bytes of a line, without its LF.
 const LONGEST: usize = 128;

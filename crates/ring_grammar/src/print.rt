@@ -2,15 +2,15 @@ ghost use Rattle.std.specs.Prelude.{◌++◌, ◌∷◌, decimal, All, IfSome, O
 ghost use Rattle.ring_id.specs.GroupName.{IsName};
 ghost use Rattle.ring_grammar.specs.Identities.{IsNode, node_word, weight_text};
 ghost use Rattle.ring_grammar.specs.Spelling.{IsReply, line_of, reply_line, reply_words, term_word};
-ghost use Rattle.ring_mux.specs.declared.reply.Reply.TheVariants as reply;
+ghost use Rattle.ring_events.specs.declared.reply.Reply.TheVariants as reply;
 
 mod lists;
 
 use crate::sink::{Sink, SinkFailed};
 use itoa::{Buffer, Integer};
 pub use lists::{print_groups, print_members, print_terms};
+use ring_events::Reply;
 use ring_id::{GroupName, NodeId};
-use ring_mux::Reply;
 
 /// Puts the line of a reply: its one spelling and an LF. What is put whole is a reply of the grammar.
 ///

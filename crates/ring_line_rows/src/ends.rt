@@ -1,4 +1,4 @@
-use ring_lines::{DripOut, ToWrite, WriteFailed, put};
+use ring_lines::{DripOut, Outlet, ToWrite, WriteFailed, put};
 use std::alloc::{AllocError, Global};
 use std::test::Fail;
 
@@ -10,33 +10,37 @@ fn drip_out(alloc: Global, room: usize, fault_at: u64) -> Result<DripOut, AllocE
     }
 }
 
-#[test]
-fn all_bytes_are_put(rt: HostRuntime) -> Result<(), Fail> {
-    let mut out = drip_out(rt.alloc(), 100, 0)?;
-    assert_eq!(rt; put(&mut out, b"ok\n"), Ok(()));
-    assert_eq!(rt; put(&mut out, b"term 1\n"), Ok(()));
-    assert_eq!(rt; out.taken(), b"ok\nterm 1\n".as_slice());
-    let mut out = ToWrite(drip_out(rt.alloc(), 100, 0)?);
-    assert_eq!(rt; put(&mut out, b"ok\n"), Ok(()));
-    assert_eq!(rt; out.0.taken(), b"ok\n".as_slice());
-    Ok(())
+// Puts a text twice.
+fn put_twice<W: Outlet>(out: &mut W) -> Result<(), WriteFailed> {
+    put(out, b"ok\n")?;
+    put(out, b"ok\n")
+}
+
+// Whether that is answered so by a writer with so much room that fails at the call with this number, and leaves these
+// bytes there; the same for a writer of std.
+fn is_put(
+    alloc: Global,
+    room: usize,
+    fault_at: u64,
+    answer: Result<(), WriteFailed>,
+    taken: &[u8],
+) -> Result<bool, AllocError> {
+    let mut out = drip_out(alloc, room, fault_at)?;
+    let mut by_std = ToWrite(drip_out(alloc, room, fault_at)?);
+    let answers = put_twice(&mut out) == answer && put_twice(&mut by_std) == answer;
+    Ok(answers && out.taken() == taken && by_std.0.taken() == taken)
 }
 
 #[test]
-fn a_failed_write_leaves_a_front(rt: HostRuntime) -> Result<(), Fail> {
-    let mut out = drip_out(rt.alloc(), 100, 5)?;
-    assert_eq!(rt; put(&mut out, b"ok\nok\n"), Err(WriteFailed));
-    assert_eq!(rt; out.taken(), b"ok\no".as_slice());
-    let mut out = ToWrite(drip_out(rt.alloc(), 100, 5)?);
-    assert_eq!(rt; put(&mut out, b"ok\nok\n"), Err(WriteFailed));
-    assert_eq!(rt; out.0.taken(), b"ok\no".as_slice());
+fn bytes_are_put_until_a_write_fails(rt: HostRuntime) -> Result<(), Fail> {
+    let alloc = rt.alloc();
+    assert!(rt; is_put(alloc, 100, 0, Ok(()), b"ok\nok\n")?);
+    assert!(rt; is_put(alloc, 100, 5, Err(WriteFailed), b"ok\no")?);
     Ok(())
 }
 
 #[test]
 fn a_writer_that_takes_no_byte_has_failed(rt: HostRuntime) -> Result<(), Fail> {
-    let mut out = drip_out(rt.alloc(), 2, 0)?;
-    assert_eq!(rt; put(&mut out, b"ok\n"), Err(WriteFailed));
-    assert_eq!(rt; out.taken(), b"ok".as_slice());
+    assert!(rt; is_put(rt.alloc(), 2, 0, Err(WriteFailed), b"ok")?);
     Ok(())
 }

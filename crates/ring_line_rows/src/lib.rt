@@ -1,5 +1,6 @@
-//! Worked rows of lines: the events that lines spell, lines that spell none, the lines of replies, what readers
-//! give, pages and ends take, how lines are answered, and replays that fail. Each has the values that it must come to.
+//! Worked rows of lines: what a client may ask, lines of replies, lists of events, what readers give, pages and ends
+//! take, how lines are answered, and replays that fail. Each has the values that it must come to. What a line and its
+//! reply can say is in the schedules of `ring_replays`.
 #![tactic(auto)]
 
 #[cfg(test)]
@@ -7,7 +8,7 @@ mod answering;
 #[cfg(test)]
 mod ends;
 #[cfg(test)]
-mod lists;
+mod events;
 #[cfg(test)]
 mod page;
 #[cfg(test)]

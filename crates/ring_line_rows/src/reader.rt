@@ -46,100 +46,98 @@ fn shown(next: &Next) -> &[u8] {
     }
 }
 
-#[test]
-fn a_last_line_needs_no_lf(rt: HostRuntime) -> Result<(), Fail> {
-    let text = b"create a chang\njoin a 3".as_slice();
-    let mut lines = lines_of(rt.alloc(), DripIn::new(text, 0), 1000)?;
-    assert!(rt; !lines.has_line());
-    assert_eq!(rt; shown(&lines.next()), b"create a chang".as_slice());
-    assert_eq!(rt; shown(&lines.next()), b"join a 3".as_slice());
-    assert_eq!(rt; shown(&lines.next()), b"<end>".as_slice());
-    assert_eq!(rt; shown(&lines.next()), b"<end>".as_slice());
+// The next answers of a reader are these.
+fn gives<R: Intake>(rt: &impl Abort, lines: &mut LineReader<R>, answers: &[&[u8]]) {
+    for answer in answers {
+        assert_eq!(rt; shown(&lines.next()), *answer);
+    }
+}
+
+// What is read by so many calls at most is given so.
+fn is_read<R: Intake + Drop>(
+    rt: &(impl Abort + AllocGlobal),
+    reader: R,
+    reads: u32,
+    answers: &[&[u8]],
+) -> Result<(), AllocError> {
+    let mut lines = lines_of(rt.alloc(), reader, reads)?;
+    gives(rt, &mut lines, answers);
     Ok(())
 }
 
 #[test]
-fn an_end_behind_an_lf_adds_no_line(rt: HostRuntime) -> Result<(), Fail> {
+fn an_end_needs_no_lf_and_adds_no_line(rt: HostRuntime) -> Result<(), Fail> {
+    let unended = DripIn::new(b"create a chang\njoin a 3", 0);
+    let answers = [
+        b"create a chang".as_slice(),
+        b"join a 3",
+        b"<end>",
+        b"<end>",
+    ];
+    is_read(&rt, unended, 1000, &answers)?;
+    is_read(&rt, DripIn::new(b"", 0), 1000, &[b"<end>"])?;
+    let ended = FromRead(b"a\n\nb\n".as_slice());
+    is_read(&rt, ended, 1000, &[b"a", b"", b"b", b"<end>"])?;
+    Ok(())
+}
+
+#[test]
+fn a_line_is_held_once_it_was_read(rt: HostRuntime) -> Result<(), Fail> {
     let mut lines = lines_of(rt.alloc(), FromRead(b"a\n\nb\n".as_slice()), 1000)?;
-    assert_eq!(rt; shown(&lines.next()), b"a".as_slice());
-    assert!(rt; lines.has_line());
-    assert_eq!(rt; shown(&lines.next()), b"".as_slice());
-    assert_eq!(rt; shown(&lines.next()), b"b".as_slice());
     assert!(rt; !lines.has_line());
-    assert_eq!(rt; shown(&lines.next()), b"<end>".as_slice());
+    gives(&rt, &mut lines, &[b"a"]);
+    assert!(rt; lines.has_line());
+    gives(&rt, &mut lines, &[b"", b"b"]);
+    assert!(rt; !lines.has_line());
     Ok(())
 }
 
 #[test]
-fn empty_input_ends_at_once(rt: HostRuntime) -> Result<(), Fail> {
-    let mut lines = lines_of(rt.alloc(), DripIn::new(b"", 0), 1000)?;
-    assert_eq!(rt; shown(&lines.next()), b"<end>".as_slice());
-    Ok(())
-}
-
-#[test]
-fn a_line_has_at_most_128_bytes(rt: HostRuntime) -> Result<(), Fail> {
+fn a_longer_line_than_128_bytes_is_answered_once(rt: HostRuntime) -> Result<(), Fail> {
     let text = [b'x'; 129];
-    let mut lines = lines_of(rt.alloc(), FromRead(&text[..128]), 1000)?;
-    assert_eq!(rt; shown(&lines.next()), &text[..128]);
-    let mut lines = lines_of(rt.alloc(), FromRead(text.as_slice()), 1000)?;
-    assert_eq!(rt; shown(&lines.next()), b"<long>".as_slice());
-    assert_eq!(rt; shown(&lines.next()), b"<end>".as_slice());
-    Ok(())
-}
-
-#[test]
-fn a_long_line_is_answered_once(rt: HostRuntime) -> Result<(), Fail> {
+    is_read(&rt, FromRead(&text[..128]), 1000, &[&text[..128], b"<end>"])?;
+    is_read(&rt, FromRead(text.as_slice()), 1000, &[b"<long>", b"<end>"])?;
     let long = io::repeat(b'x').take(100000);
     let text = b"a\n".as_slice().chain(long).chain(b"\nb\n".as_slice());
-    let mut lines = lines_of(rt.alloc(), FromRead(text), 1000)?;
-    assert_eq!(rt; shown(&lines.next()), b"a".as_slice());
-    assert_eq!(rt; shown(&lines.next()), b"<long>".as_slice());
-    assert_eq!(rt; shown(&lines.next()), b"b".as_slice());
-    assert_eq!(rt; shown(&lines.next()), b"<end>".as_slice());
+    is_read(
+        &rt,
+        FromRead(text),
+        1000,
+        &[b"a", b"<long>", b"b", b"<end>"],
+    )?;
     Ok(())
-}
-
-// Two lines, and then a failed read that cuts the third.
-fn fails_in_the_third_line<R: Intake>(rt: &impl Abort, lines: &mut LineReader<R>) {
-    assert_eq!(rt; shown(&lines.next()), b"create a chang".as_slice());
-    assert_eq!(rt; shown(&lines.next()), b"join a 3".as_slice());
-    assert_eq!(rt; shown(&lines.next()), b"<read>".as_slice());
-    assert_eq!(rt; shown(&lines.next()), b"<read>".as_slice());
 }
 
 #[test]
 fn a_failed_read_drops_the_line_that_it_cuts(rt: HostRuntime) -> Result<(), Fail> {
     let text = b"create a chang\njoin a 3\njoi".as_slice();
-    let drip = DripIn::new(text, 28);
-    fails_in_the_third_line(&rt, &mut lines_of(rt.alloc(), drip, 1000)?);
-    let drip = FromRead(DripIn::new(text, 28));
-    fails_in_the_third_line(&rt, &mut lines_of(rt.alloc(), drip, 1000)?);
+    let answers = [
+        b"create a chang".as_slice(),
+        b"join a 3",
+        b"<read>",
+        b"<read>",
+    ];
+    is_read(&rt, DripIn::new(text, 28), 1000, &answers)?;
+    is_read(&rt, FromRead(DripIn::new(text, 28)), 1000, &answers)?;
     Ok(())
+}
+
+// A reader that is interrupted at the first call, and at every other call then.
+fn stuttering() -> FromRead<Stutter<'static>> {
+    FromRead(Stutter {
+        bytes: DripIn::new(b"a\n", 0),
+        interrupted: false,
+    })
 }
 
 #[test]
 fn read_calls_are_counted(rt: HostRuntime) -> Result<(), Fail> {
     let text = b"create a chang\n".as_slice();
-    for (reads, last) in [(15, b"<endless>".as_slice()), (16, b"<end>".as_slice())] {
-        let mut lines = lines_of(rt.alloc(), DripIn::new(text, 0), reads)?;
-        assert_eq!(rt; shown(&lines.next()), b"create a chang".as_slice());
-        assert_eq!(rt; shown(&lines.next()), last);
-        assert_eq!(rt; shown(&lines.next()), last);
-    }
-    Ok(())
-}
-
-#[test]
-fn an_interrupted_read_counts_and_is_made_again(rt: HostRuntime) -> Result<(), Fail> {
-    for (reads, last) in [(5, b"<endless>".as_slice()), (6, b"<end>".as_slice())] {
-        let reader = Stutter {
-            bytes: DripIn::new(b"a\n", 0),
-            interrupted: false,
-        };
-        let mut lines = lines_of(rt.alloc(), FromRead(reader), reads)?;
-        assert_eq!(rt; shown(&lines.next()), b"a".as_slice());
-        assert_eq!(rt; shown(&lines.next()), last);
-    }
+    let endless = [b"create a chang".as_slice(), b"<endless>", b"<endless>"];
+    is_read(&rt, DripIn::new(text, 0), 15, &endless)?;
+    let ended = [b"create a chang".as_slice(), b"<end>", b"<end>"];
+    is_read(&rt, DripIn::new(text, 0), 16, &ended)?;
+    is_read(&rt, stuttering(), 5, &[b"a", b"<endless>"])?;
+    is_read(&rt, stuttering(), 6, &[b"a", b"<end>"])?;
     Ok(())
 }

@@ -1,4 +1,5 @@
-use ring_lines::{DripIn, DripOut, FromRead, LineFault, ToWrite, replay};
+use ring_lines::{DripIn, DripOut, FromRead, LineFault, ToWrite};
+use ring_schedule::replay;
 use std::alloc::{AllocError, Global};
 use std::process::Abort;
 use std::test::Fail;
@@ -27,40 +28,32 @@ fn whole(input: &[u8]) -> Given<'_> {
     }
 }
 
-// What a replay comes to, and what it writes.
-#[derive(Clone, Copy)]
-struct Outcome<'a> {
+// Whether a replay comes to this answer and writes these bytes; the same where its ends are a reader and a writer of std.
+fn comes(
+    alloc: Global,
+    given: Given,
     answer: Result<u64, LineFault>,
-    written: &'a [u8],
-}
-
-fn outcome_of(answer: Result<u64, LineFault>, written: &[u8]) -> Outcome<'_> {
-    Outcome { answer, written }
-}
-
-// Whether a replay comes to what is wanted.
-fn comes(alloc: Global, given: Given, wanted: Outcome) -> Result<bool, AllocError> {
+    written: &[u8],
+) -> Result<bool, AllocError> {
     let mut reader = DripIn::new(given.input, given.read_fault);
     let mut writer = DripOut::new(alloc, 100, given.write_fault)?;
-    let answer = replay(alloc, &mut reader, &mut writer, given.reads);
-    Ok(answer == wanted.answer && writer.taken() == wanted.written)
-}
-
-// The same, where the ends are a reader and a writer of std.
-fn comes_by_std(alloc: Global, given: Given, wanted: Outcome) -> Result<bool, AllocError> {
+    let first = replay(alloc, &mut reader, &mut writer, given.reads);
     let mut reader = FromRead(DripIn::new(given.input, given.read_fault));
-    let mut writer = ToWrite(DripOut::new(alloc, 100, given.write_fault)?);
-    let answer = replay(alloc, &mut reader, &mut writer, given.reads);
-    Ok(answer == wanted.answer && writer.0.taken() == wanted.written)
+    let mut by_std = ToWrite(DripOut::new(alloc, 100, given.write_fault)?);
+    let second = replay(alloc, &mut reader, &mut by_std, given.reads);
+    let answers = first == answer && second == answer;
+    Ok(answers && writer.taken() == written && by_std.0.taken() == written)
 }
 
-// Both come to what is wanted; replayed again where memory is refused.
-fn assert_comes(rt: &(impl Abort + AllocGlobal), given: Given, wanted: Outcome) {
-    let alloc = rt.alloc();
-    let first = comes(alloc, given, wanted);
-    assert!(rt; first == Ok(true) || comes(alloc, given, wanted) == Ok(true));
-    let first = comes_by_std(alloc, given, wanted);
-    assert!(rt; first == Ok(true) || comes_by_std(alloc, given, wanted) == Ok(true));
+// The same, replayed again where memory is refused.
+fn assert_comes(
+    rt: &(impl Abort + AllocGlobal),
+    given: Given,
+    answer: Result<u64, LineFault>,
+    written: &[u8],
+) {
+    let first = comes(rt.alloc(), given, answer, written);
+    assert!(rt; first == Ok(true) || comes(rt.alloc(), given, answer, written) == Ok(true));
 }
 
 // The first bytes of a text.
@@ -68,54 +61,63 @@ fn front(text: &[u8], len: usize) -> &[u8] {
     text.get(..len).unwrap_or(text)
 }
 
-// The replies to the lines that end within these bytes.
-fn replies_to(bytes: &[u8]) -> &[u8] {
-    let ended = bytes.iter().filter(|byte| **byte == b'\n').count();
-    let mut len = 0usize;
-    for line in REPLIES.split_inclusive(|byte| *byte == b'\n').take(ended) {
-        len = len.saturating_add(line.len());
+// How many lines end in a text.
+fn lines_in(text: &[u8]) -> usize {
+    let mut count = 0usize;
+    for byte in text {
+        if *byte == b'\n' {
+            count = count.saturating_add(1);
+        }
     }
-    front(REPLIES, len)
+    count
 }
 
-#[test]
-fn each_line_is_answered(rt: HostRuntime) {
-    assert_comes(&rt, whole(LINES), outcome_of(Ok(8), REPLIES));
-    let unended = front(LINES, 79);
-    assert_comes(&rt, whole(unended), outcome_of(Ok(8), REPLIES));
-    assert_comes(&rt, whole(b""), outcome_of(Ok(0), b""));
+// The first lines of a text.
+fn first_lines(text: &[u8], count: usize) -> &[u8] {
+    let mut ended = 0usize;
+    for len in 0..text.len() {
+        if ended == count {
+            return &text[..len];
+        }
+        if text[len] == b'\n' {
+            ended = ended.saturating_add(1);
+        }
+    }
+    text
 }
 
 #[test]
 fn a_failed_read_drops_the_line_that_it_cuts(rt: HostRuntime) {
     for call in 1..82u64 {
-        let read = front(LINES, call as usize - 1);
         let given = Given {
             read_fault: call,
             ..whole(LINES)
         };
+        let ended = lines_in(front(LINES, call as usize - 1));
         assert_comes(
             &rt,
             given,
-            outcome_of(Err(LineFault::Read), replies_to(read)),
+            Err(LineFault::Read),
+            first_lines(REPLIES, ended),
         );
     }
     let given = Given {
         read_fault: 82,
         ..whole(LINES)
     };
-    assert_comes(&rt, given, outcome_of(Ok(8), REPLIES));
+    assert_comes(&rt, given, Ok(8), REPLIES);
 }
 
 #[test]
 fn endless_input_is_answered_as_far_as_it_was_read(rt: HostRuntime) {
-    for (reads, answer) in [(15, Err(LineFault::Endless)), (16, Ok(1))] {
-        let given = Given {
-            reads,
-            ..whole(b"create a chang\n")
-        };
-        assert_comes(&rt, given, outcome_of(answer, b"ok\n"));
-    }
+    let given = whole(b"create a chang\n");
+    assert_comes(
+        &rt,
+        Given { reads: 15, ..given },
+        Err(LineFault::Endless),
+        b"ok\n",
+    );
+    assert_comes(&rt, Given { reads: 16, ..given }, Ok(1), b"ok\n");
 }
 
 #[test]
@@ -126,11 +128,11 @@ fn a_failed_write_leaves_a_front_of_the_replies(rt: HostRuntime) {
             ..whole(LINES)
         };
         let written = front(REPLIES, call as usize - 1);
-        assert_comes(&rt, given, outcome_of(Err(LineFault::Write), written));
+        assert_comes(&rt, given, Err(LineFault::Write), written);
     }
     let given = Given {
         write_fault: 58,
         ..whole(LINES)
     };
-    assert_comes(&rt, given, outcome_of(Ok(8), REPLIES));
+    assert_comes(&rt, given, Ok(8), REPLIES);
 }

@@ -1,6 +1,6 @@
 -- A delivery in a group's world keeps what a mux keeps: a member is informed exactly where its node
 -- knows, and the object moves by a step.
-use Rattle.std.proofs.Common.{◌≡◌, ◌≢◌, ◌-◌, ◌<◌, ℕ, zero, suc, get_or, Bool, true, false, cond, List, [], ◌∷◌, length, Option, Some, None, is_some, option_map, slice_get, slice_set, refl, sym, ap, ◌∙◌, arith, inl, inr}
+use Rattle.std.proofs.Common.{◌≡◌, ◌≢◌, ◌-◌, ◌<◌, ℕ, get_or, Bool, true, false, cond, List, length, Option, Some, None, is_some, option_map, slice_get, refl, sym, ap, ◌∙◌, inl, inr}
 use Rattle.std.specs.Map.{lookup, set_value}
 use Rattle.std.specs.Str.{bytes_eq}
 use Rattle.std.proofs.lemmas.Cmp.{nat_list_eq_equiv}
@@ -28,7 +28,8 @@ use Rattle.ring_terms.specs.Notes.{NotesOf}
 use Rattle.ring_terms.specs.declared.standing.Noting.{Noting}
 use Rattle.ring_terms.specs.declared.standing.Noting.TheVariants.{Noted, Known, Stale}
 use Rattle.ring_terms.proofs.Members.{position_is, position_of-at}
-use Rattle.ring_mux.specs.Steps.{MovesOf}
+use Rattle.ring_terms.specs.Steps.{MovesOf}
+use Rattle.ring_terms.proofs.Objects.{last_written, set_elsewhere, set_here}
 use Rattle.ring_mux.specs.Views.{IsHeld, IsWorldOf, world_in}
 use Rattle.ring_mux.specs.private.Views.{IsSeat}
 use Rattle.ring_mux.specs.Journeys.{with_world}
@@ -186,23 +187,6 @@ module _ {E S M : Type 0} (t : E → Table S M) (object : Object E) (worlds : Li
               record { world = kept.world; found = others_found name other worlds world after found differ ∙ kept.found; charter = kept.charter; marks = kept.marks }
         ] refl;
   }
-
--- what was written at a place stands there, and all else as before
-set_here : {X : Type 0} (xs : List X) (i : ℕ) (y : X) → i < length xs → slice_get (slice_set xs i y) i ≡ Some y
-set_here [] i y h = absurd (omega arith)
-set_here (x ∷ xs) zero y h = refl
-set_here (x ∷ xs) (suc i) y h = set_here xs i y (omega arith)
-
-set_elsewhere : {X : Type 0} (xs : List X) (i j : ℕ) (y : X) → j ≢ i → slice_get (slice_set xs i y) j ≡ slice_get xs j
-set_elsewhere [] i j y differ = refl
-set_elsewhere (x ∷ xs) zero zero y differ = absurd (differ refl)
-set_elsewhere (x ∷ xs) zero (suc j) y differ = refl
-set_elsewhere (x ∷ xs) (suc i) zero y differ = refl
-set_elsewhere (x ∷ xs) (suc i) (suc j) y differ = set_elsewhere xs i j y (λ e. differ (ap suc e))
-
--- the last of a list, once it was written
-pub last_written : {X : Type 0} (xs : List X) (x y : X) → slice_get xs (length xs - 1) ≡ Some x → slice_get (slice_set xs (length xs - 1) y) (length (slice_set xs (length xs - 1) y) - 1) ≡ Some y
-last_written xs x y last = rw length-set (set_here xs (length xs - 1) y (slice_get_within xs (length xs - 1) x last))
 
 module _ {E S M : Type 0} (t : E → Table S M) (object : Object E) (worlds : List (List ℕ × Running E M)) (held : IsHeld t object worlds) (name : List ℕ) (world : Running E M) (found : world_in name worlds ≡ Some world)
     (i : ℕ) (within : i < length world.journals) (side : Side) (p : Packet M) (group : GroupView E) (term : TermView) (at : find name object ≡ Some group) (last : last_term group ≡ Some term) (below : i < length term.ring) where

@@ -20,11 +20,12 @@ use Rattle.ring_terms.specs.Object.{GroupView, InGroup, Object, OfGroup, TermVie
 use Rattle.ring_mux.specs.declared.carried.Carried.TheVariants.{Moved}
 use Rattle.ring_mux.specs.Journeys.{CanMove, Carries, CarriesTimes, with_world}
 use Rattle.ring_mux.specs.private.Journeys.{CarriesAmong, MakesAmong}
-use Rattle.ring_mux.specs.Steps.{MovesOf, MovesTimes}
+use Rattle.ring_terms.specs.Steps.{MovesOf, MovesTimes}
 use Rattle.ring_mux.specs.Views.{Held, IsHeld, IsWorldOf, world_in}
 use Rattle.ring_mux.specs.private.Views.{IsSeat, IsSoundHeld}
 use Rattle.ring_mux.proofs.Outcomes.{of_found}
-use Rattle.ring_mux.proofs.Carrying.{last_written, position_here, running_ring, same_found, written_found}
+use Rattle.ring_terms.proofs.Objects.{last_written}
+use Rattle.ring_mux.proofs.Carrying.{position_here, running_ring, same_found, written_found}
 
 module _ {E S M : Type 0} (t : E → Table S M) (world : Running E M) where
   -- where something is in flight on a link into a position, something is pending there

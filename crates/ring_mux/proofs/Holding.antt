@@ -6,9 +6,7 @@ use Rattle.std.specs.Str.{bytes_eq}
 use Rattle.std.proofs.lemmas.Bool.{cases_Bool}
 use Rattle.std.proofs.lemmas.Cmp.{nat_list_eq_equiv}
 use Rattle.std.proofs.lemmas.List.{get_or-replicate, get_or_push, length-replicate, length_push}
-use Rattle.std.proofs.lemmas.Map.{lookup-set_value}
 use Rattle.std.proofs.lemmas.Option.{none-some, same_Some, slice_get-get_or}
-use Rattle.std.proofs.lemmas.Slice.Eq.{bytes_eq-Decides}
 use Rattle.ring_id.specs.declared.refusal.Refusal.{Refusal}
 use Rattle.ring_id.specs.declared.side.Side.{Side}
 use Rattle.ring_election.specs.Tables.{Table}
@@ -19,19 +17,10 @@ use Rattle.ring_world.specs.Worlds.{Running, node_at}
 use Rattle.ring_terms.specs.Charters.{next_charter, running_charter}
 use Rattle.ring_terms.specs.Commands.{Answers, Creates, Joins, Leaves, StartsWith}
 use Rattle.ring_terms.specs.Object.{GroupView, InGroup, Object, OfGroup, TermView, find, last_term, new_group, new_term, with_group}
+use Rattle.ring_terms.proofs.Objects.{find-with_group, same_name}
 use Rattle.ring_mux.specs.Journeys.{begun_of}
 use Rattle.ring_mux.specs.Views.{IsHeld, IsWorldOf, world_in}
 use Rattle.ring_mux.specs.WorldSteps.{BeginsWorld}
-
--- two names that are equal as bytes are one
-pub same_name : (name other : List ℕ) → bytes_eq name other ≡ true → name ≡ other
-same_name name other same = (bytes_eq-Decides name other).0 same
-
--- the group that is found after one was changed
-pub find-with_group : {E : Type 0} (name : List ℕ) (before after : GroupView E) (object : Object E) → find name object ≡ Some before → (other : List ℕ) →
-    find other (with_group name after object) ≡ cond (bytes_eq name other) (Some after) (find other object)
-find-with_group name before after object found other =
-    lookup-set_value nat_list_eq_equiv (bytes_eq name) (nat_list_eq_equiv.congr name) other after object (ap is_some found)
 
 -- what a look-up finds after an entry was added last: what it found before, or that entry
 lookup-push : {K X : Type 0} (test : K → Bool) (es : List (K × X)) (k : K) (v w : X) → lookup test (es ++ (k, v) ∷ []) ≡ Some w → (lookup test es ≡ Some w) ⊎ (v ≡ w)

@@ -3,7 +3,6 @@
 use Rattle.std.proofs.Common.{◌≡◌, ◌<◌, ℕ, true, false, cond, List, Option, Some, None, is_some, sym, ap, ◌∙◌}
 use Rattle.std.specs.Str.{bytes_eq}
 use Rattle.std.specs.Map.{set_value}
-use Rattle.ring_id.specs.declared.side.Side.{Side}
 use Rattle.ring_election.specs.Laws.{Deciding}
 use Rattle.ring_election.specs.Tables.{Table}
 use Rattle.ring_election.specs.Families.{Fitting}
@@ -13,7 +12,7 @@ use Rattle.ring_world.proofs.Quiet.{emptied_knows, none_pending_emptied, quiet_k
 use Rattle.ring_terms.specs.Commands.{running_refusal}
 use Rattle.ring_terms.specs.Object.{GroupView, Object, OfGroup, TermView, last_term}
 use Rattle.ring_mux.specs.Quiet.{QuietIsKnown}
-use Rattle.ring_mux.specs.Steps.{IsKnown, KnownIfNone}
+use Rattle.ring_terms.specs.Steps.{IsKnown, KnownIfNone}
 use Rattle.ring_mux.specs.private.Views.{AreSound, IsSoundHeld}
 use Rattle.ring_mux.specs.Views.{IsWorldOf, world_in}
 use Rattle.ring_mux.proofs.Carrying.{looked_up, running_ring}

@@ -13,7 +13,7 @@ use Rattle.ring_mux.specs.Journeys.{CarriesTimes, Makes}
 use Rattle.ring_mux.specs.private.Views.{AreSound}
 use Rattle.ring_mux.specs.Views.{Held, world_in}
 use Rattle.ring_mux.specs.WorldSteps.{LeavesQuiet}
-use Rattle.ring_mux.specs.declared.reply.Reply.TheVariants.{Drained}
+use Rattle.ring_events.specs.declared.reply.Reply.TheVariants.{Drained}
 use Rattle.ring_mux.proofs.Carrying.{same_found, written_found}
 
 -- one journal is longer by one

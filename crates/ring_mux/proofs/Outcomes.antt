@@ -11,14 +11,15 @@ use Rattle.ring_election.specs.Families.{Fitting}
 use Rattle.ring_node.specs.Nodes.{told_of}
 use Rattle.ring_node.specs.Reports.{Told}
 use Rattle.ring_node.specs.declared.charter.Charter.{Charter}
-use Rattle.ring_world.specs.Worlds.{HasMoved, IsSoundWorld, Running, after_receipt, link_refusal, node_at, size_of}
+use Rattle.ring_node.specs.Links.{link_refusal}
+use Rattle.ring_world.specs.Worlds.{HasMoved, IsSoundWorld, Running, after_receipt, node_at, size_of}
 use Rattle.ring_terms.specs.declared.standing.Noting.{Noting}
 use Rattle.ring_terms.specs.declared.standing.Noting.TheVariants.{Noted}
 use Rattle.ring_terms.specs.Notes.{Notes, NotesOf}
 use Rattle.ring_terms.specs.Object.{InGroup, Object}
 use Rattle.ring_mux.specs.declared.carried.Carried.TheVariants.{Moved}
 use Rattle.ring_mux.specs.Journeys.{Carries, Files, with_world}
-use Rattle.ring_mux.specs.Steps.{MovesOf}
+use Rattle.ring_terms.specs.Steps.{MovesOf}
 use Rattle.ring_mux.specs.Views.{Held, IsHeld, world_in}
 use Rattle.ring_mux.specs.private.Views.{IsSeat}
 use Rattle.ring_mux.proofs.Carrying.{held_silent, noted, same_found, seat_inside, silent_knows, told_knows, world_of}

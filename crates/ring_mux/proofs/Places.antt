@@ -25,7 +25,7 @@ use Rattle.ring_election.specs.Tables.{Table}
 use Rattle.ring_election.specs.Families.{Fitting}
 use Rattle.ring_world.specs.Worlds.{IsSoundWorld, Running}
 use Rattle.ring_mux.specs.Journeys.{HasCarried, begun_of, with_world}
-use Rattle.ring_mux.specs.Steps.{MovesOf}
+use Rattle.ring_terms.specs.Steps.{MovesOf}
 use Rattle.ring_mux.specs.private.Views.{HasGrown, IsAt, IsKeptAt, IsSoundHeld}
 use Rattle.ring_mux.specs.Views.{Held, IsHeld, placed, world_in}
 use Rattle.ring_mux.proofs.Carrying.{position_here, same_found}

@@ -11,18 +11,19 @@ use Rattle.ring_id.specs.Refusals.{IsRefusal, unless_some}
 use Rattle.ring_roster.specs.Ring.{is_numbered, position_of}
 use Rattle.ring_election.specs.Tables.{Table}
 use Rattle.ring_node.specs.declared.charter.Charter.{Charter}
-use Rattle.ring_world.specs.Worlds.{Cuts, Running, link_refusal}
+use Rattle.ring_node.specs.Links.{link_refusal}
+use Rattle.ring_world.specs.Worlds.{Cuts, Running}
 use Rattle.ring_terms.specs.Charters.{running_charter}
 use Rattle.ring_terms.specs.Commands.{in_group, member_refusal, running_refusal, who_refusal}
 use Rattle.ring_terms.specs.Object.{GroupView, InGroup, Object, OfGroup, OfLast, TermView, find, last_term}
-use Rattle.ring_mux.specs.private.Replies.{done_reply}
-use Rattle.ring_mux.specs.Steps.{MovesOf, Replies, deliver_refusal}
+use Rattle.ring_terms.specs.private.Replies.{done_reply}
+use Rattle.ring_terms.specs.Steps.{MovesOf, Replies, deliver_refusal}
 use Rattle.ring_mux.specs.Views.{Held, IsHeld, IsWorldOf, world_in}
 use Rattle.ring_mux.specs.private.Views.{IsSeat}
 use Rattle.ring_mux.specs.declared.carried.Carried.TheVariants.{Moved, Idle, Refused}
 use Rattle.ring_mux.specs.Journeys.{Carries, with_world}
 use Rattle.ring_mux.specs.WorldSteps.{CarriesAt, CutOfWorlds}
-use Rattle.ring_mux.specs.declared.reply.Reply.TheVariants as reply
+use Rattle.ring_events.specs.declared.reply.Reply.TheVariants as reply
 use Rattle.ring_mux.specs.declared.carried.Carried.{Carried}
 use Rattle.ring_mux.proofs.Carrying.{option_map-some, running_ring, same_found}
 

@@ -9,14 +9,15 @@ use Rattle.ring_election.specs.Tables.{Table}
 use Rattle.ring_node.specs.declared.charter.Charter.{Charter}
 use Rattle.ring_node.specs.Reports.{Told}
 use Rattle.ring_world.specs.Quiet.{IsQuiet}
-use Rattle.ring_world.specs.Worlds.{HasMoved, IsFirstLink, Running, in_flight, link_refusal, no_cuts}
+use Rattle.ring_node.specs.Links.{link_refusal}
+use Rattle.ring_world.specs.Worlds.{HasMoved, IsFirstLink, Running, in_flight, no_cuts}
 use Rattle.ring_terms.specs.declared.standing.Noting.TheVariants.{Noted}
 use Rattle.ring_terms.specs.Commands.{running_refusal}
 use Rattle.ring_terms.specs.Notes.{Notes}
 use Rattle.ring_terms.specs.Object.{InGroup, Object, OfGroup}
 use Rattle.ring_mux.specs.declared.carried.Carried.{Carried}
 use Rattle.ring_mux.specs.declared.carried.Carried.TheVariants.{Moved, Idle, Refused}
-use Rattle.ring_mux.specs.Steps.{MovesOf, MovesTimes}
+use Rattle.ring_terms.specs.Steps.{MovesOf, MovesTimes}
 use Rattle.ring_mux.specs.Views.{Held, world_in}
 
 -- the worlds with this one under that name, all others as they were

@@ -1,6 +1,5 @@
 pub mod Journeys
 pub mod Quiet
-pub mod Steps
 pub mod Views
 pub mod WorldSteps
 pub mod private

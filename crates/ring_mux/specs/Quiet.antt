@@ -5,7 +5,7 @@ use Rattle.ring_terms.specs.Charters.{running_charter}
 use Rattle.ring_terms.specs.Object.{GroupView, TermView, find, last_term}
 use Rattle.ring_world.specs.Quiet.{IsQuiet}
 use Rattle.ring_world.specs.Worlds.{IsUncut, Running}
-use Rattle.ring_mux.specs.Steps.{IsKnown}
+use Rattle.ring_terms.specs.Steps.{IsKnown}
 use Rattle.ring_mux.specs.Views.{Held, world_in}
 
 -- a running term has its world, and is known where no link of that is cut and it is quiet

@@ -14,14 +14,14 @@ use Rattle.ring_terms.specs.Charters.{running_charter}
 use Rattle.ring_terms.specs.Object.{OfGroup}
 use Rattle.ring_mux.specs.declared.carried.Carried.{Carried}
 use Rattle.ring_mux.specs.declared.carried.Carried.TheVariants as carried
-use Rattle.ring_mux.specs.declared.event.Command.{Command}
-use Rattle.ring_mux.specs.declared.event.Command.TheVariants.{Start}
-use Rattle.ring_mux.specs.declared.event.Event.{Event}
-use Rattle.ring_mux.specs.declared.event.Event.TheVariants as event
-use Rattle.ring_mux.specs.declared.reply.Reply.{Reply}
-use Rattle.ring_mux.specs.declared.reply.Reply.TheVariants as reply
+use Rattle.ring_events.specs.declared.event.Command.{Command}
+use Rattle.ring_events.specs.declared.event.Command.TheVariants.{Start}
+use Rattle.ring_events.specs.declared.event.Event.{Event}
+use Rattle.ring_events.specs.declared.event.Event.TheVariants as event
+use Rattle.ring_events.specs.declared.reply.Reply.{Reply}
+use Rattle.ring_events.specs.declared.reply.Reply.TheVariants as reply
 use Rattle.ring_mux.specs.Journeys.{Carries, Makes, begun_of, with_world}
-use Rattle.ring_mux.specs.Steps.{Step}
+use Rattle.ring_terms.specs.Steps.{Step}
 use Rattle.ring_mux.specs.Views.{Held, IsPendingIn, world_in}
 
 -- the world of the term that a group has started, before any delivery and any cut; every other group's stays

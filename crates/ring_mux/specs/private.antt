@@ -1,3 +1,2 @@
 pub mod Journeys
-pub mod Replies
 pub mod Views

@@ -8,10 +8,7 @@
 
 mod carried;
 mod deliveries;
-mod event;
 mod mux;
-mod reply;
 
-pub use event::{Command, Event};
 pub use mux::Mux;
-pub use reply::Reply;
+pub use ring_events::{Command, Event, Reply};

@@ -17,6 +17,8 @@ join a 0x7 => no bad-line
 join a 1e3 => no bad-line
 join a seven => no bad-line
 join a 10000000000 => no bad-line
+join a \xc3\xa4 => no bad-line
+join a \xff => no bad-line
 join a 18446744073709551617 => no bad-line
 join a 340282366920938463463374607431768211457 => no bad-line
 join a 4294967295 => ok
@@ -32,6 +34,8 @@ join  a 3 => no bad-line
 join a  3 => no bad-line
 join a 3\x20 => no bad-line
 \x20join a 3 => no bad-line
+Join a 3 => no bad-line
+JOIN a 3 => no bad-line
 \x20 => no bad-line
 groups\x20 => no bad-line
 \x20groups => no bad-line
@@ -62,6 +66,9 @@ drain a 1 1 => no bad-line
 
 # Names of groups have 1 to 16 bytes of a to z, 0 to 9 and hyphen.
 create A chang => no bad-line
+join A 7 => no bad-line
+join \xc3\xa4 7 => no bad-line
+join abcdefghijklmnopq 7 => no bad-line
 create a_b chang => no bad-line
 create a.b chang => no bad-line
 create abcdefghijklmnopq chang => no bad-line
@@ -83,6 +90,8 @@ deliver a 1 up => no bad-line
 deliver a 1 Left => no bad-line
 deliver a 1 l => no bad-line
 deliver a 1 both => no bad-line
+cut a 1 => no bad-line
+cut a 1 both => no bad-line
 
 # The count of a drain goes from 0 to 1000000000.
 drain a 1000000001 => no bad-line

@@ -86,6 +86,8 @@ join phases 2 => ok
 start phases => term 1
 drain phases 100 => drained 28 left 0
 who phases 4 => leader 1 2
+who phases 1 => leader 1 2
+who phases 3 => leader 1 2
 who phases 2 => leader 1 2
 
 # Peterson on a ring of two chooses the smaller identity.

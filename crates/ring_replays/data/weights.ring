@@ -19,6 +19,7 @@ join a 5/07 => no bad-line
 join a 5/+7 => no bad-line
 join a 5/-7 => no bad-line
 join a 5/65536 => no bad-line
+join a 5/4294967296 => no bad-line
 join a 5/4294967297 => no bad-line
 join a 5/7/7 => no bad-line
 join a 5/7/ => no bad-line
@@ -30,6 +31,7 @@ join a 05/7 => no bad-line
 join a 4294967296/7 => no bad-line
 join a 5 /7 => no bad-line
 join a 5/ 7 => no bad-line
+join a/9 5 => no bad-line
 
 # A node that is there already is called by its number.
 who a 1/9 => no bad-line

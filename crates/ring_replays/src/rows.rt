@@ -142,6 +142,3 @@ fn put_times(byte: u8, count: u32, out: &mut Vec<u8>) -> Result<(), AllocError> 
     }
     Ok(())
 }
-
-#[cfg(test)]
-mod tests;

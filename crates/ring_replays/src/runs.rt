@@ -1,6 +1,7 @@
 //! The ways in which a text of lines is replayed.
 use anyhow::{Result, anyhow};
-use ring_lines::{DripIn, DripOut, FromRead, Intake, LineFault, Outlet, ToWrite, replay};
+use ring_lines::{DripIn, DripOut, FromRead, Intake, LineFault, Outlet, ToWrite};
+use ring_schedule::replay;
 use std::alloc::Global;
 
 // How many read calls are made before the input counts as endless.

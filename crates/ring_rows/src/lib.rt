@@ -2,24 +2,18 @@
 //!
 //! All but `drain`, which rows call to bring a world to rest, is tests. A module of rows is one
 //! subject: a node, a world, the scans that a world is spared, its worked schedules, the settlement of
-//! nodes, groups at once, reports, replays over memory, and how much work rings take.
+//! nodes, reports, and how much work rings take. Groups at once are in the schedules of `ring_replays`.
 #![tactic(auto)]
 
 mod drains;
 #[cfg(test)]
-mod events;
-#[cfg(test)]
 mod memory;
-#[cfg(test)]
-mod mux_rows;
 #[cfg(test)]
 mod node_rows;
 #[cfg(test)]
 mod nodes;
 #[cfg(test)]
 mod note_rows;
-#[cfg(test)]
-mod replay_rows;
 #[cfg(test)]
 mod rings;
 #[cfg(test)]

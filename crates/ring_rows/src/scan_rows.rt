@@ -1,14 +1,12 @@
 //! The plain scans that a world's count and bits stand in for: before every delivery both say the same.
 
 use crate::worlds::{begun, deliver};
-use ring_chang::Chang;
+use ring_any::Any;
 use ring_election::RingElection;
-use ring_hirschberg::Hirschberg;
 use ring_id::Side;
-use ring_lelann::LeLann;
-use ring_peterson::Peterson;
 use ring_world::World;
 use std::alloc::Global;
+use std::process::Abort;
 use std::test::Fail;
 
 /// How many packets are in flight on the link into this position, by the lists of its two nodes.
@@ -90,35 +88,41 @@ fn compared<E: RingElection>(world: &mut World<E>, most: u32) -> Result<u32, Fai
     Err("the world has not come to rest".into())
 }
 
-/// How many deliveries the ring of these numbers takes, the scans agreeing all the way.
-fn taken<E: RingElection>(alloc: Global, algorithm: E, numbers: &[u32]) -> Result<u32, Fail> {
-    compared(&mut begun(alloc, algorithm, numbers)?, 999)
-}
-
-/// How many deliveries the ring of these numbers takes under LeLann, Chang and Roberts, Hirschberg and Sinclair, and
-/// Peterson.
-fn all_taken(alloc: Global, numbers: &[u32]) -> Result<[u32; 4], Fail> {
-    let lelann = taken(alloc, LeLann, numbers)?;
-    let chang = taken(alloc, Chang, numbers)?;
-    let hirschberg = taken(alloc, Hirschberg, numbers)?;
-    let peterson = taken(alloc, Peterson, numbers)?;
-    Ok([lelann, chang, hirschberg, peterson])
-}
-
-#[test]
-fn scans_agree_on_a_ring_of_one(rt: HostRuntime) -> Result<(), Fail> {
-    assert_eq!(rt; all_taken(rt.alloc(), &[7])?, [2, 2, 3, 3]);
+/// The ring of these numbers takes so many deliveries by each of these kinds, the scans agreeing all the way.
+fn scans_agree(
+    rt: &impl Abort,
+    alloc: Global,
+    numbers: &[u32],
+    kinds: &[(Any, u32)],
+) -> Result<(), Fail> {
+    for (kind, deliveries) in kinds {
+        let mut world = begun(alloc, *kind, numbers)?;
+        assert_eq!(rt; compared(&mut world, 999)?, *deliveries);
+    }
     Ok(())
 }
 
 #[test]
-fn scans_agree_on_a_ring_of_two(rt: HostRuntime) -> Result<(), Fail> {
-    assert_eq!(rt; all_taken(rt.alloc(), &[5, 9])?, [6, 5, 12, 10]);
-    Ok(())
-}
-
-#[test]
-fn scans_agree_on_a_ring_of_five(rt: HostRuntime) -> Result<(), Fail> {
-    assert_eq!(rt; all_taken(rt.alloc(), &[4, 1, 3, 2, 6])?, [30, 18, 58, 35]);
-    Ok(())
+fn scans_agree_on_rings_of_one_two_and_five(rt: HostRuntime) -> Result<(), Fail> {
+    let one = [
+        (Any::LeLann, 2),
+        (Any::Chang, 2),
+        (Any::Hirschberg, 3),
+        (Any::Peterson, 3),
+    ];
+    let two = [
+        (Any::LeLann, 6),
+        (Any::Chang, 5),
+        (Any::Hirschberg, 12),
+        (Any::Peterson, 10),
+    ];
+    let five = [
+        (Any::LeLann, 30),
+        (Any::Chang, 18),
+        (Any::Hirschberg, 58),
+        (Any::Peterson, 35),
+    ];
+    scans_agree(&rt, rt.alloc(), &[7], &one)?;
+    scans_agree(&rt, rt.alloc(), &[5, 9], &two)?;
+    scans_agree(&rt, rt.alloc(), &[4, 1, 3, 2, 6], &five)
 }

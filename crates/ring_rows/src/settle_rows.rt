@@ -12,45 +12,39 @@ use std::alloc::Global;
 use std::sync::Arc;
 use std::test::Fail;
 
-/// Whether a world has settled after so many deliveries, with so many of its nodes.
-fn settlement(alloc: Global, deliveries: u32, nodes: usize) -> Result<Settlement, Fail> {
+/// Whether a world has settled after so many deliveries, by so many of its nodes.
+fn is_settled(alloc: Global, deliveries: u32, nodes: usize) -> Result<bool, Fail> {
     let mut world = begun(alloc, Chang, &[3, 1, 2])?;
     drained(&mut world, deliveries)?;
-    let nodes = world.nodes().get(..nodes).ok_or("no such nodes")?;
-    Ok(settle(world.charter(), nodes))
-}
-
-#[test]
-fn a_world_settles_with_its_last_delivery(rt: HostRuntime) -> Result<(), Fail> {
-    assert_eq!(rt; settlement(rt.alloc(), 8, 3)?, Settlement::Settled);
-    for deliveries in 0..8 {
-        assert_eq!(rt;
-            settlement(rt.alloc(), deliveries, 3)?,
-            Settlement::Incomplete
-        );
-    }
-    Ok(())
-}
-
-#[test]
-fn a_missing_node_leaves_nodes_unsettled(rt: HostRuntime) -> Result<(), Fail> {
-    for nodes in 0..3 {
-        assert_eq!(rt; settlement(rt.alloc(), 8, nodes)?, Settlement::Incomplete);
-    }
-    Ok(())
-}
-
-/// Hands the node at this position what its left neighbour sent next; whether there was anything.
-fn hand_on(nodes: &mut [Node<Chang>], position: usize, left: usize) -> Result<bool, Fail> {
-    let place = nodes.get(position).ok_or("no such node")?.taken(Side::Left);
-    let sender = nodes.get(left).ok_or("no such neighbour")?;
-    let copy = Arc::try_clone(sender.charter())?;
-    let Some(envelope) = sender.envelope(copy, Side::Right, place) else {
-        return Ok(false);
+    let Some(nodes) = world.nodes().get(..nodes) else {
+        return Err("no such nodes".into());
     };
-    let receiver = nodes.get_mut(position).ok_or("no such node")?;
-    match offer(receiver, envelope)? {
-        Ok(_) => Ok(true),
+    Ok(settle(world.charter(), nodes) == Settlement::Settled)
+}
+
+#[test]
+fn all_nodes_settle_with_the_last_delivery(rt: HostRuntime) -> Result<(), Fail> {
+    for deliveries in 0..9 {
+        assert!(rt; is_settled(rt.alloc(), deliveries, 3)? == (deliveries == 8));
+    }
+    for nodes in 0..3 {
+        assert!(rt; !is_settled(rt.alloc(), 8, nodes)?);
+    }
+    Ok(())
+}
+
+/// Hands the node at this position what its left neighbour sent next, if there is anything.
+fn hand_on(nodes: &mut [Node<Chang>], position: usize, left: usize) -> Result<(), Fail> {
+    let (Some(receiver), Some(sender)) = (nodes.get(position), nodes.get(left)) else {
+        return Err("no such nodes".into());
+    };
+    let copy = Arc::try_clone(sender.charter())?;
+    let place = receiver.taken(Side::Left);
+    let Some(envelope) = sender.envelope(copy, Side::Right, place) else {
+        return Ok(());
+    };
+    match offer(&mut nodes[position], envelope)? {
+        Ok(_) => Ok(()),
         Err((fault, _)) => Err(fault.into()),
     }
 }
@@ -61,8 +55,8 @@ fn settled_nodes(alloc: Global, charter: &Arc<Charter<Chang>>) -> Result<Vec<Nod
     for position in 0..3 {
         add(&mut nodes, seated(alloc, charter, position)?)?;
     }
-    for (position, left) in [(0, 2), (1, 0), (2, 1)].into_iter().cycle().take(12) {
-        hand_on(&mut nodes, position, left)?;
+    for turn in 0..12 {
+        hand_on(&mut nodes, turn % 3, (turn + 2) % 3)?;
     }
     Ok(nodes)
 }
@@ -70,17 +64,19 @@ fn settled_nodes(alloc: Global, charter: &Arc<Charter<Chang>>) -> Result<Vec<Nod
 /// The same nodes, and the last of them a second time.
 fn doubled_nodes(alloc: Global, charter: &Arc<Charter<Chang>>) -> Result<Vec<Node<Chang>>, Fail> {
     let mut nodes = settled_nodes(alloc, charter)?;
-    let double = settled_nodes(alloc, charter)?.pop();
-    add(&mut nodes, double.ok_or("no node")?)?;
+    let Some(double) = settled_nodes(alloc, charter)?.pop() else {
+        return Err("no node".into());
+    };
+    add(&mut nodes, double)?;
     Ok(nodes)
 }
 
 #[test]
 fn nodes_by_themselves_settle_and_a_double_does_not(rt: HostRuntime) -> Result<(), Fail> {
     let charter = charter(rt.alloc(), 1, Chang, &[3, 1, 2])?;
-    let settled = settle(&charter, &settled_nodes(rt.alloc(), &charter)?);
-    let doubled = settle(&charter, &doubled_nodes(rt.alloc(), &charter)?);
-    let wanted = (Settlement::Settled, Settlement::Incomplete);
-    assert_eq!(rt; (settled, doubled), wanted);
+    let nodes = settled_nodes(rt.alloc(), &charter)?;
+    assert!(rt; settle(&charter, &nodes) == Settlement::Settled);
+    let nodes = doubled_nodes(rt.alloc(), &charter)?;
+    assert!(rt; settle(&charter, &nodes) == Settlement::Incomplete);
     Ok(())
 }

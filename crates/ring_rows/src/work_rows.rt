@@ -41,76 +41,50 @@ fn messages(alloc: Global, kind: Any, size: u16, leader: u32) -> Result<u128, Fa
     if !is_quiet(&world, leader) {
         return Err("the ring isn't quiet, or knows another leader".into());
     }
-    let messages = world.delivered().checked_sub(size as u128);
-    Ok(messages.ok_or("an announcement is missing")?)
+    match world.delivered().checked_sub(size as u128) {
+        Some(messages) => Ok(messages),
+        None => Err("an announcement is missing".into()),
+    }
 }
 
-/// A ring of each size takes at most so many messages until all know this leader.
-fn takes_at_most(
+/// A ring of each kind and size takes at most so many messages until all know this leader.
+fn take_at_most(
     rt: &impl Abort,
     alloc: Global,
-    kind: Any,
-    rings: &[(u16, u32, u128)],
+    rings: &[(Any, u16, u32, u128)],
 ) -> Result<(), Fail> {
-    for (size, leader, bound) in rings {
-        let taken = messages(alloc, kind, *size, *leader)?;
+    for (kind, size, leader, bound) in rings {
+        let taken = messages(alloc, *kind, *size, *leader)?;
         assert!(rt; taken <= *bound, "{taken} on {size}");
     }
     Ok(())
 }
 
+/// The bounds are n squared for LeLann and for Chang and Roberts, what the phases take for Hirschberg and Sinclair,
+/// and what the rounds take for Peterson.
 #[test]
-fn lelann_takes_at_most_n_squared(rt: HostRuntime) -> Result<(), Fail> {
+fn each_kind_takes_at_most_its_bound(rt: HostRuntime) -> Result<(), Fail> {
     let rings = [
-        (1, 83, 1),
-        (2, 166, 4),
-        (3, 249, 9),
-        (4, 249, 16),
-        (256, 256, 65536),
+        (Any::LeLann, 1, 83, 1),
+        (Any::LeLann, 2, 166, 4),
+        (Any::LeLann, 3, 249, 9),
+        (Any::LeLann, 4, 249, 16),
+        (Any::LeLann, 256, 256, 65536),
+        (Any::Chang, 1, 83, 1),
+        (Any::Chang, 2, 166, 4),
+        (Any::Chang, 3, 249, 9),
+        (Any::Chang, 4, 249, 16),
+        (Any::Chang, 256, 256, 65536),
+        (Any::Hirschberg, 1, 83, 4),
+        (Any::Hirschberg, 2, 166, 32),
+        (Any::Hirschberg, 3, 249, 108),
+        (Any::Hirschberg, 4, 249, 192),
+        (Any::Hirschberg, 256, 256, 2359296),
+        (Any::Peterson, 1, 83, 2),
+        (Any::Peterson, 2, 83, 8),
+        (Any::Peterson, 3, 83, 12),
+        (Any::Peterson, 4, 75, 24),
+        (Any::Peterson, 256, 67, 4608),
     ];
-    takes_at_most(&rt, rt.alloc(), Any::LeLann, &rings)
-}
-
-#[test]
-fn chang_takes_at_most_n_squared(rt: HostRuntime) -> Result<(), Fail> {
-    let rings = [
-        (1, 83, 1),
-        (2, 166, 4),
-        (3, 249, 9),
-        (4, 249, 16),
-        (256, 256, 65536),
-    ];
-    takes_at_most(&rt, rt.alloc(), Any::Chang, &rings)
-}
-
-#[test]
-fn hirschberg_takes_at_most_its_phases(rt: HostRuntime) -> Result<(), Fail> {
-    let rings = [
-        (1, 83, 4),
-        (2, 166, 32),
-        (3, 249, 108),
-        (4, 249, 192),
-        (256, 256, 2359296),
-    ];
-    takes_at_most(&rt, rt.alloc(), Any::Hirschberg, &rings)
-}
-
-#[test]
-fn peterson_takes_at_most_its_rounds(rt: HostRuntime) -> Result<(), Fail> {
-    let rings = [
-        (1, 83, 2),
-        (2, 83, 8),
-        (3, 83, 12),
-        (4, 75, 24),
-        (256, 67, 4608),
-    ];
-    takes_at_most(&rt, rt.alloc(), Any::Peterson, &rings)
-}
-
-#[test]
-fn peterson_takes_its_bound_on_4_1_3_2(rt: HostRuntime) -> Result<(), Fail> {
-    let mut world = begun(rt.alloc(), Any::Peterson, &[4, 1, 3, 2])?;
-    let deliveries = drained(&mut world, 100)?;
-    assert_eq!(rt; (deliveries, all_know(&world, 2)), (24 + 4, true));
-    Ok(())
+    take_at_most(&rt, rt.alloc(), &rings)
 }

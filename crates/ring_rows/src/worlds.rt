@@ -97,8 +97,9 @@ pub fn drained<E: RingElection>(world: &mut World<E>, most: u32) -> Result<u32, 
     if let Ok(done) = drain(world, most) {
         return Ok(done);
     }
-    let made = world.delivered().saturating_sub(before);
-    let made = u32::try_from(made).map_err(|_| "more deliveries than were asked for")?;
+    let Ok(made) = u32::try_from(world.delivered().saturating_sub(before)) else {
+        return Err("more deliveries than were asked for".into());
+    };
     let rest = drain(world, most.saturating_sub(made))?;
     Ok(made.saturating_add(rest))
 }

@@ -4,9 +4,9 @@ use Rattle.std.proofs.lemmas.List.{append_assoc, append-nil}
 use Rattle.std.proofs.lemmas.List.Elements.{All-append, All-cons, All-nil}
 use Rattle.ring_any.specs.declared.any.Any.{Any}
 use Rattle.ring_lines.specs.Rounds.{RunOf}
-use Rattle.ring_mux.specs.declared.reply.Reply.{Reply}
+use Rattle.ring_events.specs.declared.reply.Reply.{Reply}
 use Rattle.ring_service.specs.Sessions.{AnswersIn, RepliesTo}
-use Rattle.ring_service.specs.declared.entry.Entry.{Entry}
+use Rattle.ring_table.specs.declared.entry.Entry.{Entry}
 use Rattle.ring_server.specs.Sessions.{GainsCalls, IsCallOf}
 
 -- what a line adds

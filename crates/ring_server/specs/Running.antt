@@ -1,8 +1,8 @@
--- How sessions are numbered, and what standard output is told where clients are served without an end.
-use Rattle.std.specs.Prelude.{◌≡◌, ◌==◌, ◌+◌, ◌⊎◌, ℕ, List, if◌then◌else◌}
+-- What standard output was told at a fault, where clients are served without an end.
+use Rattle.std.specs.Prelude.{◌≡◌, ◌⊎◌, ℕ, List}
 use Rattle.ring_lines.specs.Ends.{Writing, Wrote, WroteFront}
-use Rattle.ring_server.specs.declared.fault.ProgramFault.{ProgramFault}
-use Rattle.ring_server.specs.declared.fault.ProgramFault.TheVariants.{NoMemory, Thread, Write}
+use Rattle.ring_door.specs.declared.fault.ProgramFault.{ProgramFault}
+use Rattle.ring_door.specs.declared.fault.ProgramFault.TheVariants.{NoMemory, Thread, Write}
 
 -- What was written where it could not begin: the first line or nothing where a thread could not be started, a
 -- front of the line at a failed write, and nothing where memory was refused. No other fault comes.
@@ -11,7 +11,3 @@ FirstOrNone gives from first Thread to = (to ≡ from) ⊎ Wrote gives from firs
 FirstOrNone gives from first Write to = WroteFront gives from first to
 FirstOrNone gives from first NoMemory to = to ≡ from
 FirstOrNone gives from first _ to = ⊥
-
--- the number of the session after this one: one more, and 1 after the greatest
-abbrev pub next_number : ℕ → ℕ
-next_number last = if last == 4294967295 then 1 else last + 1

@@ -1,8 +1,8 @@
 -- What a session adds to the entries of its seat.
 use Rattle.std.specs.Prelude.{◌≡◌, ℕ, List, ◌++◌, All}
 use Rattle.ring_any.specs.declared.any.Any.{Any}
-use Rattle.ring_service.specs.declared.entry.Entry.{Entry}
-use Rattle.ring_service.specs.declared.entry.Entry.TheVariants.{Call, Filing}
+use Rattle.ring_table.specs.declared.entry.Entry.{Entry}
+use Rattle.ring_table.specs.declared.entry.Entry.TheVariants.{Call, Filing}
 
 -- the entry is a call of this session
 abbrev pub IsCallOf : ℕ → Entry Any → Type 0

@@ -1,18 +1,17 @@
 //! Accepts clients, as many as were asked for, each with a session in a thread of its own.
-ghost use Rattle.std.specs.Prelude.{◌≡◌, ◌++◌, All, IfErr, IfOk, MatchResult, string_bytes};
-ghost use Rattle.ring_lines.specs.Ends.{Wrote, WroteFront};
-ghost use Rattle.ring_server.specs.Listening.{BothAt, IsOfConnections, closed_line, listening_line};
+ghost use Rattle.std.specs.Prelude.{◌≡◌, ◌++◌, All, MatchResult};
+ghost use Rattle.ring_lines.specs.Ends.{Wrote};
+ghost use Rattle.ring_door.specs.Telling.{closed_line, listening_line};
+ghost use Rattle.ring_server.specs.Listening.{BothAt};
 ghost use Rattle.ring_server.specs.private.Listening.{FirstAt};
 
-use crate::fault::ProgramFault;
 use crate::sessions;
-use crate::sessions::{Front, Seat, Serving, guests};
+use crate::sessions::{Front, Seat, guests};
 use ring_config::Config;
-use ring_lines::{Outlet, put};
-use std::alloc::{AllocError, Global};
+use ring_door::{ProgramFault, accept_all, say_closed, say_listening, tell};
+use ring_lines::Outlet;
 use std::net::{OpenListener, TcpStream};
 use std::sync::Wait;
-use std::thread;
 use std::thread::Threads;
 use std::time::Clock;
 
@@ -57,20 +56,6 @@ where
     }
 }
 
-/// The line that says where the program listens.
-pub fn say_listening(alloc: Global, port: u16) -> Result<String, AllocError>
-    ensures { IfOk result (λ line. string_bytes line ≡ listening_line port) }
-{
-    format!(in alloc; "listening 127.0.0.1:{port}\n")
-}
-
-// The line that says that all sessions have ended.
-fn say_closed(alloc: Global, connections: u32) -> Result<String, AllocError>
-    ensures { IfOk result (λ line. string_bytes line ≡ closed_line connections) }
-{
-    format!(in alloc; "closed {connections}\n")
-}
-
 // Says that it listens, and serves all connections.
 fn serve_all<R, L, O>(
     rt: &R,
@@ -92,46 +77,4 @@ where
     let guests = guests(rt.alloc(), front, seats)?;
     tell(out, listening)?;
     accept_all(rt, listener, guests)
-}
-
-/// Accepts a connection for each guest, and waits for their sessions.
-///
-/// Each session is in a thread of its own, and they are numbered from 1 in the order of their accepts. Where an
-/// accept fails or a thread could not be started, no further connection is accepted.
-pub fn accept_all<R, L, G>(rt: &R, listener: L, guests: Vec<G>) -> Result<(), ProgramFault>
-where
-    R: Threads + Wait + Sync,
-    L: OpenListener<Stream = TcpStream> + Drop,
-    G: Serving + Send,
-    ensures { IfErr result IsOfConnections }
-{
-    thread::scope(
-        thread::scope_env(),
-        rt,
-        move |scope| -> Result<(), ProgramFault>
-            ensures { IfErr result IsOfConnections }
-        {
-            for (session, mut guest) in (1..=u32::MAX).zip(guests) {
-                let Ok((stream, _)) = listener.accept() else {
-                    return Err(ProgramFault::Accept);
-                };
-                let Ok(_) = scope.spawn(move || guest.serve(rt, session, &stream, false)) else {
-                    return Err(ProgramFault::Thread);
-                };
-            }
-            Ok(())
-        },
-    )
-}
-
-/// Writes one line.
-pub fn tell<O: Outlet>(out: &mut O, line: &str) -> Result<(), ProgramFault>
-    ensures { MatchResult result
-        (λ _. Wrote O.write_gives out.old line.now out.new)
-        (λ fault. (fault ≡ ProgramFault.Write) × WroteFront O.write_gives out.old line.now out.new) }
-{
-    match put(out, line.as_bytes()) {
-        Ok(()) => Ok(()),
-        Err(_) => Err(ProgramFault::Write),
-    }
 }

@@ -3,21 +3,23 @@ ghost use Rattle.std.specs.Prelude.{◌≡◌, ◌<◌, ◌≤◌, ◌*◌, ◌+
 ghost use Rattle.ring_service.specs.Places.{ServesPlaced};
 ghost use Rattle.ring_service.specs.Sessions.{Serves};
 ghost use Rattle.ring_server.specs.Faults.{IsOfStart};
+ghost use Rattle.ring_server.specs.private.Faults.{start_told_as};
 ghost use Rattle.ring_server.specs.Sessions.{GainsCalls};
-ghost use Rattle.ring_server.specs.declared.fault.ProgramFault.TheVariants.{NoMemory};
+ghost use Rattle.ring_door.specs.declared.fault.ProgramFault.TheVariants.{NoMemory};
 
-use crate::fault::ProgramFault;
 use ring_any::Any;
 use ring_config::Config;
+use ring_door::{ProgramFault, Serving};
 use ring_lines::{FromRead, Intake, LineFault, Outlet, ToWrite};
-use ring_service::Table;
+use ring_service::StartFault;
+use ring_table::Table;
 use ring_turn::TurnLock;
 use ring_workers::{Gate, OpenGate};
 use std::alloc::Global;
 use std::net::TcpStream;
 use std::sync::{Arc, Wait};
 use std::thread::Threads;
-use std::time::{Clock, Duration};
+use std::time::Clock;
 
 // How many read calls a session makes at most.
 const READS: u32 = u32::MAX;
@@ -92,8 +94,20 @@ where
     let Ok(access) = Arc::new(alloc, lock) else {
         return Err(ProgramFault::NoMemory);
     };
-    let service = Service::gated(rt, alloc, access, seats, config.workers, config.inbox, gate)?;
-    Ok((service, guests))
+    match Service::gated(rt, alloc, access, seats, config.workers, config.inbox, gate) {
+        Ok(service) => Ok((service, guests)),
+        Err(fault) => Err(told_of_start(fault)),
+    }
+}
+
+// What the program tells of a service that could not be started.
+fn told_of_start(fault: StartFault) -> ProgramFault
+    ensures { result ≡ start_told_as fault }
+{
+    match fault {
+        StartFault::NoMemory => ProgramFault::NoMemory,
+        StartFault::Thread => ProgramFault::Thread,
+    }
 }
 
 /// What the sessions of a service share. Takes no memory.
@@ -128,20 +142,6 @@ pub fn guests(
         guests.push_reserved(Guest { front, seat });
     }
     Ok(guests)
-}
-
-/// What serves one client after another.
-pub trait Serving: Drop {
-    /// Whether it has no turn left for its clients.
-    fn is_spent(&self) -> bool;
-
-    /// One session over a socket: each line of the client is answered by one line, told with its place where
-    /// places are asked for.
-    ///
-    /// It ends when the client has sent all, when reading or writing fails, and when memory is refused
-    /// before its first line. Every reply goes out at once. The session's number stands in the history with
-    /// each of its commands; no reply tells it.
-    fn serve<R: Wait>(&mut self, rt: &R, session: u32, stream: &TcpStream, places: bool);
 }
 
 impl Serving for Guest<'_> {
@@ -182,14 +182,5 @@ fn answer<R: Wait, I: Intake, O: Outlet>(
         front.serve_placed(rt, seat, session, reader, writer, READS)
     } else {
         front.serve(rt, seat, session, reader, writer, READS)
-    }
-}
-
-/// Has a session end where its client sends nothing, or takes no reply, for so many seconds; never at 0.
-pub fn limit_silence(stream: &TcpStream, seconds: u32) {
-    if seconds > 0 {
-        let longest = Some(Duration::from_secs(u64::from(seconds)));
-        let _ = stream.set_read_timeout(longest);
-        let _ = stream.set_write_timeout(longest);
     }
 }

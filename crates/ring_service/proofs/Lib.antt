@@ -1,11 +1,4 @@
-pub mod Chartering
-pub mod Chunking
-pub mod Finishing
-pub mod Following
-pub mod Iterating
-pub mod Outcomes
 pub mod Replying
-pub mod Showing
 pub mod Speaking
 pub mod Placing
 pub mod Posting

@@ -3,18 +3,18 @@ use Rattle.std.proofs.Common.{ℕ, List, [], ◌∷◌, refl, sym, ◌∙◌, ap
 use Rattle.ring_id.specs.declared.refusal.Refusal.TheVariants.{BadLine}
 use Rattle.ring_any.specs.Any.{any_greatest, any_two_way}
 use Rattle.ring_any.specs.declared.any.Any.{Any}
-use Rattle.ring_mux.specs.declared.event.Command.{Command}
-use Rattle.ring_mux.specs.declared.event.Command.TheVariants.{Start}
-use Rattle.ring_mux.specs.declared.event.Event.TheVariants.{Client}
-use Rattle.ring_mux.specs.declared.reply.Reply.TheVariants.{Refused}
+use Rattle.ring_events.specs.declared.event.Command.{Command}
+use Rattle.ring_events.specs.declared.event.Command.TheVariants.{Start}
+use Rattle.ring_events.specs.declared.event.Event.TheVariants.{Client}
+use Rattle.ring_events.specs.declared.reply.Reply.TheVariants.{Refused}
 use Rattle.ring_node.specs.declared.charter.Charter.{Charter}
 use Rattle.ring_grammar.specs.Spelling.{Spells}
-use Rattle.ring_service.specs.Accesses.{AnswersAtSeat, BeginsAtSeat, reply_of}
+use Rattle.ring_table.specs.Accesses.{AnswersAtSeat, BeginsAtSeat, reply_of}
 use Rattle.ring_service.specs.Sessions.{AnswersIn}
-use Rattle.ring_service.specs.declared.access.Answer.{Answer}
-use Rattle.ring_service.specs.declared.access.Answer.TheVariants.{Placed, Unplaced}
-use Rattle.ring_service.specs.declared.entry.Entry.{Entry}
-use Rattle.ring_service.specs.declared.entry.Entry.TheVariants.{Call}
+use Rattle.ring_table.specs.declared.access.Answer.{Answer}
+use Rattle.ring_table.specs.declared.access.Answer.TheVariants.{Placed, Unplaced}
+use Rattle.ring_table.specs.declared.entry.Entry.{Entry}
+use Rattle.ring_table.specs.declared.entry.Entry.TheVariants.{Call}
 use Rattle.ring_service.proofs.Speaking.{step_not}
 
 -- a start, as a call

@@ -8,12 +8,12 @@ use Rattle.ring_id.specs.Refusals.{IsRefusal, refused_if, unless_some}
 use Rattle.ring_roster.specs.Ring.{has_number, is_numbered, position_of}
 use Rattle.ring_terms.specs.Commands.{create_refusal, in_group, join_refusal, leave_refusal, member_refusal, never_refused, start_refusal, who_refusal}
 use Rattle.ring_terms.specs.Object.{GroupView, Object, find, last_term}
-use Rattle.ring_mux.specs.declared.event.Command.{Command}
-use Rattle.ring_mux.specs.declared.event.Command.TheVariants.{Create, Join, Leave, Start, Who, Members, Terms, Groups}
-use Rattle.ring_mux.specs.declared.reply.Reply.{Reply}
-use Rattle.ring_mux.specs.declared.reply.Reply.TheVariants as reply
-use Rattle.ring_mux.specs.Steps.{StepOf}
-use Rattle.ring_service.specs.Tables.{Calls, TableView}
+use Rattle.ring_events.specs.declared.event.Command.{Command}
+use Rattle.ring_events.specs.declared.event.Command.TheVariants.{Create, Join, Leave, Start, Who, Members, Terms, Groups}
+use Rattle.ring_events.specs.declared.reply.Reply.{Reply}
+use Rattle.ring_events.specs.declared.reply.Reply.TheVariants as reply
+use Rattle.ring_terms.specs.Steps.{StepOf}
+use Rattle.ring_table.specs.Tables.{Calls, TableView}
 
 -- what is refused for this first reason is not refused as a bad line
 record IsNoBadLine (first : Option Refusal) : Type 0 where

@@ -1,9 +1,3 @@
-pub mod Accesses
-pub mod Finishing
-pub mod Histories
-pub mod Kept
-pub mod Locks
 pub mod Sessions
-pub mod Tables
 pub mod Places
 pub mod private

@@ -1,30 +1,15 @@
--- Sessions whose replies are told with their places: the number of entries of the history up to and with the
--- call that was answered.
+-- Sessions whose replies are told with their places.
 use Rattle.std.specs.Prelude.{◌≡◌, ℕ, List, [], ◌∷◌, ◌++◌, Result}
-use Rattle.std.specs.Fmt.{decimal}
 use Rattle.ring_any.specs.declared.any.Any.{Any}
-use Rattle.ring_grammar.specs.Spelling.{IsReply, reply_line}
 use Rattle.ring_lines.specs.Ends.{Reading, Writing}
 use Rattle.ring_lines.specs.Rounds.{AnswersLines}
 use Rattle.ring_lines.specs.declared.answers.LineFault.{LineFault}
-use Rattle.ring_service.specs.Accesses.{reply_of}
+use Rattle.ring_table.specs.Accesses.{reply_of}
 use Rattle.ring_service.specs.Sessions.{AnswersIn}
-use Rattle.ring_service.specs.declared.access.Answer.{Answer}
-use Rattle.ring_service.specs.declared.access.Answer.TheVariants.{Placed, Unplaced}
-use Rattle.ring_service.specs.declared.entry.Entry.{Entry}
-
--- the place of an answer, in decimal, and a hyphen where it has none
-abbrev pub place_word : Answer → List ℕ
-place_word (Placed reply place) = decimal place
-place_word (Unplaced refusal) = 45 ∷ []
-
--- the place, one space, and the line of the reply
-abbrev pub placed_line : Answer → List ℕ
-placed_line answer = (place_word answer ++ 32 ∷ []) ++ reply_line (reply_of answer)
-
--- the answer's reply is one of the grammar
-abbrev pub has_reply : Answer → Type 0
-has_reply answer = IsReply (reply_of answer)
+use Rattle.ring_table.specs.Places.{has_reply, placed_line}
+use Rattle.ring_table.specs.declared.access.Answer.{Answer}
+use Rattle.ring_table.specs.declared.access.Answer.TheVariants.{Placed, Unplaced}
+use Rattle.ring_table.specs.declared.entry.Entry.{Entry}
 
 -- an answer has a place exactly where the seat gained an entry
 abbrev pub GainsIfPlaced : List (Entry Any) → Answer → List (Entry Any) → Type 0

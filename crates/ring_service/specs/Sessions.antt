@@ -5,17 +5,17 @@ use Rattle.ring_id.specs.declared.refusal.Refusal.{Refusal}
 use Rattle.ring_id.specs.declared.refusal.Refusal.TheVariants.{BadLine}
 use Rattle.ring_any.specs.Any.{any_greatest, any_two_way}
 use Rattle.ring_any.specs.declared.any.Any.{Any}
-use Rattle.ring_mux.specs.declared.event.Command.{Command}
-use Rattle.ring_mux.specs.declared.event.Event.TheVariants.{Client}
-use Rattle.ring_mux.specs.declared.reply.Reply.{Reply}
-use Rattle.ring_mux.specs.declared.reply.Reply.TheVariants.{Refused}
+use Rattle.ring_events.specs.declared.event.Command.{Command}
+use Rattle.ring_events.specs.declared.event.Event.TheVariants.{Client}
+use Rattle.ring_events.specs.declared.reply.Reply.{Reply}
+use Rattle.ring_events.specs.declared.reply.Reply.TheVariants.{Refused}
 use Rattle.ring_grammar.specs.Spelling.{IsReply as IsLegalReply, Spells, reply_line}
 use Rattle.ring_lines.specs.Ends.{Reading, Writing}
 use Rattle.ring_lines.specs.Rounds.{AnswersLines}
 use Rattle.ring_lines.specs.declared.answers.LineFault.{LineFault}
-use Rattle.ring_service.specs.Accesses.{HasStep, LeavesOut}
-use Rattle.ring_service.specs.declared.entry.Entry.{Entry}
-use Rattle.ring_service.specs.declared.entry.Entry.TheVariants.{Call}
+use Rattle.ring_table.specs.Accesses.{HasStep, LeavesOut}
+use Rattle.ring_table.specs.declared.entry.Entry.{Entry}
+use Rattle.ring_table.specs.declared.entry.Entry.TheVariants.{Call}
 
 -- A line that spells a client command, which was placed: the reply is that of a step, it is not that of
 -- a bad line, and the call with this reply is the one entry that the seat gained.

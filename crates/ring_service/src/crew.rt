@@ -1,11 +1,11 @@
 ghost use Rattle.std.specs.Prelude.{◌≡◌, ◌+◌, ◌<◌, ◌≤◌, IfErr, IfOk, OnOk, vec_capacity, vec_len};
 
-use crate::access::Access;
 use crate::service::StartFault;
 use ring_any::Any;
 use ring_id::NoMemory;
 use ring_inbox::{ReceiverPass, SenderPass};
 use ring_node::Report;
+use ring_table::Access;
 use ring_workers::{Desk, Filed, Gate, Handed, Item, Worker, run_worker};
 use std::alloc::Global;
 use std::marker::Model;

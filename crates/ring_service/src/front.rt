@@ -1,18 +1,18 @@
 ghost use Rattle.std.specs.Prelude.{◌≡◌};
 ghost use Rattle.ring_any.specs.Any.{any_greatest, any_two_way};
-ghost use Rattle.ring_mux.specs.declared.event.Command.TheVariants as command;
-ghost use Rattle.ring_service.specs.Accesses.{AnswersAtSeat};
+ghost use Rattle.ring_events.specs.declared.event.Command.TheVariants as command;
+ghost use Rattle.ring_table.specs.Accesses.{AnswersAtSeat};
 ghost use Rattle.ring_service.specs.Places.{ServesPlaced};
 ghost use Rattle.ring_service.specs.Sessions.{Serves};
 
-use crate::access::{Access, Answer};
 use crate::placed::PlacedSession;
 use crate::posts::Posts;
 use crate::session::Session;
 use ring_any::Any;
+use ring_events::Command;
 use ring_id::{GroupName, Refusal};
 use ring_lines::{Intake, LineFault, Outlet, Queued, answer_lines};
-use ring_mux::Command;
+use ring_table::{Access, Answer};
 use std::alloc::Global;
 use std::marker::Model;
 use std::sync::atomic::{AtomicBool, Ordering};

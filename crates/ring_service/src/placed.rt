@@ -1,64 +1,11 @@
-ghost use Rattle.std.specs.Prelude.{◌++◌, ◌∷◌, [], decimal, OnErr, OnOk};
-ghost use Rattle.ring_grammar.specs.Spelling.{reply_line};
-ghost use Rattle.ring_service.specs.Accesses.{reply_of};
-ghost use Rattle.ring_service.specs.Places.{has_reply, place_word};
-
-use crate::access::{Access, Answer};
 use crate::session::Session;
-use itoa::Buffer;
 use ring_any::Any;
-use ring_grammar::{Sink, SinkFailed, print_reply};
+use ring_events::Command;
 use ring_id::Refusal;
-use ring_lines::{Answerer, Queued, Spell};
-use ring_mux::{Command, Reply};
+use ring_lines::{Answerer, Queued};
+use ring_table::{Access, Answer};
 use std::alloc::Global;
 use std::sync::Wait;
-
-/// An answer is spelled by its place, one space and the line of its reply; one without a place has `-` there.
-impl Spell for Answer {
-    ghost use Rattle.ring_service.specs.Places.{has_reply, placed_line};
-
-    ghost spelling = { placed_line };
-
-    ghost is_legal = { has_reply };
-
-    fn spell<S: Sink>(&self, out: &mut S) -> Result<(), SinkFailed> {
-        put_place(self, out)?;
-        put_reply(self, out)
-    }
-}
-
-// The place of an answer, or a hyphen, and one space.
-fn put_place<S: Sink>(answer: &Answer, out: &mut S) -> Result<(), SinkFailed>
-    ensures ok { OnOk result (S.takes out.old (place_word answer.now ++ 32 ∷ []) out.new) }
-    ensures err { OnErr result (S.takes_front out.old (place_word answer.now ++ 32 ∷ []) out.new) }
-{
-    match answer {
-        Answer::Placed { reply: _, place } => put_number(*place, out),
-        Answer::Unplaced(_) => out.put(b"- "),
-    }
-}
-
-// A number and one space.
-fn put_number<S: Sink>(number: usize, out: &mut S) -> Result<(), SinkFailed>
-    ensures ok { OnOk result (S.takes out.old (decimal number ++ 32 ∷ []) out.new) }
-    ensures err { OnErr result (S.takes_front out.old (decimal number ++ 32 ∷ []) out.new) }
-{
-    out.put(Buffer::new().format(number).as_bytes())?;
-    out.put(b" ")
-}
-
-// The line of an answer's reply.
-fn put_reply<S: Sink>(answer: &Answer, out: &mut S) -> Result<(), SinkFailed>
-    ensures ok { OnOk result (S.takes out.old (reply_line (reply_of answer.now)) out.new) }
-    ensures err { OnErr result (S.takes_front out.old (reply_line (reply_of answer.now)) out.new) }
-    ensures legal { OnOk result (has_reply answer.now) }
-{
-    match answer {
-        Answer::Placed { reply, place: _ } => print_reply(reply, out),
-        Answer::Unplaced(refusal) => print_reply(&Reply::Refused(*refusal), out),
-    }
-}
 
 /// A session whose answers are told with their places.
 #[derive(Drop)]

@@ -1,11 +1,11 @@
 ghost use Rattle.std.specs.Prelude.{◌≡◌, ◌≤◌, ◌+◌, All, IfOk, OnOk, length, vec_capacity, vec_len};
 
-use crate::access::Access;
 use crate::crew::{Crew, Kit, SeatDesk};
 use crate::front::Front;
 use crate::mesh::{Mesh, open, take_last};
 use crate::posts::{Posts, Waiting};
 use ring_any::Any;
+use ring_table::Access;
 use ring_workers::{Gate, Handed, OpenGate, Worker};
 use std::alloc::Global;
 use std::collections::VecDeque;

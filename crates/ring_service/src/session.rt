@@ -1,9 +1,9 @@
-use crate::access::Access;
 use crate::front::Front;
 use ring_any::Any;
+use ring_events::{Command, Reply};
 use ring_id::Refusal;
 use ring_lines::{Answerer, Queued, parse_command};
-use ring_mux::{Command, Reply};
+use ring_table::Access;
 use std::alloc::Global;
 use std::sync::Wait;
 

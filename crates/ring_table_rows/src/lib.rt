@@ -1,13 +1,11 @@
-//! Worked rows of tables and their histories, of histories that were kept, and of the seats at a table, by a turn
-//! lock and by a locked table. Each is a run with the values that it must come to.
+//! Worked rows of tables and their histories, and of the seats at a table, by a turn lock and by a locked table. Each is
+//! a run with the values that it must come to.
 #![tactic(auto)]
 
 #[cfg(test)]
-mod benches;
-#[cfg(test)]
 mod history_rows;
 #[cfg(test)]
-mod kept_rows;
+mod rings_of_one;
 #[cfg(test)]
 mod seat_rows;
 #[cfg(test)]

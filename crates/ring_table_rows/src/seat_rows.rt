@@ -1,146 +1,146 @@
-//! Rows of one seat: how many turns it has, and which places its calls get.
+//! Rows of one seat, by a turn lock and by a locked table: which places its calls get, and how many turns it has.
+ghost use Rattle.std.specs.Prelude.{◌≡◌, ◌*◌, ◌^◌, ◌<◌};
 
-use crate::benches::{Bench, LockedBench, TurnBench, ask, ask_once, expect, file, is_line, start};
+use crate::rings_of_one::{elect, spells};
 use ring_any::Any;
-use ring_id::{GroupName, Refusal};
+use ring_id::GroupName;
+use ring_lines::parse_command;
 use ring_node::{Charter, Report};
-use ring_service::{Answer, Filed};
-use ring_world::{Delivery, World};
+use ring_table::{Access, Filed, LockedTable, Table};
+use ring_turn::TurnLock;
 use std::alloc::Global;
+use std::marker::Model;
 use std::sync::{Arc, Wait};
-use std::test::Fail;
 
-// The row of a seat with two turns: how many entries the closed table has, or `None` where memory was
-// refused, since that uses a turn.
-fn two_turns<R: Wait>(rt: &R, alloc: Global) -> Result<Option<usize>, Fail> {
-    let mut bench = TurnBench::new(alloc, 2)?;
-    let first = ask_once(rt, &mut bench, 1, b"create a chang")?;
-    if bench.is_spent() {
-        return Err("a seat has fewer turns than it was given".into());
-    }
-    let second = ask_once(rt, &mut bench, 1, b"join a 5")?;
-    let spent = bench.is_spent();
-    let third = ask_once(rt, &mut bench, 1, b"members a")?;
-    if !spent || !matches!(third, Answer::Unplaced(Refusal::SeatSpent)) {
-        return Err("a seat has more turns than it was given".into());
-    }
-    let entries = bench.entries(alloc)?;
-    if entries < 2 {
-        return Ok(None);
-    }
-    expect(alloc, &first, b"ok\n", 1)?;
-    expect(alloc, &second, b"ok\n", 2)?;
-    Ok(Some(entries))
+/// An access to a table that had no groups, and a seat of it.
+#[derive(Drop)]
+struct Bench<A: Access<Any> + Drop> {
+    access: A,
+    seat: A::Seat,
 }
 
-#[test]
-fn a_seat_has_as_many_turns_as_it_was_given(rt: HostRuntime) -> Result<(), Fail> {
-    let alloc = rt.alloc();
-    let entries = match two_turns(&rt, alloc)? {
-        Some(entries) => entries,
-        None => two_turns(&rt, alloc)?.ok_or("memory was refused twice")?,
-    };
-    assert_eq!(rt; entries, 2);
-    Ok(())
+impl<A: Access<Any> + Drop> Model for Bench<A> {
+    ghost Value = { A };
+
+    ghost view = { λ bench. bench.access };
+
+    ghost invariant = { λ bench. A.has_seat bench.access bench.seat };
 }
 
-// The world of a charter; none where memory was refused.
-fn begun(alloc: Global, charter: &Arc<Charter<Any>>) -> Option<World<Any>> {
-    let copy = Arc::try_clone(charter).ok()?;
-    World::begin(alloc, copy).ok()
-}
-
-// The report that comes of the first delivery in a world of this charter.
-fn first_report(alloc: Global, charter: &Arc<Charter<Any>>) -> Result<Report<Any>, Fail> {
-    let mut world = match begun(alloc, charter) {
-        Some(world) => world,
-        None => begun(alloc, charter).ok_or("no memory")?,
-    };
-    let (position, side) = world.ready().ok_or("nothing is in flight")?;
-    match world.deliver(position, side) {
-        Delivery::Moved(Some(report)) => return Ok(report),
-        Delivery::Refused(Refusal::NoMemory) => {}
-        _ => return Err("no report".into()),
+impl<A: Access<Any> + Drop> Bench<A> {
+    // Says whether a line of a session is answered so, with its place. None where it is not, here and below also where
+    // memory is refused.
+    fn tells<R: Wait>(
+        &mut self,
+        rt: &R,
+        alloc: Global,
+        session: u32,
+        line: &[u8],
+        told: &[u8],
+    ) -> Option<()> {
+        let answer = self
+            .access
+            .call(rt, &mut self.seat, session, parse_command(line)?);
+        spells(alloc, &answer, told)
     }
-    match world.deliver(position, side) {
-        Delivery::Moved(Some(report)) => Ok(report),
-        _ => Err("no report".into()),
+
+    // Whether a start of the group `a` is answered so, with its place: the charters.
+    fn starts<R: Wait>(
+        &mut self,
+        rt: &R,
+        alloc: Global,
+        told: &[u8],
+    ) -> Option<Vec<Arc<Charter<Any>>>> {
+        let group = GroupName::from_bytes(b"a").ok()?;
+        let (answer, charters) = self.access.begin(rt, &mut self.seat, 1, group, 1);
+        spells(alloc, &answer, told)?;
+        Some(charters)
+    }
+
+    // What becomes of a report.
+    fn files<R: Wait>(&mut self, rt: &R, report: &Report<Any>) -> Filed {
+        self.access.report(rt, &mut self.seat, report)
     }
 }
 
-// The reply's line to a command is this, and its place is that.
-fn expects<R: Wait, B: Bench>(
+// Starts a term of one member after a start that is refused and has no charter: the report that it comes to.
+fn begin<R: Wait, A: Access<Any> + Drop>(
     rt: &R,
     alloc: Global,
-    bench: &mut B,
-    asked: (u32, &[u8]),
-    told: (&[u8], usize),
-) -> Result<(), Fail> {
-    let answer = ask(rt, bench, asked.0, asked.1)?;
-    expect(alloc, &answer, told.0, told.1)
+    bench: &mut Bench<A>,
+) -> Option<Report<Any>> {
+    let none = bench.starts(rt, alloc, b"1 no no-group\n")?;
+    bench.tells(rt, alloc, 1, b"create a chang", b"2 ok\n")?;
+    bench.tells(rt, alloc, 1, b"join a 7", b"3 ok\n")?;
+    let one = bench.starts(rt, alloc, b"4 term 1\n")?;
+    if !none.is_empty() || one.len() != 1 {
+        return None;
+    }
+    let node = elect(alloc, one.first()?)?;
+    node.report(Arc::try_clone(node.charter()).ok()?)
 }
 
-// Starts a term, which is the third entry, and takes the first report of it.
-fn started<R: Wait, B: Bench>(
-    rt: &R,
-    alloc: Global,
-    bench: &mut B,
-    group: GroupName,
-) -> Result<Report<Any>, Fail> {
-    let (told, charters) = start(rt, bench, group);
-    expect(alloc, &told, b"term 1\n", 3)?;
-    if charters.len() != 1 {
-        return Err("another number of charters".into());
+// The row of ten calls, of which each is an entry at its place. None where one is answered otherwise.
+fn row<R: Wait, A: Access<Any> + Drop>(rt: &R, alloc: Global, mut bench: Bench<A>) -> Option<()> {
+    let report = begin(rt, alloc, &mut bench)?;
+    if bench.files(rt, &report) != Filed::Noted || bench.files(rt, &report) != Filed::Known {
+        return None;
     }
-    first_report(alloc, charters.first().ok_or("no charter")?)
+    bench.tells(rt, alloc, 2, b"who a 7", b"7 leader 1 7\n")?;
+    bench.tells(rt, alloc, 1, b"start a", b"8 term 2\n")?;
+    if bench.files(rt, &report) != Filed::Stale {
+        return None;
+    }
+    bench.tells(rt, alloc, 1, b"groups", b"10 groups a\n")
 }
 
-// The row of a table, through one seat: how many entries there are.
-fn row<R: Wait, B: Bench>(rt: &R, alloc: Global, mut bench: B) -> Result<usize, Fail> {
-    let group = GroupName::from_bytes(b"a").map_err(|_| "no name")?;
-    expects(rt, alloc, &mut bench, (1, b"create a chang"), (b"ok\n", 1))?;
-    expects(rt, alloc, &mut bench, (1, b"join a 7"), (b"ok\n", 2))?;
-    let report = started(rt, alloc, &mut bench, group)?;
-    if file(rt, &mut bench, &report) != Filed::Noted
-        || file(rt, &mut bench, &report) != Filed::Known
-    {
-        return Err("another note".into());
-    }
-    expects(rt, alloc, &mut bench, (2, b"who a 7"), (b"leader 1 7\n", 6))?;
-    expects(rt, alloc, &mut bench, (1, b"start a"), (b"term 2\n", 7))?;
-    if file(rt, &mut bench, &report) != Filed::Stale {
-        return Err("not stale".into());
-    }
-    bench.entries(alloc)
+// A turn lock with one seat, which has so many turns.
+fn in_turn(alloc: Global, turns: u64) -> Option<Bench<TurnLock<Any>>>
+    requires { (0 < turns) × (turns < 2 ^ 64) }
+{
+    let Ok((access, mut seats)) = TurnLock::new(alloc, Table::new(alloc), 1, turns) else {
+        return None;
+    };
+    let seat = seats.pop()?;
+    let bench = Bench { access, seat };
+    Some(bench)
+}
+
+// A locked table with one seat.
+fn under_lock(alloc: Global) -> Option<Bench<LockedTable<Any>>> {
+    let Ok((access, mut seats)) = LockedTable::new(alloc, Table::new(alloc), 1) else {
+        return None;
+    };
+    let seat = seats.pop()?;
+    Some(Bench { access, seat })
+}
+
+// The row by both.
+fn both<R: Wait>(rt: &R, alloc: Global) -> Option<()> {
+    row(rt, alloc, in_turn(alloc, 10)?)?;
+    row(rt, alloc, under_lock(alloc)?)
 }
 
 #[test]
-fn each_entry_has_its_place_in_turn(rt: HostRuntime) -> Result<(), Fail> {
+fn each_entry_has_its_place(rt: HostRuntime) {
     let alloc = rt.alloc();
-    assert_eq!(rt; row(&rt, alloc, TurnBench::new(alloc, 10)?)?, 8);
-    Ok(())
+    assert!(rt; both(&rt, alloc).is_some() || both(&rt, alloc).is_some());
+}
+
+// The row of a seat with two turns, of which each call uses one. None where it has others, or memory is refused.
+fn two_turns<R: Wait>(rt: &R, alloc: Global) -> Option<()> {
+    let mut bench = in_turn(alloc, 2)?;
+    bench.tells(rt, alloc, 1, b"create a chang", b"1 ok\n")?;
+    let early = bench.seat.is_spent();
+    bench.tells(rt, alloc, 1, b"join a 5", b"2 ok\n")?;
+    if early || !bench.seat.is_spent() {
+        return None;
+    }
+    bench.tells(rt, alloc, 1, b"members a", b"- no seat-spent\n")
 }
 
 #[test]
-fn each_entry_has_its_place_under_a_lock(rt: HostRuntime) -> Result<(), Fail> {
+fn a_seat_has_as_many_turns_as_it_was_given(rt: HostRuntime) {
     let alloc = rt.alloc();
-    assert_eq!(rt; row(&rt, alloc, LockedBench::new(alloc)?)?, 8);
-    Ok(())
-}
-
-// Whether a start that is refused is told so at the first place, and has no charters.
-fn refuses_a_start<R: Wait, B: Bench>(rt: &R, alloc: Global, mut bench: B) -> Result<bool, Fail> {
-    let group = GroupName::from_bytes(b"a").map_err(|_| "no name")?;
-    let (told, charters) = start(rt, &mut bench, group);
-    expect(alloc, &told, b"no no-group\n", 1)?;
-    let spelled = is_line(alloc, &told.into_reply(), b"no no-group\n");
-    Ok(spelled == Some(true) && charters.is_empty())
-}
-
-#[test]
-fn a_start_that_is_refused_has_no_charters(rt: HostRuntime) -> Result<(), Fail> {
-    let alloc = rt.alloc();
-    assert!(rt; refuses_a_start(&rt, alloc, TurnBench::new(alloc, 2)?)?);
-    assert!(rt; refuses_a_start(&rt, alloc, LockedBench::new(alloc)?)?);
-    Ok(())
+    assert!(rt; two_turns(&rt, alloc).is_some() || two_turns(&rt, alloc).is_some());
 }

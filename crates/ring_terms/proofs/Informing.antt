@@ -2,7 +2,6 @@
 -- winner of the ring.
 use Rattle.std.proofs.Common.{◌≡◌, ℕ, Bool, true, false, List, Option, None, Some, refl, sym, ◌∙◌, ap, subst, true≢false}
 use Rattle.std.specs.Prelude.{slice_get, IsSome}
-use Rattle.ring_id.specs.declared.side.Side.{Side}
 use Rattle.ring_roster.specs.Ring.{IsRing, position_of}
 use Rattle.ring_election.specs.Tables.{Table}
 use Rattle.ring_election.specs.Laws.{Lawful}

@@ -3,4 +3,6 @@ mod Entries
 mod GroupFacts
 mod Informing
 pub mod Members
+pub mod Objects
 mod Places
+pub mod Steps

@@ -6,4 +6,5 @@ pub mod Moves
 pub mod Notes
 pub mod Object
 pub mod Standings
+pub mod Steps
 pub mod private

@@ -7,10 +7,10 @@ ghost use Rattle.ring_terms.specs.Notes.{Notes};
 ghost use Rattle.ring_terms.specs.Standings.{Tells};
 
 use crate::group::Group;
-use crate::lists::{GroupList, MemberList, TermList};
 use crate::standing::{Noting, Standing};
 use indexmap::IndexMap;
 use ring_election::RingElection;
+use ring_events::{GroupList, MemberList, TermList};
 use ring_id::{GroupName, NodeId, NodeNo, Refusal};
 use ring_node::{Charter, Report};
 use std::alloc::Global;

@@ -6,10 +6,10 @@ ghost use Rattle.ring_terms.specs.Charters.{next_charter, running_charter};
 ghost use Rattle.ring_terms.specs.Commands.{join_refusal, leave_refusal, never_refused, running_refusal, start_refusal, who_refusal, Answers, Joins, Leaves, Shows, StartsWith};
 ghost use Rattle.ring_terms.specs.Standings.{Tells};
 
-use crate::lists::{MemberList, TermList};
 use crate::standing::{Noting, Standing};
 use crate::term::Term;
 use ring_election::RingElection;
+use ring_events::{MemberList, TermList};
 use ring_id::{GroupName, NodeId, NodeNo, Refusal, TermNo};
 use ring_node::{Charter, Report};
 use ring_roster::Roster;

@@ -9,10 +9,9 @@
 
 mod book;
 mod group;
-mod lists;
 mod standing;
 mod term;
 
 pub use book::Book;
-pub use lists::{GroupList, MemberList, TermList};
+pub use ring_events::{GroupList, MemberList, TermList};
 pub use standing::{Noting, Standing};

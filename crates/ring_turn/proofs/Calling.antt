@@ -1,15 +1,14 @@
 -- A whole turn of a seat, as its caller sees it.
-use Rattle.std.proofs.Common.{◌≡◌, ◌⊎◌, ℕ, ◌+◌, ◌-◌, ◌<◌, Bool, true, false, List, [], ◌∷◌, ◌++◌, length, length-append, sym, refl, ap, ◌∙◌, subst, inl, inr, arith}
-use Rattle.std.specs.Prelude.{None}
+use Rattle.std.proofs.Common.{◌≡◌, ℕ, ◌+◌, ◌-◌, ◌<◌, Bool, List, [], ◌∷◌, ◌++◌, length, length-append, sym, refl, ap, ◌∙◌, subst, arith}
 use Rattle.atomic_table.specs.Seated.{TableId}
 use Rattle.atomic_table.specs.Table.{Me}
 use Rattle.ring_terms.specs.Object.{Object}
-use Rattle.ring_service.specs.Histories.{IsLegal}
-use Rattle.ring_service.specs.Tables.{TableView}
-use Rattle.ring_service.specs.declared.entry.Entry.{Entry}
+use Rattle.ring_table.specs.Histories.{IsLegal}
+use Rattle.ring_table.specs.Tables.{TableView}
+use Rattle.ring_table.specs.declared.entry.Entry.{Entry}
 use Rattle.ring_turn.specs.Calls.{Passes, Turns}
 use Rattle.ring_turn.specs.declared.view.Doing.{Doing}
-use Rattle.ring_turn.specs.declared.view.Stage.TheVariants.{Idle, Holds}
+use Rattle.ring_turn.specs.declared.view.Stage.TheVariants.{Idle}
 use Rattle.ring_turn.specs.Turns.{entries, made_by}
 use Rattle.ring_turn.specs.private.Rule.{Desk}
 use Rattle.ring_turn.specs.private.Seats.{IsIdle}

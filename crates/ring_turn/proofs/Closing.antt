@@ -1,19 +1,19 @@
 -- How a lock is closed: its seats are joined to the maker, which then knows that the table is home with
 -- the whole history.
-use Rattle.std.proofs.Common.{◌≡◌, ◌⊎◌, ℕ, zero, suc, ◌+◌, ◌<◌, ◌≤◌, Bool, true, false, List, [], ◌∷◌, ◌++◌, map, length, append_assoc, append-nil, sym, refl, ap, ◌∙◌, subst, inl, inr, arith}
-use Rattle.std.specs.Prelude.{Some, None, slice_get, slice_index_or, slice_set}
+use Rattle.std.proofs.Common.{◌≡◌, ℕ, zero, suc, ◌+◌, ◌<◌, ◌≤◌, Bool, true, List, [], ◌∷◌, ◌++◌, map, append_assoc, append-nil, sym, ap, ◌∙◌, subst, inl, inr}
+use Rattle.std.specs.Prelude.{Some, None, slice_get}
 use mathlib.Core.Option.{some, some-injective}
 use lib.ListN.{get_elem?}
 use Rattle.atomic_table.specs.Seated.{TableId}
 use Rattle.atomic_table.specs.Table.{State, Me, Final, Joins, Seen}
 use Rattle.ring_terms.specs.Object.{Object}
-use Rattle.ring_service.specs.Histories.{IsLegal}
-use Rattle.ring_service.specs.Tables.{TableView}
-use Rattle.ring_service.specs.declared.entry.Entry.{Entry}
+use Rattle.ring_table.specs.Histories.{IsLegal}
+use Rattle.ring_table.specs.Tables.{TableView}
+use Rattle.ring_table.specs.declared.entry.Entry.{Entry}
 use Rattle.ring_turn.specs.Calls.{Closes}
 use Rattle.ring_turn.specs.declared.view.Doing.{Doing}
 use Rattle.ring_turn.specs.declared.view.Past.{Past}
-use Rattle.ring_turn.specs.Turns.{entries, made_by, StartsWith}
+use Rattle.ring_turn.specs.Turns.{entries, made_by}
 use Rattle.ring_turn.specs.private.Rule.{AllKept, Crew, Desk, IsKept, Keeps, table_of}
 use Rattle.ring_turn.specs.Seats.{HasAllSeats, LockView, SeatView, lock_of, seat_of}
 use Rattle.ring_turn.specs.private.Seats.{IsIdle, IsMaker}

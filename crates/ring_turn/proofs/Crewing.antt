@@ -1,17 +1,17 @@
 -- How a lock begins, how the maker makes a seat and joins one, and what it knows when all are joined.
-use Rattle.std.proofs.Common.{◌≡◌, ◌≢◌, ◌⊎◌, ◌==◌, ℕ, ◌+◌, ◌-◌, ◌^◌, ◌<◌, ◌≤◌, Bool, true, false, true≢false, if◌then◌else◌, List, [], ◌∷◌, ◌++◌, map, length, set, append-nil, sym, refl, ap, ◌∙◌, subst, ⊎_elim, eq-eqb, ne_eqb, length-set, arith}
+use Rattle.std.proofs.Common.{◌≡◌, ◌≢◌, ◌⊎◌, ◌==◌, ℕ, ◌+◌, ◌-◌, ◌^◌, ◌<◌, ◌≤◌, Bool, true, false, true≢false, if◌then◌else◌, List, [], ◌∷◌, ◌++◌, length, set, append-nil, sym, refl, ap, ◌∙◌, subst, ⊎_elim, eq-eqb, ne_eqb, length-set, arith}
 use Rattle.std.specs.Prelude.{Some}
 use mathlib.Core.Option.{some, none}
 use lib.ListN.{get_elem?}
 use Rattle.atomic_table.specs.Table.{State, Splits, Joins, opening}
 use Rattle.atomic_table.proofs.Lists.{set_else}
-use Rattle.ring_service.specs.Tables.{TableView}
-use Rattle.ring_service.specs.declared.entry.Entry.{Entry}
+use Rattle.ring_table.specs.Tables.{TableView}
+use Rattle.ring_table.specs.declared.entry.Entry.{Entry}
 use Rattle.ring_turn.specs.declared.view.Doing.{Doing}
 use Rattle.ring_turn.specs.declared.view.Past.{Past}
 use Rattle.ring_turn.specs.declared.view.Stage.TheVariants.{Idle}
-use Rattle.ring_turn.specs.Turns.{entries, made_by}
-use Rattle.ring_turn.specs.private.Rule.{Desk, Ledger, Crew, Fits, Keeps, HasTicket, IsLiving, IsBase, IsKept, AllKept, IsAway, IsHome, budgets, waiting, tickets_at, table_of}
+use Rattle.ring_turn.specs.Turns.{made_by}
+use Rattle.ring_turn.specs.private.Rule.{Desk, Ledger, Crew, Fits, Keeps, IsLiving, IsBase, IsKept, AllKept, IsHome, budgets, waiting, tickets_at, table_of}
 use Rattle.ring_turn.specs.private.Steps.{maker, newcomer, nobody, gave, past_of, joined}
 use Rattle.ring_turn.proofs.Places.{Each, each_of_none, each_after_push, each_after_set, place_within, total_after_push, total_after_set}
 use Rattle.ring_turn.proofs.Stages.{away_stays, away_stays_more, false_unless, held_is_ticket, idle_no_ticket}

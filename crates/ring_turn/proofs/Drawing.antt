@@ -8,14 +8,14 @@ use native.Mathlib.Decide.{ℕ_discrete}
 use lib.ListN.{get_elem?}
 use Rattle.atomic_table.specs.Table.{State, Me, Act, Allows, Valid, carried_after, step, stepped, keeps, takes}
 use Rattle.atomic_table.proofs.Lists.{set_again}
-use Rattle.ring_service.specs.Tables.{TableView}
-use Rattle.ring_service.specs.declared.entry.Entry.{Entry}
+use Rattle.ring_table.specs.Tables.{TableView}
+use Rattle.ring_table.specs.declared.entry.Entry.{Entry}
 use Rattle.ring_turn.specs.declared.view.Doing.{Doing}
-use Rattle.ring_turn.specs.declared.view.Stage.TheVariants.{Idle, Waits, Holds}
+use Rattle.ring_turn.specs.declared.view.Stage.TheVariants.{Idle, Waits}
 use Rattle.ring_turn.specs.Turns.{entries}
-use Rattle.ring_turn.specs.private.Rule.{Desk, Ledger, Fits, Keeps, HasTicket, IsLiving, IsAway, IsHome, IsHeld, IsTicket, budgets, waiting, tickets_at, table_of}
+use Rattle.ring_turn.specs.private.Rule.{Desk, Ledger, Fits, Keeps, HasTicket, IsHome, IsHeld, IsTicket, budgets, waiting, tickets_at, table_of}
 use Rattle.ring_turn.specs.private.Steps.{drew, took, HasTurn, Looks}
-use Rattle.ring_turn.proofs.Places.{Each, each_after_set, same_element, stands_where_written, total_after_set}
+use Rattle.ring_turn.proofs.Places.{each_after_set, same_element, stands_where_written, total_after_set}
 use Rattle.ring_turn.proofs.Histories.{starts_whole}
 use Rattle.ring_turn.proofs.Stages.{away_stays, false_unless, held_is_ticket, idle_no_ticket, no_other_desk, one_place, waits_no_desk, waits_ticket}
 

@@ -1,22 +1,22 @@
 -- A seat counts its entry, and gives the desk back and serves the next ticket: both keep the rule.
-use Rattle.std.proofs.Common.{◌≡◌, ◌≢◌, ◌==◌, ℕ, ◌+◌, ◌-◌, ◌%◌, ◌^◌, ◌<◌, ◌≤◌, Bool, true, false, true≢false, List, [], ◌∷◌, ◌++◌, length, set, length-append, append-nil, sym, refl, ap, ◌∙◌, subst, eq-eqb, eqb, arith}
+use Rattle.std.proofs.Common.{◌≡◌, ◌≢◌, ◌==◌, ℕ, ◌+◌, ◌%◌, ◌^◌, ◌<◌, ◌≤◌, Bool, true, false, true≢false, List, [], ◌∷◌, ◌++◌, length, set, length-append, append-nil, sym, refl, ap, ◌∙◌, subst, eq-eqb, arith}
 use Rattle.std.specs.Prelude.{slice_index, slice_set, Some}
 use Rattle.std.proofs.Math.Nat.{mod-eq_of_lt}
 use Rattle.std.proofs.lemmas.List.{append_cancel_left}
 use mathlib.Core.Option.{Option as Slot, some, none}
 use prog.Atomic.{either}
 use lib.ListN.{get_elem?}
-use Rattle.atomic_table.specs.Table.{State, Me, Allows, step, put_back, rest, keeps, gives}
-use Rattle.ring_service.specs.Tables.{TableView}
-use Rattle.ring_service.specs.declared.entry.Entry.{Entry}
+use Rattle.atomic_table.specs.Table.{Me, Allows, step, put_back, keeps, gives}
+use Rattle.ring_table.specs.Tables.{TableView}
+use Rattle.ring_table.specs.declared.entry.Entry.{Entry}
 use Rattle.ring_turn.specs.declared.view.Doing.{Doing}
 use Rattle.ring_turn.specs.declared.view.Past.{Past}
-use Rattle.ring_turn.specs.declared.view.Stage.TheVariants.{Idle, Waits, Holds}
-use Rattle.ring_turn.specs.Turns.{entries, made_by}
-use Rattle.ring_turn.specs.private.Rule.{Desk, Ledger, Turned, Crew, Fits, Keeps, HasTicket, IsLiving, IsBase, IsKept, AllKept, IsAway, IsHome, IsHeld, IsTicket, budgets, waiting, tickets_at, table_of}
-use Rattle.ring_turn.specs.private.Steps.{counted, served, announced, Counts, Serves}
+use Rattle.ring_turn.specs.declared.view.Stage.TheVariants.{Holds}
+use Rattle.ring_turn.specs.Turns.{entries}
+use Rattle.ring_turn.specs.private.Rule.{Desk, Ledger, Turned, Crew, Fits, Keeps, HasTicket, IsLiving, IsBase, IsKept, AllKept, IsAway, IsHeld, budgets, waiting, tickets_at, table_of}
+use Rattle.ring_turn.specs.private.Steps.{counted, served, Counts, Serves}
 use Rattle.ring_turn.proofs.Places.{each_after_set, stands_where_written, total_after_set}
-use Rattle.ring_turn.proofs.Histories.{made_by-own, made_by-other, starts_longer, starts_whole}
+use Rattle.ring_turn.proofs.Histories.{made_by-own, made_by-other, starts_longer}
 use Rattle.ring_turn.proofs.Stages.{holds_desk, holds_ticket, idle_no_ticket, no_other_desk}
 
 module _ {E : Type 0} where

@@ -1,7 +1,6 @@
 -- Turn histories with one turn more.
 use Rattle.std.proofs.Common.{◌≡◌, ◌≢◌, ◌==◌, ℕ, Bool, true, false, if◌then◌else◌, List, [], ◌∷◌, ◌++◌, length, append_assoc, append-nil, sym, refl, ap, ◌∙◌, eq-eqb, ne_eqb, arith}
-use Rattle.std.proofs.lemmas.List.{append_cancel_left}
-use Rattle.ring_service.specs.declared.entry.Entry.{Entry}
+use Rattle.ring_table.specs.declared.entry.Entry.{Entry}
 use Rattle.ring_turn.specs.Turns.{entries, made_by, StartsWith}
 
 module _ {E : Type 0} where

@@ -1,11 +1,10 @@
 -- How a lock is opened: the maker gives so many turns to each seat.
-use Rattle.std.proofs.Common.{◌≡◌, ℕ, ◌+◌, ◌-◌, ◌*◌, ◌<◌, ◌≤◌, List, [], ◌∷◌, ◌++◌, map, suc, sym, refl, ap, ◌∙◌, subst, arith}
+use Rattle.std.proofs.Common.{◌≡◌, ℕ, ◌+◌, ◌-◌, ◌*◌, ◌<◌, ◌≤◌, List, [], ◌∷◌, ◌++◌, suc, sym, refl, ap, ◌∙◌, subst, arith}
 use Rattle.std.proofs.Math.Nat.{mul-le-mul_right, suc-mul}
 use Rattle.std.proofs.lemmas.List.FromFn.{map-range_with_len_more}
-use Rattle.std.specs.List.{range_with_len}
 use Rattle.atomic_table.specs.Seated.{TableId}
 use Rattle.atomic_table.specs.Table.{Me, Splits}
-use Rattle.ring_service.specs.declared.entry.Entry.{Entry}
+use Rattle.ring_table.specs.declared.entry.Entry.{Entry}
 use Rattle.ring_turn.specs.declared.view.Doing.{Doing}
 use Rattle.ring_turn.specs.private.Rule.{Desk, Keeps}
 use Rattle.ring_turn.specs.Seats.{SeatView, fresh_seat, fresh_seats, seat_of}

@@ -1,11 +1,11 @@
 -- One turn: what the calls on the table of words ask for and tell.
-use Rattle.std.proofs.Common.{◌≡◌, ◌==◌, ℕ, ◌+◌, ◌-◌, ◌%◌, ◌^◌, ◌≤◌, List, [], ◌∷◌, ◌++◌, length, length-append, append_assoc, sym, refl, ap, ◌∙◌, subst, arith}
+use Rattle.std.proofs.Common.{◌≡◌, ◌==◌, ℕ, ◌+◌, ◌-◌, ◌%◌, ◌^◌, List, [], ◌∷◌, ◌++◌, length, length-append, append_assoc, sym, ap, ◌∙◌, subst, arith}
 use Rattle.std.specs.Prelude.{Some, None, IsSomeAnd, IfSome}
 use mathlib.Core.Option.{some, none}
 use prog.Atomic.{either}
 use Rattle.atomic_table.specs.Table.{Me, Allows, rest, step}
-use Rattle.ring_service.specs.Tables.{TableView}
-use Rattle.ring_service.specs.declared.entry.Entry.{Entry}
+use Rattle.ring_table.specs.Tables.{TableView}
+use Rattle.ring_table.specs.declared.entry.Entry.{Entry}
 use Rattle.ring_turn.specs.declared.view.Doing.{Doing}
 use Rattle.ring_turn.specs.Turns.{entries}
 use Rattle.ring_turn.specs.private.Rule.{Desk, Keeps}

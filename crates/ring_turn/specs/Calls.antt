@@ -7,15 +7,15 @@ use Rattle.ring_node.specs.Reports.{Told}
 use Rattle.ring_terms.specs.Notes.{Notes}
 use Rattle.ring_terms.specs.Object.{Object}
 use Rattle.ring_terms.specs.declared.standing.Noting.{Noting}
-use Rattle.ring_mux.specs.declared.event.Command.{Command}
-use Rattle.ring_mux.specs.declared.event.Command.TheVariants.{Start}
-use Rattle.ring_service.specs.Accesses.{filing}
-use Rattle.ring_service.specs.Histories.{IsLegal}
-use Rattle.ring_service.specs.Tables.{GivesCharters, TableView, filed_of}
-use Rattle.ring_service.specs.declared.access.Answer.{Answer}
-use Rattle.ring_service.specs.declared.access.Answer.TheVariants.{Placed, Unplaced}
-use Rattle.ring_service.specs.declared.entry.Entry.{Entry}
-use Rattle.ring_service.specs.declared.entry.Entry.TheVariants.{Call}
+use Rattle.ring_events.specs.declared.event.Command.{Command}
+use Rattle.ring_events.specs.declared.event.Command.TheVariants.{Start}
+use Rattle.ring_table.specs.Accesses.{filing}
+use Rattle.ring_table.specs.Histories.{IsLegal}
+use Rattle.ring_table.specs.Tables.{GivesCharters, TableView, filed_of}
+use Rattle.ring_table.specs.declared.access.Answer.{Answer}
+use Rattle.ring_table.specs.declared.access.Answer.TheVariants.{Placed, Unplaced}
+use Rattle.ring_table.specs.declared.entry.Entry.{Entry}
+use Rattle.ring_table.specs.declared.entry.Entry.TheVariants.{Call}
 use Rattle.ring_workers.specs.declared.desk.Filed.{Filed}
 use Rattle.ring_workers.specs.declared.desk.Filed.TheVariants as filed
 use Rattle.ring_turn.specs.Seats.{LockView, SeatView}

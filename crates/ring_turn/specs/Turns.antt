@@ -1,7 +1,7 @@
 -- Turn histories: what was added to a table after it was opened, each entry with the number of the
 -- seat that made it.
 use Rattle.std.specs.Prelude.{◌≡◌, ◌==◌, ℕ, if◌then◌else◌, List, [], ◌∷◌, ◌++◌}
-use Rattle.ring_service.specs.declared.entry.Entry.{Entry}
+use Rattle.ring_table.specs.declared.entry.Entry.{Entry}
 
 module _ {E : Type 0} where
   -- the entries without the seats' numbers

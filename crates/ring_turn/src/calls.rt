@@ -6,10 +6,10 @@ ghost use Rattle.ring_turn.specs.Seats.{IsSameSeat};
 use crate::lock::TurnLock;
 use crate::seat::Seat;
 use ring_election::RingElection;
+use ring_events::{Command, Reply};
 use ring_id::{GroupName, Refusal};
-use ring_mux::{Command, Reply};
 use ring_node::{Charter, Report};
-use ring_service::{Answer, Filed, is_refused, is_starved};
+use ring_table::{Answer, Filed, is_refused, is_starved};
 use std::sync::{Arc, Wait};
 
 impl<E: RingElection> TurnLock<E> {

@@ -1,14 +1,14 @@
 //! The table as it lies on the desk of a turn lock.
 ghost use Rattle.std.specs.Prelude.{◌≡◌, length, map, IfOk};
-ghost use Rattle.ring_mux.specs.declared.event.Command.TheVariants as command;
-ghost use Rattle.ring_service.specs.Histories.{IsLegal};
-ghost use Rattle.ring_service.specs.Tables.{Calls, Files, GivesCharters};
+ghost use Rattle.ring_events.specs.declared.event.Command.TheVariants as command;
+ghost use Rattle.ring_table.specs.Histories.{IsLegal};
+ghost use Rattle.ring_table.specs.Tables.{Calls, Files, GivesCharters};
 
 use ring_election::RingElection;
+use ring_events::{Command, Reply};
 use ring_id::{GroupName, NoMemory};
-use ring_mux::{Command, Reply};
 use ring_node::{Charter, Report};
-use ring_service::{Filed, Table};
+use ring_table::{Filed, Table};
 use std::alloc::Global;
 use std::marker::Model;
 use std::sync::Arc;
@@ -22,7 +22,7 @@ pub struct HeldTable<E: RingElection> {
 }
 
 impl<E: RingElection> Model for HeldTable<E> {
-    ghost use Rattle.ring_service.specs.Tables.{TableView};
+    ghost use Rattle.ring_table.specs.Tables.{TableView};
 
     ghost Value = { TableView E };
 

@@ -9,7 +9,7 @@ use crate::rule::{Board, DESK, Joins, Makes, Place, Start};
 use crate::seat::Seat;
 use ring_election::RingElection;
 use ring_id::NoMemory;
-use ring_service::Table;
+use ring_table::Table;
 use std::alloc::Global;
 use std::marker::Model;
 use std::snapshot::Snapshot;

@@ -4,7 +4,7 @@ use crate::held::HeldTable;
 use crate::view::Doing;
 use atomic_table::{Join, Play, Seat, Split, TableRule};
 use ring_election::RingElection;
-use ring_service::Table;
+use ring_table::Table;
 use std::alloc::Global;
 use std::snapshot::Snapshot;
 

@@ -1,15 +1,15 @@
 //! The turn lock as an access to its table.
 ghost use Rattle.std.specs.Prelude.{◌≡◌, map};
-ghost use Rattle.ring_service.specs.Accesses.{AnswersAtSeat, BeginsAtSeat, Reports};
+ghost use Rattle.ring_table.specs.Accesses.{AnswersAtSeat, BeginsAtSeat, Reports};
 
 use crate::lock::TurnLock;
 use crate::seat::Seat;
 use ring_election::RingElection;
+use ring_events::Command;
 use ring_id::GroupName;
 use ring_lines::Queued;
-use ring_mux::Command;
 use ring_node::{Charter, Report};
-use ring_service::{Access, Answer, Filed};
+use ring_table::{Access, Answer, Filed};
 use std::sync::{Arc, Wait};
 
 impl<E: RingElection> Access<E> for TurnLock<E> {

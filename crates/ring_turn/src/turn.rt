@@ -1,7 +1,7 @@
 //! One turn of a seat: it draws a ticket, waits, takes the table, and ends the turn with an entry or
 //! without.
 ghost use Rattle.std.specs.Prelude.{◌≡◌, ◌<◌, true, length, [], ◌∷◌, ◌++◌, IsSomeAnd, IfSome};
-ghost use Rattle.ring_service.specs.declared.entry.Entry.{Entry};
+ghost use Rattle.ring_table.specs.declared.entry.Entry.{Entry};
 ghost use Rattle.ring_turn.specs.declared.view.Stage.TheVariants as stage;
 ghost use Rattle.ring_turn.specs.Turns.{entries};
 ghost use Rattle.ring_turn.specs.private.Steps.{counted, served, Entered, IsInside, HasOneMore, HasTurn, Settled};

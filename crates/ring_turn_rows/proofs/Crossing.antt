@@ -5,7 +5,7 @@ use denote.Struct.Declared.{Declared, shape}
 use denote.Struct.Struct.{Struct}
 use Rattle.std.proofs.Crossing.{crosses}
 use Rattle.ring_any.specs.contracts.any.Any as any
-use Rattle.ring_service.specs.contracts.locked.LockedSeat as seat
+use Rattle.ring_table.specs.contracts.locked.LockedSeat as seat
 
 pub seat_send : (E : RattleType) → IsSend (seat.the_row E)
 seat_send E =

@@ -2,10 +2,11 @@
 ghost use Rattle.std.specs.Prelude.{◌≡◌, ◌+◌, ◌*◌, ◌^◌, ◌<◌, ◌≤◌, All};
 
 use ring_any::Any;
+use ring_events::Command;
 use ring_lines::{FromRead, Intake, LineFault, Outlet, ToWrite};
-use ring_mux::Command;
 use ring_node::{Node, Report};
-use ring_service::{Access, Answer, Closing, Filed, Front, LockedTable, Service, Table, Waiting};
+use ring_service::{Closing, Front, Service, Waiting};
+use ring_table::{Access, Answer, Filed, LockedTable, Table};
 use ring_turn::TurnLock;
 use ring_workers::{Gate, Handed, Pass, Why};
 use std::alloc::Global;

@@ -3,7 +3,8 @@
 use crate::grounds::{Ended, by_lock};
 use crate::session_rows::answers_each;
 use ring_any::Any;
-use ring_service::{Entry, LockedTable, Service, StartFault, Table};
+use ring_service::{Service, StartFault};
+use ring_table::{Entry, LockedTable, Table};
 use ring_workers::OpenGate;
 use std::alloc::Global;
 use std::sync::{Arc, Wait};

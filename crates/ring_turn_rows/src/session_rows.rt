@@ -3,7 +3,7 @@
 use crate::grounds::{Ground, ShutGate, by_lock, by_turns, has_told};
 use ring_any::Any;
 use ring_lines::{DripIn, DripOut, LineFault};
-use ring_service::Access;
+use ring_table::Access;
 use std::alloc::Global;
 use std::process::Abort;
 use std::sync::{Arc, Wait};

@@ -3,10 +3,10 @@ ghost use Rattle.std.specs.Prelude.{◌≡◌, ℕ, IfSome};
 
 use crate::grounds::{Ended, Ground, Keeper, ShutGate, by_lock, by_turns, has_told};
 use ring_any::Any;
+use ring_events::{Command, Reply};
 use ring_id::{GroupName, NodeId};
 use ring_lines::parse_command;
-use ring_mux::{Command, Reply};
-use ring_service::{Access, Answer, Entry, Kept, LockedSeat, LockedTable, Table};
+use ring_table::{Access, Answer, Entry, Kept, LockedSeat, LockedTable, Table};
 use ring_turn::{Seat, TurnLock};
 use std::alloc::Global;
 use std::sync::{Arc, Wait};

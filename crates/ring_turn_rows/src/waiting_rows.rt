@@ -3,7 +3,7 @@
 use crate::grounds::{Ended, Ground, by_lock, has_told, nodes_of};
 use crate::meetings::{Meeting, new_meeting, reaches};
 use ring_any::Any;
-use ring_service::Access;
+use ring_table::Access;
 use std::alloc::Global;
 use std::sync::atomic::Ordering;
 use std::sync::{Arc, Wait};

@@ -1,4 +1,4 @@
-//! Gates that end a worker after so many items, and desks that answer alike.
+//! Gates that end a worker at one of its items, and desks that answer alike.
 
 use ring_election::RingElection;
 use ring_inbox::SenderPass;
@@ -17,47 +17,50 @@ pub fn wait_for_a_look<R: Clock>(rt: &R) {
     thread::sleep(rt, Duration::from_millis(1));
 }
 
-/// Puts the word to stop into the worker's inbox once it has handled so many items.
+/// When a worker ends. Its items are counted from 1 on.
+#[derive(Clone, Copy)]
+pub enum Until {
+    /// Its gate halts it at this item.
+    Halt(u64),
+    /// The word to stop is put into its inbox once it has handled so many items.
+    Stop(u64),
+}
+
+/// Ends a worker.
 #[derive(Drop)]
-pub struct StopAfter<E: RingElection, R> {
+pub struct EndGate<E: RingElection, R> {
     rt: R,
-    items: u64,
+    until: Until,
     to: Mutex<SenderPass<Item<E>>>,
 }
 
-impl<E: RingElection, R: Wait> StopAfter<E, R> {
-    /// The gate that stops after so many items, over a pass to the worker's inbox.
-    pub fn new(rt: R, items: u64, to: SenderPass<Item<E>>) -> StopAfter<E, R> {
-        StopAfter {
+impl<E: RingElection, R: Wait> EndGate<E, R> {
+    /// The gate that ends a worker then, over a pass to the worker's inbox.
+    pub fn new(rt: R, until: Until, to: SenderPass<Item<E>>) -> EndGate<E, R> {
+        EndGate {
             rt,
-            items,
+            until,
             to: Mutex::new(to),
         }
     }
 }
 
-impl<E: RingElection, R: Wait> Gate for StopAfter<E, R> {
-    fn enter(&self, _worker: usize, _turn: u64) -> Pass {
-        Pass::Go
+impl<E: RingElection, R: Wait> Gate for EndGate<E, R> {
+    fn enter(&self, _worker: usize, turn: u64) -> Pass {
+        match self.until {
+            Until::Halt(at) if at == turn => Pass::Halt,
+            _ => Pass::Go,
+        }
     }
 
     fn leave(&self, _worker: usize, turn: u64) {
-        if turn == self.items {
-            let _ = self.to.lock(&self.rt).put(&self.rt, Item::Stop);
+        match self.until {
+            Until::Stop(after) if after == turn => {
+                let _ = self.to.lock(&self.rt).put(&self.rt, Item::Stop);
+            }
+            _ => {}
         }
     }
-}
-
-/// Halts the worker at this turn.
-#[derive(Clone, Copy, Debug)]
-pub struct HaltAt(pub u64);
-
-impl Gate for HaltAt {
-    fn enter(&self, _worker: usize, turn: u64) -> Pass {
-        if turn == self.0 { Pass::Halt } else { Pass::Go }
-    }
-
-    fn leave(&self, _worker: usize, _turn: u64) {}
 }
 
 /// Lets no worker handle its first item before all workers have one, and counts the items that were handled. A worker
@@ -83,14 +86,19 @@ impl<R: Clock> Meeting<R> {
 
     /// Looks until so many items were handled, and answers whether they were.
     pub fn waits_for(&self, items: u64) -> bool {
-        for _ in 0..LOOKS {
-            if self.handled.load(Ordering::SeqCst) >= items {
-                return true;
-            }
-            wait_for_a_look(&self.rt);
-        }
-        false
+        comes_to(&self.rt, &self.handled, items)
     }
+}
+
+/// Looks until a count is so great, and answers whether it is.
+fn comes_to<R: Clock>(rt: &R, count: &AtomicU64, least: u64) -> bool {
+    for _ in 0..LOOKS {
+        if count.load(Ordering::SeqCst) >= least {
+            return true;
+        }
+        wait_for_a_look(rt);
+    }
+    false
 }
 
 impl<R: Clock> Gate for Meeting<R> {
@@ -99,13 +107,11 @@ impl<R: Clock> Gate for Meeting<R> {
             return Pass::Go;
         }
         self.entered.fetch_add(1, Ordering::SeqCst);
-        for _ in 0..LOOKS {
-            if self.entered.load(Ordering::SeqCst) >= self.workers {
-                return Pass::Go;
-            }
-            wait_for_a_look(&self.rt);
+        if comes_to(&self.rt, &self.entered, self.workers) {
+            Pass::Go
+        } else {
+            Pass::Halt
         }
-        Pass::Halt
     }
 
     fn leave(&self, _worker: usize, _turn: u64) {
@@ -114,7 +120,7 @@ impl<R: Clock> Gate for Meeting<R> {
 }
 
 /// Answers each report alike.
-#[derive(Clone, Copy, Debug, Drop)]
+#[derive(Drop)]
 pub struct Answers(pub Filed);
 
 impl<E: RingElection> Desk<E> for Answers {

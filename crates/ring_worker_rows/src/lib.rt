@@ -4,6 +4,8 @@
 #![tactic(auto)]
 
 #[cfg(test)]
+mod courses;
+#[cfg(test)]
 mod gates;
 #[cfg(test)]
 mod inbox;

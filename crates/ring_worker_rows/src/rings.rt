@@ -2,48 +2,55 @@
 
 use ring_election::RingElection;
 use ring_id::{GroupName, NodeId, Side, TermNo};
+use ring_inbox::{Put, SenderPass};
 use ring_node::{Charter, Node};
 use ring_roster::Roster;
 use ring_workers::Item;
 use std::alloc::Global;
-use std::sync::Arc;
-use std::test::Fail;
+use std::sync::{Arc, Wait};
 
-/// The identity with this number.
-pub fn identity(number: u32) -> Result<NodeId, Fail> {
-    Ok(NodeId::new(number).ok_or("no identity is 0")?)
-}
+/// The ring of a term of group `a`: its term, and the numbers of its members.
+#[derive(Clone, Copy)]
+pub struct Ring(pub u16, pub &'static [u32]);
 
-/// The charter of this term of group `a` on the ring of these numbers.
+/// The charter of an election on a ring; none where memory was refused.
 pub fn charter<E: RingElection>(
     alloc: Global,
-    term: u16,
     algorithm: E,
-    numbers: &[u32],
-) -> Result<Arc<Charter<E>>, Fail> {
+    ring: Ring,
+) -> Option<Arc<Charter<E>>> {
     let mut members = Vec::new(alloc);
-    for number in numbers {
-        members.push(identity(*number)?)?;
+    for number in ring.1 {
+        members.push(NodeId::new(*number)?).ok()?;
     }
-    let group = GroupName::from_bytes(b"a")?;
-    let term = TermNo::new(term).ok_or("terms go from 1 to 1000")?;
-    let roster = Roster::from_members(alloc, &members)?;
-    Ok(Charter::new(alloc, group, term, algorithm, roster)?)
+    let roster = Roster::from_members(alloc, &members).ok()?;
+    let group = GroupName::from_bytes(b"a").ok()?;
+    Charter::new(alloc, group, TermNo::new(ring.0)?, algorithm, roster).ok()
 }
 
-/// The item by which a charter begins.
-pub fn begin<E: RingElection>(charter: &Arc<Charter<E>>) -> Result<Item<E>, Fail> {
-    Ok(Item::Begin(Arc::try_clone(charter)?))
-}
-
-/// The item of the first packet that the node at position 0 sends to the right.
-pub fn first_packet<E: RingElection>(
-    alloc: Global,
-    charter: &Arc<Charter<E>>,
-) -> Result<Item<E>, Fail> {
+/// The item of the first packet that the node at position 0 sends to the right; none where memory was refused.
+pub fn first_packet<E: RingElection>(alloc: Global, charter: &Arc<Charter<E>>) -> Option<Item<E>> {
     let _members = charter.roster().len();
-    let node = Node::seat(alloc, Arc::try_clone(charter)?, 0)?;
-    let copy = Arc::try_clone(charter)?;
-    let envelope = node.envelope(copy, Side::Right, 0);
-    Ok(Item::Packet(envelope.ok_or("nothing was sent there")?))
+    let Ok(own) = Arc::try_clone(charter) else {
+        return None;
+    };
+    let Ok(node) = Node::seat(alloc, own, 0) else {
+        return None;
+    };
+    let Ok(copy) = Arc::try_clone(charter) else {
+        return None;
+    };
+    Some(Item::Packet(node.envelope(copy, Side::Right, 0)?))
+}
+
+/// Puts an item into an inbox; none where it was not stored.
+pub fn store<E: RingElection, R: Wait>(
+    rt: &R,
+    to: &mut SenderPass<Item<E>>,
+    item: Item<E>,
+) -> Option<()> {
+    match to.put(rt, item) {
+        Put::Stored => Some(()),
+        _ => None,
+    }
 }

@@ -1,18 +1,18 @@
 -- Worlds: the journals of all nodes of a term, which links between them are cut, and what is in flight.
 -- What is in flight is said of whole journals; no queue and no count is in these definitions.
-use Rattle.std.specs.Prelude.{◌≡◌, ◌+◌, ◌*◌, ◌<◌, ◌⊎◌, ◌&&◌, ℕ, zero, suc, Bool, true, false, cond, not, nat_lt, List, [], ◌∷◌, ◌++◌, length, drop, replicate, Option, Some, None, Result, Ok, Err, slice_set, slice_index_or}
+use Rattle.std.specs.Prelude.{◌≡◌, ◌+◌, ◌*◌, ◌<◌, ◌⊎◌, ℕ, zero, suc, Bool, true, false, cond, nat_lt, List, [], ◌∷◌, ◌++◌, length, drop, replicate, Option, Some, None, Result, Ok, Err, slice_set, slice_index_or}
 use Rattle.ring_id.specs.declared.refusal.Refusal.{Refusal}
-use Rattle.ring_id.specs.declared.refusal.Refusal.TheVariants as refused
 use Rattle.ring_id.specs.declared.side.Side.{Side}
 use Rattle.ring_id.specs.declared.side.Side.TheVariants.{Left, Right}
-use Rattle.ring_id.specs.Refusals.{IsRefusal, refused_if}
-use Rattle.ring_id.specs.Sides.{other, same_side}
+use Rattle.ring_id.specs.Refusals.{IsRefusal}
+use Rattle.ring_id.specs.Sides.{other}
 use Rattle.ring_roster.specs.Ring.{IsRing, neighbour}
 use Rattle.ring_election.specs.Tables.{Table}
 use Rattle.ring_election.specs.Families.{Fitting}
 use Rattle.ring_node.specs.declared.charter.Charter.{Charter}
 use Rattle.ring_node.specs.declared.packet.Packet.{Packet}
 use Rattle.ring_node.specs.declared.packet.Packet.TheVariants.{Algo, Leader}
+use Rattle.ring_node.specs.Links.{link_refusal}
 use Rattle.ring_node.specs.Nodes.{IsFaithful, Seated, receiving, sent_of, taken_of, told_of}
 use Rattle.ring_node.specs.Reports.{Told}
 use Rattle.ring_world.specs.declared.delivery.Delivery.{Delivery}
@@ -67,10 +67,6 @@ after_cut world i side = record world { cut = slice_set world.cut (link_place i 
 -- no link of the ring is cut
 pub record IsUncut {E M : Type 0} (world : Running E M) : Type 0 where
   pub uncut : (i : ℕ) (side : Side) → i < size_of world → is_cut world i side ≡ false
-
--- nothing arrives from the right under an algorithm that isn't two-way
-abbrev pub link_refusal : Bool → Side → Option Refusal
-link_refusal two_way side = refused_if (same_side side Right && not two_way) refused.OneWay None
 
 -- what `cut` answers, and the world after it
 abbrev pub Cuts : {E M : Type 0} → Bool → Running E M → ℕ → Side → Result (Unit {0}) Refusal → Running E M → Type 0

@@ -4,8 +4,8 @@ ghost use Rattle.ring_grammar.specs.Spelling.{Spells};
 
 use crate::fault::Fault;
 use ring_any::Any;
+use ring_events::Event;
 use ring_grammar::parse_event;
-use ring_mux::Event;
 use std::io::{BufReader, Read};
 use std::rt::Files;
 use std::{fs, io};

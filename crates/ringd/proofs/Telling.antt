@@ -1,9 +1,9 @@
 -- What was told of a service, as what `serve` and `run` tell.
-use Rattle.std.proofs.Common.{◌≡◌, ◌++◌, List, ℕ, Result, Ok, Err}
+use Rattle.std.proofs.Common.{◌++◌, List, ℕ, Result, Ok, Err}
 use Rattle.std.specs.Prelude.{MatchResult}
-use Rattle.ring_lines.specs.Ends.{Writing, Wrote, WroteFront}
-use Rattle.ring_server.specs.declared.fault.ProgramFault.{ProgramFault}
-use Rattle.ring_server.specs.declared.fault.ProgramFault.TheVariants as program
+use Rattle.ring_lines.specs.Ends.{Writing, Wrote}
+use Rattle.ring_door.specs.declared.fault.ProgramFault.{ProgramFault}
+use Rattle.ring_door.specs.declared.fault.ProgramFault.TheVariants as program
 use Rattle.ring_server.specs.Listening.{BothAt}
 use Rattle.ring_server.specs.Running.{FirstOrNone}
 use Rattle.ringd.specs.Run.{RanAt, ServedAt}

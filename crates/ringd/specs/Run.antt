@@ -1,8 +1,8 @@
 -- What `serve` and `run` tell, from their file to their end.
 use Rattle.std.specs.Prelude.{◌≡◌, List, ℕ}
 use Rattle.ring_lines.specs.Ends.{Writing}
-use Rattle.ring_server.specs.declared.fault.ProgramFault.{ProgramFault}
-use Rattle.ring_server.specs.declared.fault.ProgramFault.TheVariants.{Bad, Listen, Unreadable}
+use Rattle.ring_door.specs.declared.fault.ProgramFault.{ProgramFault}
+use Rattle.ring_door.specs.declared.fault.ProgramFault.TheVariants.{Bad, Listen, Unreadable}
 use Rattle.ring_server.specs.Listening.{BothAt}
 use Rattle.ring_server.specs.Running.{FirstOrNone}
 

@@ -1,7 +1,7 @@
 //! What the program does with the world: its standard streams, its file and its port.
 ghost use Rattle.std.specs.Prelude.{◌≡◌, ◌≤◌, ◌++◌, ◌⊎◌, ℕ, List, IfErr, IfOk, IfSome, MatchResult, length};
 ghost use Rattle.ring_lines.specs.Ends.{Wrote, WroteFront};
-ghost use Rattle.ring_server.specs.Listening.{closed_line, listening_line};
+ghost use Rattle.ring_door.specs.Telling.{closed_line, listening_line};
 ghost use Rattle.ringd.specs.private.Run.{IsOfFile};
 ghost use Rattle.ringd.specs.Run.{RanAt, ServedAt};
 
@@ -30,7 +30,7 @@ const LONGEST: usize = 65536;
 pub fn replay(rt: &(impl Input + Print + AllocGlobal)) -> Result<(), ProgramFault> {
     let mut reader = FromRead(rt.reader());
     let mut writer = ToWrite(std::io::writer(rt));
-    ring_lines::replay(rt.alloc(), &mut reader, &mut writer, READS)?;
+    ring_schedule::replay(rt.alloc(), &mut reader, &mut writer, READS)?;
     Ok(())
 }
 
@@ -141,6 +141,3 @@ fn read_whole<R: Read + Drop>(alloc: Global, reader: R) -> Result<Vec<u8>, Progr
         _ => Err(ProgramFault::Unreadable),
     }
 }
-
-#[cfg(test)]
-mod tests;

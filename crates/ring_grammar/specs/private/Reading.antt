@@ -1,9 +1,9 @@
 -- How lines are read: cut into words, then each word by itself.
 use Rattle.std.specs.Prelude.{◌≡◌, ◌<◌, ◌==◌, ◌^◌, ℕ, List, Option, None, Some}
 use Rattle.std.specs.List.{slice_split}
-use Rattle.ring_mux.specs.declared.event.Command.{Command}
-use Rattle.ring_mux.specs.declared.event.Event.{Event}
-use Rattle.ring_mux.specs.declared.event.Event.TheVariants.{Client, Deliver, Cut, Pending, Drain}
+use Rattle.ring_events.specs.declared.event.Command.{Command}
+use Rattle.ring_events.specs.declared.event.Event.{Event}
+use Rattle.ring_events.specs.declared.event.Event.TheVariants.{Client, Deliver, Cut, Pending, Drain}
 
 -- The value that this text spells, and none only where it spells no value that is legal.
 abbrev pub Reads : {A B : Type 0} → (A → B) → (A → Type 0) → B → Option A → Type 0

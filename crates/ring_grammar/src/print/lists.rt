@@ -1,11 +1,11 @@
 //! The lines of replies that are lists, given the list alone.
 ghost use Rattle.std.specs.Prelude.{OnErr, OnOk};
 ghost use Rattle.ring_grammar.specs.Spelling.{IsReply, reply_line};
-ghost use Rattle.ring_mux.specs.declared.reply.Reply.TheVariants as reply;
+ghost use Rattle.ring_events.specs.declared.reply.Reply.TheVariants as reply;
 
 use super::{put_groups, put_members, put_terms};
 use crate::sink::{Sink, SinkFailed};
-use ring_terms::{GroupList, MemberList, TermList};
+use ring_events::{GroupList, MemberList, TermList};
 
 /// Puts the line of the reply that lists these members, as `print_reply` does.
 ///

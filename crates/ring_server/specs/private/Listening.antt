@@ -1,8 +1,8 @@
 -- What inner functions say of listening.
 use Rattle.std.specs.Prelude.{◌≡◌, ℕ, List}
 use Rattle.ring_lines.specs.Ends.{Writing, Wrote, WroteFront}
-use Rattle.ring_server.specs.declared.fault.ProgramFault.{ProgramFault}
-use Rattle.ring_server.specs.declared.fault.ProgramFault.TheVariants.{Accept, NoMemory, Thread, Write}
+use Rattle.ring_door.specs.declared.fault.ProgramFault.{ProgramFault}
+use Rattle.ring_door.specs.declared.fault.ProgramFault.TheVariants.{Accept, NoMemory, Thread, Write}
 
 -- What was written at a fault after the service was made: the first line, or a front of it, and nothing where
 -- memory was refused.

@@ -1,8 +1,8 @@
 -- What a line of a session asks.
 use Rattle.std.specs.Prelude.{ℕ, List, Option, Some, None}
 use Rattle.ring_any.specs.declared.any.Any.{Any}
-use Rattle.ring_mux.specs.declared.event.Command.{Command}
-use Rattle.ring_mux.specs.declared.event.Event.TheVariants.{Client}
+use Rattle.ring_events.specs.declared.event.Command.{Command}
+use Rattle.ring_events.specs.declared.event.Event.TheVariants.{Client}
 use Rattle.ring_grammar.specs.Spelling.{Spells}
 
 -- the client command that it spells, or nothing where it spells none

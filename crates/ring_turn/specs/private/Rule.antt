@@ -1,12 +1,12 @@
 -- The rule of the table under a turn lock. Its words are the tickets drawn, the tickets served and the
 -- entries counted; its one slot is the desk on which the service's table lies.
-use Rattle.std.specs.Prelude.{◌≡◌, ℕ, ◌+◌, ◌-◌, ◌^◌, ◌<◌, ◌≤◌, Bool, true, false, List, [], ◌∷◌, ◌++◌, length, Option, Some, None}
+use Rattle.std.specs.Prelude.{◌≡◌, ℕ, ◌+◌, ◌^◌, ◌<◌, ◌≤◌, Bool, true, false, List, [], ◌∷◌, ◌++◌, length, Option, Some}
 use mathlib.Core.Option.{Option as Slot, some, none}
 use lib.ListN.{get_elem?}
-use Rattle.atomic_table.specs.Table.{State, Me, Step, rest}
+use Rattle.atomic_table.specs.Table.{State}
 use Rattle.ring_terms.specs.Object.{Object}
-use Rattle.ring_service.specs.Tables.{TableView}
-use Rattle.ring_service.specs.declared.entry.Entry.{Entry}
+use Rattle.ring_table.specs.Tables.{TableView}
+use Rattle.ring_table.specs.declared.entry.Entry.{Entry}
 use Rattle.ring_turn.specs.declared.view.Doing.{Doing}
 use Rattle.ring_turn.specs.declared.view.Past.{Past}
 use Rattle.ring_turn.specs.declared.view.Stage.{Stage}

@@ -2,7 +2,7 @@
 use Rattle.std.specs.Prelude.{◌≡◌, ◌*◌, ℕ, true, false, List, []}
 use Rattle.atomic_table.specs.Seated.{TableId}
 use Rattle.atomic_table.specs.Table.{Me}
-use Rattle.ring_service.specs.declared.entry.Entry.{Entry}
+use Rattle.ring_table.specs.declared.entry.Entry.{Entry}
 use Rattle.ring_turn.specs.declared.view.Doing.{Doing}
 use Rattle.ring_turn.specs.declared.view.Stage.TheVariants.{Idle}
 use Rattle.ring_turn.specs.private.Rule.{Desk}

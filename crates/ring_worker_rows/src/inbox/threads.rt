@@ -86,20 +86,20 @@ fn take_all<R: Wait>(rt: &R, receiver: &mut ReceiverPass<Item>, most: u64) -> Co
     counts
 }
 
-// Each of three threads stores its items in an inbox of this capacity, and this one takes them. It answers what was taken,
-// and whether all threads stored all.
-fn through<R: Threads + Wait + Copy + Send + 'static>(
+// Whether each of three threads stores its items in an inbox of this capacity, and this one takes them in the order of
+// each. None where memory was refused or a thread could not be made.
+fn passes_through<R: Threads + Wait + Copy + Send + 'static>(
     rt: R,
     alloc: Global,
     capacity: usize,
-) -> Result<(Counts, bool), Fail>
+) -> Option<bool>
     requires { 0 < capacity }
 {
-    let (mut receiver, senders) = inbox::<Item>(alloc, capacity, SENDERS)?;
-    let mut workers = Vec::with_capacity(alloc, SENDERS)?;
+    let (mut receiver, senders) = inbox::<Item>(alloc, capacity, SENDERS).ok()?;
+    let mut workers = Vec::new(alloc);
     for pass in senders {
-        let worker = thread::spawn(&rt, move || put_all(&rt, alloc, pass).is_some())?;
-        workers.push(worker)?;
+        let worker = thread::spawn(&rt, move || put_all(&rt, alloc, pass).is_some()).ok()?;
+        workers.push(worker).ok()?;
     }
     let counts = take_all(&rt, &mut receiver, u64::MAX);
     drop(receiver);
@@ -107,19 +107,13 @@ fn through<R: Threads + Wait + Copy + Send + 'static>(
     for worker in workers {
         stored &= worker.join(&rt);
     }
-    Ok((counts, stored))
+    Some(stored && counts == [ITEMS; SENDERS])
 }
 
 #[test]
-fn three_threads_store_in_an_inbox_of_two(rt: HostRuntime) -> Result<(), Fail> {
-    assert_eq!(rt; through(rt, rt.alloc(), 2)?, ([ITEMS; SENDERS], true));
-    Ok(())
-}
-
-#[test]
-fn three_threads_store_in_an_inbox_of_one(rt: HostRuntime) -> Result<(), Fail> {
-    assert_eq!(rt; through(rt, rt.alloc(), 1)?, ([ITEMS; SENDERS], true));
-    Ok(())
+fn three_threads_store_in_inboxes_of_two_and_of_one(rt: HostRuntime) {
+    assert_eq!(rt; passes_through(rt, rt.alloc(), 2), Some(true));
+    assert_eq!(rt; passes_through(rt, rt.alloc(), 1), Some(true));
 }
 
 #[test]
@@ -146,6 +140,11 @@ fn a_sender_meets_the_receiver_after_two_threads(rt: HostRuntime) -> Result<(), 
         panic!(rt; "the sender did not store all");
     };
     let mut receiver = sender.meet(receiver);
+    assert!(rt; put_once(&rt, &mut sender, Arc::new(alloc, 3)?));
+    assert_eq!(rt;
+        receiver.try_take(&rt),
+        TryTake::Taken(0, Arc::new(alloc, 3)?)
+    );
     assert_eq!(rt; receiver.try_take(&rt), TryTake::Empty);
     Ok(())
 }

@@ -1,8 +1,8 @@
 -- The lines that the program sends.
 use Rattle.std.specs.Prelude.{◌≡◌, ℕ, List, string_bytes}
 use Rattle.ring_any.specs.declared.any.Any.{Any}
-use Rattle.ring_mux.specs.declared.event.Command.{Command}
-use Rattle.ring_mux.specs.declared.event.Event.TheVariants.{Client}
+use Rattle.ring_events.specs.declared.event.Command.{Command}
+use Rattle.ring_events.specs.declared.event.Event.TheVariants.{Client}
 use Rattle.ring_grammar.specs.Spelling.{Spells}
 use Rattle.ringctl.specs.declared.words.Order.{Order}
 use Rattle.ringctl.specs.declared.words.Order.TheVariants.{Session, Ask, Watch}

@@ -1,4 +1,4 @@
-use Rattle.ring_mux.specs.declared.event.Event.TheVariants.{Client}
+use Rattle.ring_events.specs.declared.event.Event.TheVariants.{Client}
 use Rattle.ring_grammar.proofs.parse.parse_command.Goals as goal
 
 pub returns-in_err-parse_event-clause-none : goal.returns-in_err-parse_event-clause-none

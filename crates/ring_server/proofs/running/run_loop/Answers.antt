@@ -1,5 +1,5 @@
 use Rattle.std.proofs.Common.{◌≡◌, ◌∙◌}
-use Rattle.ring_server.specs.Listening.{listening_line}
+use Rattle.ring_door.specs.Telling.{listening_line}
 use Rattle.ring_server.proofs.running.run_loop.Goals as goal
 
 pub returns : goal.returns

@@ -26,19 +26,19 @@ gated-requires-clause-seats g c κs within =
     )
 
 -- the others are the sessions'
-pub returns-clause-seats : goal.returns-clause-seats
-returns-clause-seats g c =
+pub returns-in-Ok-gated-clause-seats : goal.returns-in-Ok-gated-clause-seats
+returns-in-Ok-gated-clause-seats g c =
     let counted : length c.in-Ok.seats.items ≡ c.args.config.now.workers + c.args.sessions = ap length c.in-Ok.ensures.seats ∙ length-map-range_with_len _ 0 _ in
     let same = c.in-Ok.seats.ok.0 in
     let tail = c.in_ok-guests.ensures.tail_len in omega (arith, counted, same, tail)
 
-pub returns-clause-theirs : goal.returns-clause-theirs
-returns-clause-theirs g c =
+pub returns-in-Ok-gated-clause-theirs : goal.returns-in-Ok-gated-clause-theirs
+returns-in-Ok-gated-clause-theirs g c =
     let all = all_are_of_lock _ _ _ _ _ c.in-Ok.ensures.seats in
     let others = subst (All (λ seat. seat.lock ≡ c.in-Ok.lock.id)) (sym c.in_ok-guests.ensures.tail) (All-drop (λ seat. seat.lock ≡ c.in-Ok.lock.id) c.args.config.now.workers c.in-Ok.seats.items all) in
-    subst (λ lock. All (λ seat. seat.lock ≡ lock.id) c.in_ok-guests.guests.items) (sym (c.in_ok-service.ensures ∙ c.in-Ok-new.ensures.ok)) others
+    subst (λ lock. All (λ seat. seat.lock ≡ lock.id) c.in_ok-guests.guests.items) (sym (c.in-Ok-gated.ensures ∙ c.in-Ok-new.ensures.ok)) others
 
-pub returns-clause-turns : goal.returns-clause-turns
-returns-clause-turns g c =
+pub returns-in-Ok-gated-clause-turns : goal.returns-in-Ok-gated-clause-turns
+returns-in-Ok-gated-clause-turns g c =
     let all = all_have_turns _ (2 ^ 30) _ _ _ c.in-Ok.ensures.seats in
     subst (All (λ seat. seat.left ≡ 2 ^ 30)) (sym c.in_ok-guests.ensures.tail) (All-drop (λ seat. seat.left ≡ 2 ^ 30) c.args.config.now.workers c.in-Ok.seats.items all)

@@ -1,4 +1,4 @@
-use Rattle.ring_server.specs.Listening.{listening_line}
+use Rattle.ring_door.specs.Telling.{listening_line}
 use Rattle.ringd.proofs.Telling.{ran_told}
 use Rattle.ringd.proofs.run.run.Goals as goal
 

@@ -1,4 +1,4 @@
-use Rattle.ring_server.specs.Listening.{closed_line, listening_line}
+use Rattle.ring_door.specs.Telling.{closed_line, listening_line}
 use Rattle.ringd.proofs.Telling.{served_told}
 use Rattle.ringd.proofs.run.serve.Goals as goal
 

@@ -1,11 +1,12 @@
 -- After each command the worlds are those of the groups' last terms; a reply that shows is a step.
 use Rattle.std.proofs.Common.{refl, ap}
-use Rattle.ring_mux.specs.declared.reply.Reply.TheVariants.{Members, Terms}
+use Rattle.ring_events.specs.declared.reply.Reply.TheVariants.{Members, Terms}
 use Rattle.ring_terms.specs.Object.{names}
 use Rattle.ring_mux.specs.Views.{placed}
 use Rattle.ring_mux.proofs.Places.{answered_sees, creates_sees, group_sees, kept_sees}
 use Rattle.ring_mux.proofs.Holding.{held_answered, held_creates, held_joins, held_leaves}
-use Rattle.ring_mux.proofs.HoldingSteps.{of_group, tells_reply}
+use Rattle.ring_terms.proofs.Objects.{of_group}
+use Rattle.ring_terms.proofs.Steps.{tells_reply}
 use Rattle.ring_mux.proofs.mux.Mux.command.Goals as goal
 use Rattle.ring_mux.proofs.mux.Mux.command.Goals.{in-Ok, in-Err, in-Ok-terms, in-Err-terms}
 

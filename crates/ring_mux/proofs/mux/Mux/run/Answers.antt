@@ -1,7 +1,8 @@
 -- A run over one event more, and over all.
 use Rattle.std.proofs.Common.{refl, rules}
 use Rattle.std.proofs.lemmas.List.{take_all, take_more}
-use Rattle.ring_mux.proofs.HoldingSteps.{Run-push, RunOfWorlds-push}
+use Rattle.ring_terms.proofs.Steps.{Run-push}
+use Rattle.ring_mux.proofs.HoldingSteps.{RunOfWorlds-push}
 use Rattle.ring_terms.specs.Object.{names}
 use Rattle.ring_mux.specs.Views.{placed}
 use Rattle.ring_mux.proofs.Keeping.{quiet_is_known}

@@ -1,6 +1,6 @@
 use Rattle.std.proofs.Common.{◌≡◌, ◌≤◌, length, take, vec_len, vec_capacity}
 use Rattle.ring_mux.specs.Quiet.{QuietIsKnown}
-use Rattle.ring_mux.specs.Steps.{Run}
+use Rattle.ring_terms.specs.Steps.{Run}
 use Rattle.ring_mux.specs.Views.{IsHeld}
 use Rattle.ring_mux.specs.WorldSteps.{RunOfWorlds}
 use Rattle.ring_mux.proofs.mux.Mux.run.Given as goal

@@ -3,7 +3,8 @@ use Rattle.std.proofs.Common.{rules, refl, ◌∙◌, sym}
 use Rattle.ring_terms.specs.Object.{names}
 use Rattle.ring_mux.specs.Views.{placed}
 use Rattle.ring_mux.proofs.Holding.{begins}
-use Rattle.ring_mux.proofs.HoldingSteps.{in_group_as, where_err, where_not_err}
+use Rattle.ring_terms.proofs.Objects.{in_group_as}
+use Rattle.ring_mux.proofs.HoldingSteps.{where_err, where_not_err}
 use Rattle.ring_mux.proofs.Places.{at_place, growth_seen, kept_grown, kept_starts, names_kept, none_found, place_few, put_seen}
 use Rattle.ring_mux.proofs.mux.Mux.start.Goals as goal
 

@@ -1,6 +1,6 @@
 use Rattle.std.proofs.Common.{◌-◌, ◌<◌, true≢false, refl, sym, ◌∙◌, inl, arith}
-use Rattle.ring_service.specs.declared.entry.Entry.TheVariants.{Call}
-use Rattle.ring_service.proofs.Outcomes.{was_called}
+use Rattle.ring_table.specs.declared.entry.Entry.TheVariants.{Call}
+use Rattle.ring_table.proofs.Outcomes.{was_called}
 use Rattle.ring_turn.specs.Calls.{Turns}
 use Rattle.ring_turn.specs.Seats.{seat_of}
 use Rattle.ring_turn.proofs.Calling.{entered_inside, entered_one, passed_seat, same_after_turn, turned_idle, turned_seat}

@@ -1,7 +1,7 @@
 use Rattle.std.proofs.Common.{◌-◌, ◌<◌, true≢false, refl, sym, ◌∙◌, inl, inr, arith}
 use Rattle.ring_id.specs.declared.refusal.Refusal.TheVariants.{NoMemory}
-use Rattle.ring_service.specs.Accesses.{filing}
-use Rattle.ring_service.proofs.Outcomes.{was_filed, was_lost}
+use Rattle.ring_table.specs.Accesses.{filing}
+use Rattle.ring_table.proofs.Outcomes.{was_filed, was_lost}
 use Rattle.ring_turn.specs.Calls.{Turns}
 use Rattle.ring_turn.specs.Seats.{seat_of}
 use Rattle.ring_turn.proofs.Calling.{entered_inside, entered_one, passed_seat, same_after_turn, turned_idle, turned_seat}

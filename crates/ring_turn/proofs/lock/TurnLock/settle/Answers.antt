@@ -1,4 +1,4 @@
-use Rattle.std.proofs.Common.{◌≡◌, [], length, ap, subst, sym, ◌∙◌}
+use Rattle.std.proofs.Common.{◌≡◌, [], ap, subst, sym, ◌∙◌}
 use Rattle.ring_turn.specs.private.Steps.{IsInside, served}
 use Rattle.ring_turn.proofs.Turning.{settled_whole}
 use Rattle.ring_turn.proofs.lock.TurnLock.settle.Goals as goal

@@ -1,0 +1,156 @@
+//! A door at which clients come in, and those that serve them.
+ghost use Rattle.std.specs.Prelude.{◌≡◌, IfErr, MatchOption, false, true};
+ghost use Rattle.ring_door.specs.Numbers.{next_number};
+
+use crate::fault::ProgramFault;
+use crate::serving::{Serving, limit_silence, number_after};
+use std::net::{OpenListener, TcpStream};
+use std::sync::{Mutex, Wait};
+use std::thread;
+use std::thread::Threads;
+use std::time::{Clock, Duration};
+
+/// How sessions are held.
+#[derive(Clone, Copy, Debug, PartialEq, Eq)]
+pub struct Limits {
+    /// How many clients are served at a time.
+    pub sessions: u32,
+    /// After how many seconds in which nothing comes or goes a session ends; never at 0.
+    pub idle: u32,
+    /// Whether each reply is told with its place.
+    pub places: bool,
+}
+
+/// Where clients come in, one after another.
+#[derive(Drop)]
+pub struct Door<L> {
+    listener: L,
+    /// Whether clients are let in.
+    pub is_open: bool,
+    /// The number of the last session; 0 before the first.
+    pub last: u32,
+    // whether a failed accept was told
+    has_told: bool,
+}
+
+impl<L: OpenListener<Stream = TcpStream>> Door<L> {
+    /// A door that is shut, through which nobody has come.
+    pub fn new(listener: L) -> Door<L>
+        ensures shut { result.is_open ≡ false }
+        ensures none { result.last ≡ 0 }
+        ensures silent { result.has_told ≡ false }
+    {
+        Door {
+            listener,
+            is_open: false,
+            last: 0,
+            has_told: false,
+        }
+    }
+
+    /// Lets the next client in and numbers its session; nobody where the door is shut.
+    pub fn admit<R: Wait + Eprint + Clock>(&mut self, rt: &R) -> Option<(u32, TcpStream)>
+        ensures guest { MatchOption result (self.old.is_open ≡ false) (λ guest.
+            (guest.0 ≡ next_number self.old.last) × (self.new.last ≡ guest.0) × (self.new.is_open ≡ self.old.is_open)) }
+        ensures told { self.old.has_told ≡ true → self.new.has_told ≡ true }
+    {
+        if !self.is_open {
+            return None;
+        }
+        let stream = self.accept(rt);
+        self.last = number_after(self.last);
+        Some((self.last, stream))
+    }
+
+    // Accepts a client, however often it takes.
+    fn accept<R: Wait + Eprint + Clock>(&mut self, rt: &R) -> TcpStream
+        ensures number { self.new.last ≡ self.old.last }
+        ensures open { self.new.is_open ≡ self.old.is_open }
+        ensures told { self.old.has_told ≡ true → self.new.has_told ≡ true }
+    {
+        for _ in rt.forever() {
+            if let Ok((stream, _)) = self.listener.accept() {
+                return stream;
+            }
+            self.tell_once(rt);
+            thread::sleep(rt, Duration::from_millis(100));
+        }
+        unreachable!()
+    }
+
+    // Tells a failed accept on standard error, if it is the first.
+    fn tell_once<R: Eprint>(&mut self, rt: &R)
+        ensures number { self.new.last ≡ self.old.last }
+        ensures open { self.new.is_open ≡ self.old.is_open }
+        ensures told { self.new.has_told ≡ true }
+    {
+        if !self.has_told {
+            let _ = eprintln!(rt; "ringd: accept failed, trying again");
+            self.has_told = true;
+        }
+    }
+}
+
+/// Starts a thread for each guest, and opens the door once they are there.
+///
+/// Each guest serves one client after another until the door is shut. A guest whose seat is spent gives way
+/// to a spare one, as long as there is one.
+pub fn attend_all<R, L, G>(
+    rt: &R,
+    door: &Mutex<Door<L>>,
+    spare: &Mutex<Vec<G>>,
+    guests: Vec<G>,
+    limits: Limits,
+) -> Result<(), ProgramFault>
+where
+    R: Threads + Wait + Eprint + Clock + Sync,
+    L: OpenListener<Stream = TcpStream> + Send + Drop,
+    G: Serving + Send,
+    ensures { IfErr result (λ fault. fault ≡ ProgramFault.Thread) }
+{
+    thread::scope(
+        thread::scope_env(),
+        rt,
+        move |scope| -> Result<(), ProgramFault>
+            ensures { IfErr result (λ fault. fault ≡ ProgramFault.Thread) }
+        {
+            let mut held = door.lock(rt);
+            for guest in guests {
+                let Ok(_) = scope.spawn(move || attend(rt, door, spare, guest, limits)) else {
+                    return Err(ProgramFault::Thread);
+                };
+            }
+            held.is_open = true;
+            Ok(())
+        },
+    )
+}
+
+// Serves one client after another by this guest's seat, as long as the door lets them in.
+fn attend<R, L, G>(rt: &R, door: &Mutex<Door<L>>, spare: &Mutex<Vec<G>>, guest: G, limits: Limits)
+where
+    R: Wait + Eprint + Clock,
+    L: OpenListener<Stream = TcpStream> + Drop,
+    G: Serving,
+{
+    let mut guest = guest;
+    for _ in rt.forever() {
+        let Some((session, stream)) = door.lock(rt).admit(rt) else {
+            return;
+        };
+        guest = with_turns(rt, guest, spare);
+        limit_silence(&stream, limits.idle);
+        guest.serve(rt, session, &stream, limits.places);
+    }
+}
+
+// The guest itself, or a spare one where its seat is spent and there is one.
+fn with_turns<R: Wait, G: Serving>(rt: &R, guest: G, spare: &Mutex<Vec<G>>) -> G {
+    if !guest.is_spent() {
+        return guest;
+    }
+    match spare.lock(rt).pop() {
+        Some(fresh) => fresh,
+        None => guest,
+    }
+}

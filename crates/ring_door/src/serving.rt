@@ -1,0 +1,74 @@
+//! What serves clients, one session in a thread of its own for each.
+ghost use Rattle.std.specs.Prelude.{◌≡◌, IfErr};
+ghost use Rattle.ring_door.specs.Numbers.{next_number};
+ghost use Rattle.ring_door.specs.Serving.{IsOfConnections};
+
+use crate::fault::ProgramFault;
+use std::net::{OpenListener, TcpStream};
+use std::sync::Wait;
+use std::thread;
+use std::thread::Threads;
+use std::time::Duration;
+
+/// What serves one client after another.
+pub trait Serving: Drop {
+    /// Whether it has no turn left for its clients.
+    fn is_spent(&self) -> bool;
+
+    /// One session over a socket: each line of the client is answered by one line, told with its place where
+    /// places are asked for.
+    ///
+    /// It ends when the client has sent all, when reading or writing fails, and when memory is refused
+    /// before its first line. Every reply goes out at once. The session's number stands in the history with
+    /// each of its commands; no reply tells it.
+    fn serve<R: Wait>(&mut self, rt: &R, session: u32, stream: &TcpStream, places: bool);
+}
+
+/// Accepts a connection for each guest, and waits for their sessions.
+///
+/// Each session is in a thread of its own, and they are numbered from 1 in the order of their accepts. Where an
+/// accept fails or a thread could not be started, no further connection is accepted.
+pub fn accept_all<R, L, G>(rt: &R, listener: L, guests: Vec<G>) -> Result<(), ProgramFault>
+where
+    R: Threads + Wait + Sync,
+    L: OpenListener<Stream = TcpStream> + Drop,
+    G: Serving + Send,
+    ensures { IfErr result IsOfConnections }
+{
+    thread::scope(
+        thread::scope_env(),
+        rt,
+        move |scope| -> Result<(), ProgramFault>
+            ensures { IfErr result IsOfConnections }
+        {
+            let mut last = 0;
+            for mut guest in guests {
+                let session = number_after(last);
+                let Ok((stream, _)) = listener.accept() else {
+                    return Err(ProgramFault::Accept);
+                };
+                let Ok(_) = scope.spawn(move || guest.serve(rt, session, &stream, false)) else {
+                    return Err(ProgramFault::Thread);
+                };
+                last = session;
+            }
+            Ok(())
+        },
+    )
+}
+
+// The number of the session after this one: one more, and 1 after the greatest.
+pub(crate) fn number_after(last: u32) -> u32
+    ensures { result ≡ next_number last }
+{
+    if last == u32::MAX { 1 } else { last + 1 }
+}
+
+// Has a session end where its client sends nothing, or takes no reply, for so many seconds; never at 0.
+pub(crate) fn limit_silence(stream: &TcpStream, seconds: u32) {
+    if seconds > 0 {
+        let longest = Some(Duration::from_secs(u64::from(seconds)));
+        let _ = stream.set_read_timeout(longest);
+        let _ = stream.set_write_timeout(longest);
+    }
+}

@@ -1,0 +1,99 @@
+ghost use Rattle.std.specs.Prelude.{◌≡◌, ◌≤◌, length};
+
+use ring_id::{GroupName, NodeId};
+use std::marker::Model;
+
+/// The members of a group in joining order. Contracts see it as that list.
+#[derive(Debug, Drop)]
+pub struct MemberList {
+    members: Vec<NodeId>,
+}
+
+impl Model for MemberList {
+    ghost use Rattle.std.specs.Prelude.{List, ℕ};
+
+    ghost Value = { List ℕ };
+
+    ghost view = { λ a. a.members.items };
+}
+
+impl MemberList {
+    /// The list of these members.
+    pub fn new(members: Vec<NodeId>) -> MemberList
+        ensures { result ≡ members.items }
+    {
+        MemberList { members }
+    }
+
+    /// The members. Takes no memory.
+    pub fn as_slice(&self) -> &[NodeId]
+        ensures { result.now ≡ self.now }
+    {
+        &self.members
+    }
+}
+
+/// The leader of each term of a group, or none, in order, the first being that of term 1. Contracts
+/// see it as that list, which has at most 1000 elements.
+#[derive(Debug, Drop)]
+pub struct TermList {
+    leaders: Vec<Option<NodeId>>,
+}
+
+impl Model for TermList {
+    ghost use Rattle.std.specs.Prelude.{List, Option, ℕ, ◌≤◌, length};
+
+    ghost Value = { List (Option ℕ) };
+
+    ghost view = { λ a. a.leaders.items };
+
+    ghost invariant = { λ a. length a.leaders.items ≤ 1000 };
+}
+
+impl TermList {
+    /// The list of these leaders.
+    pub fn new(leaders: Vec<Option<NodeId>>) -> TermList
+        requires { length leaders.items ≤ 1000 }
+        ensures { result ≡ leaders.items }
+    {
+        TermList { leaders }
+    }
+
+    /// The leaders. Takes no memory.
+    pub fn as_slice(&self) -> &[Option<NodeId>]
+        ensures value { result.now ≡ self.now }
+        ensures few { length result.now ≤ 1000 }
+    {
+        &self.leaders
+    }
+}
+
+/// The names of all groups in order of creation. Contracts see it as that list.
+#[derive(Debug, Drop)]
+pub struct GroupList {
+    names: Vec<GroupName>,
+}
+
+impl Model for GroupList {
+    ghost use Rattle.std.specs.Prelude.{List, ℕ};
+
+    ghost Value = { List (List ℕ) };
+
+    ghost view = { λ a. a.names.items };
+}
+
+impl GroupList {
+    /// The list of these names.
+    pub fn new(names: Vec<GroupName>) -> GroupList
+        ensures { result ≡ names.items }
+    {
+        GroupList { names }
+    }
+
+    /// The names. Takes no memory.
+    pub fn as_slice(&self) -> &[GroupName]
+        ensures { result.now ≡ self.now }
+    {
+        &self.names
+    }
+}

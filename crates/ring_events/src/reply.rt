@@ -1,0 +1,35 @@
+use crate::lists::{GroupList, MemberList, TermList};
+use ring_id::{NodeId, Refusal, TermNo};
+
+/// The answer to an event.
+#[derive(Debug, Drop)]
+pub enum Reply {
+    /// Done.
+    Done,
+    /// A term was started.
+    Term(TermNo),
+    /// The member is informed: the term and its leader.
+    Leader(TermNo, NodeId),
+    /// The member is not informed in this term.
+    Undecided(TermNo),
+    /// The members of a group in joining order.
+    Members(MemberList),
+    /// The leader of each term of a group, or none.
+    Terms(TermList),
+    /// The groups in order of creation.
+    Groups(GroupList),
+    /// A packet was delivered.
+    Moved,
+    /// Nothing was in flight on that link, or it is cut.
+    Idle,
+    /// So many packets are in flight or stuck.
+    Pending(u128),
+    /// So many deliveries were made and so many packets remain; whether a delivery was refused memory.
+    Drained {
+        done: u32,
+        left: u128,
+        starved: bool,
+    },
+    /// Refused, and nothing has changed.
+    Refused(Refusal),
+}

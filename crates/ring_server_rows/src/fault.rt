@@ -1,0 +1,30 @@
+use ring_server::ProgramFault;
+use std::alloc::Global;
+
+// Whether a fault has this line; asked for again where memory is refused.
+fn has_line(alloc: Global, fault: ProgramFault, line: &str) -> bool {
+    match fault.to_string(alloc) {
+        Ok(told) => told.as_str() == line,
+        Err(_) => match fault.to_string(alloc) {
+            Ok(told) => told.as_str() == line,
+            Err(_) => false,
+        },
+    }
+}
+
+#[test]
+fn each_fault_has_its_line(rt: HostRuntime) {
+    for (fault, line) in [
+        (ProgramFault::Read, "ringd: read failed"),
+        (ProgramFault::Endless, "ringd: endless input"),
+        (ProgramFault::Write, "ringd: write failed"),
+        (ProgramFault::NoMemory, "ringd: no memory"),
+        (ProgramFault::Unreadable, "ringd: config unreadable"),
+        (ProgramFault::Bad, "ringd: config bad"),
+        (ProgramFault::Listen, "ringd: listen failed"),
+        (ProgramFault::Accept, "ringd: accept failed"),
+        (ProgramFault::Thread, "ringd: thread failed"),
+    ] {
+        assert!(rt; has_line(rt.alloc(), fault, line), "{line}");
+    }
+}

@@ -1,0 +1,103 @@
+use crate::trial::{NoClients, clients, is_numbered, listener, out_failing_at};
+use ring_config::Config;
+use ring_server::{ProgramFault, Serving, accept_all, accept_loop};
+use std::alloc::Global;
+use std::net::{Net, TcpListener, TcpStream};
+use std::sync::{Mutex, Wait};
+use std::thread::Threads;
+use std::time::Clock;
+
+// Whether so many accepts, which fail, end so, and this was told, where the write call of this number fails; asked for
+// again where memory is refused.
+fn fails<R>(
+    rt: &R,
+    config: &Config,
+    connections: u32,
+    fault_at: u64,
+    told: &[u8],
+    wanted: ProgramFault,
+) -> bool
+where
+    R: AllocGlobal + Threads + Wait + Clock + Copy + Send + Sync + Drop + 'static,
+{
+    let Ok(mut out) = out_failing_at(rt.alloc(), fault_at) else {
+        return false;
+    };
+    let mut served = accept_loop(rt, NoClients, config, connections, &mut out);
+    if served == Err(ProgramFault::NoMemory) {
+        served = accept_loop(rt, NoClients, config, connections, &mut out);
+    }
+    served == Err(wanted) && out.taken() == told
+}
+
+#[test]
+fn a_failed_accept_is_told_after_the_first_line(rt: HostRuntime) {
+    let config = Config {
+        workers: 2,
+        inbox: 1024,
+        port: 7400,
+    };
+    let told = b"listening 127.0.0.1:7400\n";
+    assert!(rt; fails(&rt, &config, 1, 0, told, ProgramFault::Accept));
+}
+
+#[test]
+fn a_failed_write_is_told(rt: HostRuntime) {
+    let config = Config {
+        workers: 2,
+        inbox: 1024,
+        port: 80,
+    };
+    assert!(rt; fails(&rt, &config, 1, 1, b"", ProgramFault::Write));
+    assert!(rt; fails(&rt, &config, 1, 5, b"list", ProgramFault::Write));
+    let first = b"listening 127.0.0.1:80\n";
+    assert!(rt; fails(&rt, &config, 1, 24, first, ProgramFault::Accept));
+    let both = b"listening 127.0.0.1:80\nclosed";
+    assert!(rt; fails(&rt, &config, 0, 30, both, ProgramFault::Write));
+}
+
+// Counts the sessions that have the number of their client, and are told no places.
+#[derive(Drop)]
+struct Counter<'a> {
+    count: &'a Mutex<u32>,
+}
+
+impl Serving for Counter<'_> {
+    fn is_spent(&self) -> bool {
+        false
+    }
+
+    fn serve<R: Wait>(&mut self, rt: &R, session: u32, stream: &TcpStream, places: bool) {
+        if is_numbered(session, stream) && !places {
+            let mut count = self.count.lock(rt);
+            *count = count.saturating_add(1);
+        }
+    }
+}
+
+// Three counters of one count.
+fn counters(alloc: Global, count: &Mutex<u32>) -> Option<Vec<Counter<'_>>> {
+    let mut counters = Vec::new(alloc);
+    for _ in 0..3 {
+        counters.push(Counter { count }).ok()?;
+    }
+    Some(counters)
+}
+
+// Three clients, one after another: how many sessions have the number of their client.
+fn numbered<R>(rt: &R) -> Option<u32>
+where
+    R: AllocGlobal + Threads + Wait + Sync + Net<Stream = TcpStream, Listener = TcpListener>,
+{
+    let (listener, address) = listener(rt).ok()?;
+    let _clients = clients(rt, address, 3).ok()?;
+    let count = Mutex::new(0);
+    accept_all(rt, listener, counters(rt.alloc(), &count)?).ok()?;
+    Some(count.into_inner())
+}
+
+#[test]
+fn sessions_have_the_numbers_of_their_clients(rt: HostRuntime) {
+    let first = numbered(&rt);
+    assert!(rt; first == Some(3) || numbered(&rt) == Some(3));
+}

@@ -1,0 +1,165 @@
+use crate::trial::{NoClients, clients, is_numbered, listener, out_failing_at};
+use ring_config::Config;
+use ring_server::{Door, Limits, ProgramFault, Serving, attend_all, run_loop};
+use std::net::{Net, SocketAddr, TcpListener, TcpStream};
+use std::sync::{Mutex, Wait};
+use std::test::Fail;
+use std::thread::Threads;
+use std::time::Clock;
+
+// One session at a time, told with places.
+const ONE_SESSION: Limits = Limits {
+    sessions: 1,
+    idle: 0,
+    places: true,
+};
+
+// Whether a run without sessions ends so, and this was told, where the write call of this number fails; asked for
+// again where memory is refused.
+fn ends<R>(rt: &R, fault_at: u64, told: &[u8], wanted: Result<(), ProgramFault>) -> bool
+where
+    R: AllocGlobal + Threads + Wait + Eprint + Clock + Copy + Send + Sync + Drop + 'static,
+{
+    let config = Config {
+        workers: 2,
+        inbox: 1024,
+        port: 80,
+    };
+    let nobody = Limits {
+        sessions: 0,
+        idle: 0,
+        places: false,
+    };
+    let Ok(mut out) = out_failing_at(rt.alloc(), fault_at) else {
+        return false;
+    };
+    let mut ran = run_loop(rt, NoClients, &config, nobody, &mut out);
+    if ran == Err(ProgramFault::NoMemory) {
+        ran = run_loop(rt, NoClients, &config, nobody, &mut out);
+    }
+    ran == wanted && out.taken() == told
+}
+
+#[test]
+fn a_run_says_that_it_listens(rt: HostRuntime) {
+    assert!(rt; ends(&rt, 0, b"listening 127.0.0.1:80\n", Ok(())));
+    assert!(rt; ends(&rt, 5, b"list", Err(ProgramFault::Write)));
+}
+
+// Whether the guest that comes after this last one has this number.
+fn is_next<R>(
+    rt: &R,
+    door: &mut Door<TcpListener>,
+    address: SocketAddr,
+    last: u32,
+    wanted: u32,
+) -> bool
+where
+    R: Wait + Eprint + Clock + Net<Stream = TcpStream>,
+{
+    let Ok(_client) = rt.connect(address) else {
+        return false;
+    };
+    door.last = last;
+    match door.admit(rt) {
+        Some((number, _)) => number == wanted,
+        None => false,
+    }
+}
+
+#[test]
+fn a_door_numbers_its_guests(rt: HostRuntime) -> Result<(), Fail> {
+    let (listener, address) = listener(&rt)?;
+    let mut door = Door::new(listener);
+    assert!(rt; door.admit(&rt).is_none());
+    door.is_open = true;
+    for (last, wanted) in [
+        (0, 1),
+        (1, 2),
+        (4_294_967_294, 4_294_967_295),
+        (4_294_967_295, 1),
+    ] {
+        assert!(rt; is_next(&rt, &mut door, address, last, wanted), "{last}");
+    }
+    Ok(())
+}
+
+// A guest with a number, whose seat is spent after so many sessions. It adds its number to the digits of those
+// that served, or a 9 where the session has another number than its client or is told no places. It shuts the door
+// after the fourth session.
+#[derive(Drop)]
+struct Idler<'a> {
+    number: u32,
+    left: u32,
+    door: &'a Mutex<Door<TcpListener>>,
+    served: &'a Mutex<u32>,
+}
+
+impl Serving for Idler<'_> {
+    fn is_spent(&self) -> bool {
+        self.left == 0
+    }
+
+    fn serve<R: Wait>(&mut self, rt: &R, session: u32, stream: &TcpStream, places: bool) {
+        self.left = self.left.saturating_sub(1);
+        let is_right = places && is_numbered(session, stream);
+        let digit = if is_right { self.number } else { 9 };
+        let mut served = self.served.lock(rt);
+        *served = served.saturating_mul(10).saturating_add(digit);
+        if *served >= 1000 {
+            self.door.lock(rt).is_open = false;
+        }
+    }
+}
+
+// A guest with two turns and a spare one with a single turn at this door, until four clients were served.
+fn serves_four<R>(rt: &R, door: &Mutex<Door<TcpListener>>, served: &Mutex<u32>) -> Option<()>
+where
+    R: AllocGlobal + Threads + Wait + Eprint + Clock + Sync,
+{
+    let guest = Idler {
+        number: 1,
+        left: 2,
+        door,
+        served,
+    };
+    let other = Idler {
+        number: 2,
+        left: 1,
+        door,
+        served,
+    };
+    let mut guests = Vec::new(rt.alloc());
+    guests.push(guest).ok()?;
+    let mut spare = Vec::new(rt.alloc());
+    spare.push(other).ok()?;
+    let spare = Mutex::new(spare);
+    attend_all(rt, door, &spare, guests, ONE_SESSION).ok()
+}
+
+// Four clients, one after another: the numbers of the guests that served them, as digits.
+fn servers<R>(rt: &R) -> Option<u32>
+where
+    R: AllocGlobal
+        + Threads
+        + Wait
+        + Eprint
+        + Clock
+        + Sync
+        + Net<Stream = TcpStream, Listener = TcpListener>,
+{
+    let (listener, address) = listener(rt).ok()?;
+    let door = Mutex::new(Door::new(listener));
+    let _clients = clients(rt, address, 4).ok()?;
+    let served = Mutex::new(0);
+    serves_four(rt, &door, &served)?;
+    Some(served.into_inner())
+}
+
+// A guest with a turn left stays. A spent one gives way to the spare one, and stays where there is none. Each session
+// has the number of its client, and is told places.
+#[test]
+fn a_spent_guest_gives_way_to_a_spare_one(rt: HostRuntime) {
+    let first = servers(&rt);
+    assert!(rt; first == Some(1122) || servers(&rt) == Some(1122));
+}

@@ -1,0 +1,66 @@
+//! What tests of the server share.
+use ring_lines::DripOut;
+use std::alloc::{AllocError, Global};
+use std::io;
+use std::io::{Read, Write};
+use std::net::{Ipv4Addr, Net, OpenListener, SocketAddr, TcpListener, TcpStream};
+
+/// A listener whose accept fails.
+#[derive(Drop)]
+pub struct NoClients;
+
+impl OpenListener for NoClients {
+    type Stream = TcpStream;
+
+    fn accept(&self) -> io::Result<(TcpStream, SocketAddr)> {
+        Err(io::Error::other("no accept"))
+    }
+}
+
+/// A writer that fails at this call; asked for again where memory is refused.
+pub fn out_failing_at(alloc: Global, fault_at: u64) -> Result<DripOut, AllocError> {
+    match DripOut::new(alloc, 64, fault_at) {
+        Ok(out) => Ok(out),
+        Err(_) => DripOut::new(alloc, 64, fault_at),
+    }
+}
+
+/// A listener on a free port, and its address.
+pub fn listener<R>(rt: &R) -> io::Result<(TcpListener, SocketAddr)>
+where
+    R: Net<Stream = TcpStream, Listener = TcpListener>,
+{
+    let listener = rt.bind(SocketAddr::from((Ipv4Addr::LOCALHOST, 0)))?;
+    let address = listener.local_addr()?;
+    Ok((listener, address))
+}
+
+// A client that has sent its number.
+fn client<R: Net<Stream = TcpStream>>(
+    rt: &R,
+    address: SocketAddr,
+    number: u8,
+) -> io::Result<TcpStream> {
+    let mut stream = rt.connect(address)?;
+    stream.write_all(&[number])?;
+    Ok(stream)
+}
+
+/// So many clients, one after another, of which each has sent its number.
+pub fn clients<R>(rt: &R, address: SocketAddr, count: u8) -> io::Result<Vec<TcpStream>>
+where
+    R: AllocGlobal + Net<Stream = TcpStream>,
+{
+    let mut clients = Vec::new(rt.alloc());
+    for number in 1..=count {
+        clients.push(client(rt, address, number)?)?;
+    }
+    Ok(clients)
+}
+
+/// Whether the client of a session has sent the session's number.
+pub fn is_numbered(session: u32, stream: &TcpStream) -> bool {
+    let mut stream = stream;
+    let mut number = [0];
+    matches!(stream.read(&mut number), Ok(1)) && u32::from(number[0]) == session
+}
