@@ -1,18 +1,16 @@
 //! One worker, in one thread, on the election of Chang and Roberts: how it settles a ring, what it drops, and how it
 //! ends.
 
-use crate::courses::{Course, End, ran};
-use crate::gates::{Answers, Until};
+use crate::courses::{Course, End, ended, why_alone};
+use crate::gates::Until;
 use crate::rings::Ring;
 use ring_chang::Chang;
 use ring_id::Refusal;
-use ring_inbox::inbox;
-use ring_workers::{Filed, Item, OpenGate, Why, Worker, run_worker};
+use ring_workers::{Filed, Why};
 use ring_world::Settlement;
 use std::alloc::Global;
 use std::process::Abort;
 use std::sync::Wait;
-use std::test::Fail;
 use std::time::Clock;
 
 /// The ring of the rows.
@@ -46,59 +44,57 @@ fn comes_to<R: Abort + Wait + Clock + Copy>(
     course: &Course,
     ring: Ring,
     end: End,
-) -> Result<(), Fail> {
-    let run = ran(rt, alloc, Chang, course, ring).ok_or("no memory")?;
-    assert_eq!(rt; run.end, end);
-    Ok(())
+) {
+    assert_eq!(rt; ended(rt, alloc, Chang, course, ring), Some(end));
 }
 
 #[test]
-fn a_ring_settles(rt: HostRuntime) -> Result<(), Fail> {
+fn a_ring_settles(rt: HostRuntime) {
     let course = Course {
         begins: &[RING],
         packets: &[],
         until: Until::Stop(ITEMS),
         filed: Filed::Noted,
     };
-    comes_to(&rt, rt.alloc(), &course, RING, settled(3, 0))
+    comes_to(&rt, rt.alloc(), &course, RING, settled(3, 0));
 }
 
 #[test]
-fn a_repeat_and_a_stranger_are_dropped_and_counted(rt: HostRuntime) -> Result<(), Fail> {
+fn a_repeat_and_a_stranger_are_dropped_and_counted(rt: HostRuntime) {
     let course = Course {
         begins: &[RING],
         packets: &[RING, OTHER],
         until: Until::Stop(ITEMS + 2),
         filed: Filed::Noted,
     };
-    comes_to(&rt, rt.alloc(), &course, RING, settled(3, 2))
+    comes_to(&rt, rt.alloc(), &course, RING, settled(3, 2));
 }
 
 #[test]
-fn a_newer_term_drops_the_older_nodes(rt: HostRuntime) -> Result<(), Fail> {
+fn a_newer_term_drops_the_older_nodes(rt: HostRuntime) {
     let course = Course {
         begins: &[RING, NEWER],
         packets: &[],
         until: Until::Stop(10),
         filed: Filed::Noted,
     };
-    comes_to(&rt, rt.alloc(), &course, NEWER, settled(2, 0))
+    comes_to(&rt, rt.alloc(), &course, NEWER, settled(2, 0));
 }
 
 #[test]
-fn an_item_of_an_older_term_is_dropped_and_not_counted(rt: HostRuntime) -> Result<(), Fail> {
+fn an_item_of_an_older_term_is_dropped_and_not_counted(rt: HostRuntime) {
     let course = Course {
         begins: &[NEWER, RING],
         packets: &[RING],
         until: Until::Stop(8),
         filed: Filed::Noted,
     };
-    comes_to(&rt, rt.alloc(), &course, NEWER, settled(2, 0))
+    comes_to(&rt, rt.alloc(), &course, NEWER, settled(2, 0));
 }
 
 /// Nothing was dropped, so by the contract of `run_worker` the one node is the one to which the packet goes.
 #[test]
-fn a_packet_seats_its_receiver_first(rt: HostRuntime) -> Result<(), Fail> {
+fn a_packet_seats_its_receiver_first(rt: HostRuntime) {
     let course = Course {
         begins: &[],
         packets: &[RING],
@@ -113,7 +109,7 @@ fn a_packet_seats_its_receiver_first(rt: HostRuntime) -> Result<(), Fail> {
         nodes: 1,
         settlement: Settlement::Incomplete,
     };
-    comes_to(&rt, rt.alloc(), &course, RING, end)
+    comes_to(&rt, rt.alloc(), &course, RING, end);
 }
 
 #[test]
@@ -125,52 +121,46 @@ fn a_halted_worker_has_not_handled_all(rt: HostRuntime) {
             until: Until::Halt(turn),
             filed: Filed::Noted,
         };
-        let found = match ran(&rt, rt.alloc(), Chang, &course, RING) {
-            Some(run) => Some((run.end.why, run.end.settlement)),
-            None => None,
+        let Some(end) = ended(&rt, rt.alloc(), Chang, &course, RING) else {
+            panic!(rt; "no memory");
         };
-        assert_eq!(rt;
-            found,
-            Some((Why::Halted, Settlement::Incomplete)),
-            "at turn {turn}"
-        );
+        assert_eq!(rt; end.why, Why::Halted, "at turn {turn}");
+        assert_eq!(rt; end.settlement, Settlement::Incomplete, "at turn {turn}");
     }
 }
 
-#[test]
-fn a_refused_report_stays_with_the_worker(rt: HostRuntime) -> Result<(), Fail> {
-    for (numbers, refusal, why, unfiled) in [
-        ([3, 1, 2].as_slice(), Refusal::NoMemory, Why::Stopped, 3),
-        (&[3, 1, 2], Refusal::SeatSpent, Why::Spent, 1),
-        (&[7], Refusal::SeatSpent, Why::Spent, 1),
-    ] {
-        let course = Course {
-            begins: &[Ring(1, numbers)],
-            packets: &[],
-            until: Until::Stop(ITEMS),
-            filed: Filed::Refused(refusal),
-        };
-        let run = ran(&rt, rt.alloc(), Chang, &course, RING).ok_or("no memory")?;
-        assert_eq!(rt; (run.end.why, run.end.unfiled), (why, unfiled));
-    }
-    Ok(())
+/// Runs a worker on this ring, whose desk refuses each report for this: it ends for this reason, with so many reports.
+fn keeps_reports<R: Abort + Wait + Clock + Copy>(
+    rt: &R,
+    alloc: Global,
+    ring: Ring,
+    refusal: Refusal,
+    why: Why,
+    unfiled: usize,
+) {
+    let course = Course {
+        begins: &[ring],
+        packets: &[],
+        until: Until::Stop(ITEMS),
+        filed: Filed::Refused(refusal),
+    };
+    let Some(end) = ended(rt, alloc, Chang, &course, ring) else {
+        panic!(rt; "no memory");
+    };
+    assert_eq!(rt; end.why, why);
+    assert_eq!(rt; end.unfiled, unfiled);
 }
 
 #[test]
-fn a_worker_without_senders_ends_closed(rt: HostRuntime) -> Result<(), Fail> {
-    let alloc = rt.alloc();
-    let (mut receiver, senders) = inbox::<Item<Chang>>(alloc, 1, 1)?;
-    drop(senders);
-    let (_other, mut senders) = inbox::<Item<Chang>>(alloc, 1, 1)?;
-    assert_eq!(rt; senders.len(), 1);
-    let handed = run_worker(
-        &rt,
-        Worker::new(alloc, 0, 1),
-        &mut receiver,
-        &mut senders,
-        &OpenGate,
-        Answers(Filed::Noted),
-    );
-    assert_eq!(rt; handed.why, Why::Closed);
-    Ok(())
+fn a_refused_report_stays_with_the_worker(rt: HostRuntime) {
+    let (alloc, spent) = (rt.alloc(), Refusal::SeatSpent);
+    keeps_reports(&rt, alloc, RING, Refusal::NoMemory, Why::Stopped, 3);
+    keeps_reports(&rt, alloc, RING, spent, Why::Spent, 1);
+    keeps_reports(&rt, alloc, Ring(1, &[7]), spent, Why::Spent, 1);
+}
+
+#[test]
+fn a_worker_without_senders_ends_closed(rt: HostRuntime) {
+    let why = why_alone::<Chang, HostRuntime>(&rt, rt.alloc());
+    assert_eq!(rt; why, Some(Why::Closed));
 }

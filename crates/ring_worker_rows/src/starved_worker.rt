@@ -3,17 +3,14 @@
 //! A run that is refused memory before its worker begins, or when that has ended, is made once more, so the row comes to
 //! its end whichever growth is refused, if it is one alone: a sweep refuses each in turn.
 
-use crate::courses::{Course, End, Run, ran};
+use crate::courses::{Course, End, ran_again};
 use crate::gates::Until;
 use crate::rings::Ring;
 use ring_lelann::LeLann;
 use ring_node::Node;
 use ring_workers::{Filed, Why};
 use ring_world::Settlement;
-use std::alloc::Global;
-use std::sync::Wait;
 use std::test::Fail;
-use std::time::Clock;
 
 /// The ring of the row.
 const RING: Ring = Ring(1, &[3, 1, 2]);
@@ -21,19 +18,13 @@ const RING: Ring = Ring(1, &[3, 1, 2]);
 /// How many items it takes: its charter, nine messages and three announcements.
 const ITEMS: u64 = 13;
 
-/// A run of a worker on the ring, which is made once more where it was refused memory outside its worker.
-fn ran_again<R: Wait + Clock + Copy>(rt: &R, alloc: Global) -> Option<Run<LeLann>> {
-    let course = Course {
-        begins: &[RING],
-        packets: &[],
-        until: Until::Stop(ITEMS),
-        filed: Filed::Noted,
-    };
-    match ran(rt, alloc, LeLann, &course, RING) {
-        Some(run) => Some(run),
-        None => ran(rt, alloc, LeLann, &course, RING),
-    }
-}
+/// The course of a worker on the ring.
+const COURSE: Course = Course {
+    begins: &[RING],
+    packets: &[],
+    until: Until::Stop(ITEMS),
+    filed: Filed::Noted,
+};
 
 /// Whether a worker stopped with a settled ring, or was starved before that; either way nothing was dropped.
 fn is_whole_or_starved(end: &End) -> bool {
@@ -58,8 +49,8 @@ fn begins_its_peer(node: &Node<LeLann>, whole: &[Node<LeLann>]) -> bool {
 /// they would have received.
 #[test]
 fn a_starved_worker_has_handled_a_first_part(rt: HostRuntime) -> Result<(), Fail> {
-    let first = ran_again(&rt, rt.alloc()).ok_or("no run")?;
-    let second = ran_again(&rt, rt.alloc()).ok_or("no run")?;
+    let first = ran_again(&rt, rt.alloc(), LeLann, &COURSE, RING).ok_or("no run")?;
+    let second = ran_again(&rt, rt.alloc(), LeLann, &COURSE, RING).ok_or("no run")?;
     let (whole, other) = if first.end.why == Why::Starved {
         (second, first)
     } else {

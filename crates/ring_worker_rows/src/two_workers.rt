@@ -2,12 +2,14 @@
 //! and 3.
 ghost use Rattle.std.specs.Prelude.{◌<◌};
 
-use crate::gates::{Answers, LOOKS, Meeting, wait_for_a_look};
+use crate::courses::{Place, worked};
+use crate::gates::{LOOKS, Meeting, wait_for_a_look};
 use crate::rings::{Ring, charter, store};
-use ring_inbox::{Put, ReceiverPass, SenderPass, inbox};
+use ring_election::RingElection;
+use ring_inbox::{SenderPass, inbox};
 use ring_node::{Charter, Node};
 use ring_peterson::Peterson;
-use ring_workers::{Filed, Handed, Item, Why, Worker, run_worker};
+use ring_workers::{Filed, Handed, Item, Why};
 use ring_world::{Settlement, settle};
 use std::alloc::Global;
 use std::sync::{Arc, Wait};
@@ -21,29 +23,23 @@ const WORKERS: usize = 2;
 /// How many items they handle: a charter each, 24 messages and 4 announcements.
 const ITEMS: u64 = 30;
 
-type Pass = SenderPass<Item<Peterson>>;
-
-/// A worker's inbox, and its passes to the inboxes of all.
-#[derive(Drop)]
-struct Place {
-    receiver: ReceiverPass<Item<Peterson>>,
-    senders: Vec<Pass>,
-}
+/// The places of two workers, and one more pass to the inbox of each.
+type Places<E> = (Place<E>, Place<E>, Vec<SenderPass<Item<E>>>);
 
 /// One pass of each inbox.
-fn taken(alloc: Global, zero: &mut Vec<Pass>, one: &mut Vec<Pass>) -> Option<Vec<Pass>> {
+fn taken<T: Drop>(alloc: Global, zero: &mut Vec<T>, one: &mut Vec<T>) -> Option<Vec<T>> {
     let mut passes = Vec::new(alloc);
     passes.push(zero.pop()?).ok()?;
     passes.push(one.pop()?).ok()?;
     Some(passes)
 }
 
-/// The places of the two workers, with inboxes of this capacity, and one more pass to each inbox.
-fn placed(alloc: Global, capacity: usize) -> Option<(Place, Place, Vec<Pass>)>
+/// The places of two workers with inboxes of this capacity.
+fn placed<E: RingElection>(alloc: Global, capacity: usize) -> Option<Places<E>>
     requires { 0 < capacity }
 {
-    let (first, mut zero) = inbox::<Item<Peterson>>(alloc, capacity, WORKERS + 1).ok()?;
-    let (last, mut one) = inbox::<Item<Peterson>>(alloc, capacity, WORKERS + 1).ok()?;
+    let (first, mut zero) = inbox::<Item<E>>(alloc, capacity, WORKERS + 1).ok()?;
+    let (last, mut one) = inbox::<Item<E>>(alloc, capacity, WORKERS + 1).ok()?;
     let own = taken(alloc, &mut zero, &mut one)?;
     let first = Place {
         receiver: first,
@@ -56,30 +52,10 @@ fn placed(alloc: Global, capacity: usize) -> Option<(Place, Place, Vec<Pass>)>
     Some((first, last, own))
 }
 
-/// Runs the worker of this number; none where it has not one pass for each worker.
-fn work<R: Wait + Clock>(
-    rt: &R,
-    alloc: Global,
-    number: usize,
-    place: Place,
-    gate: &Meeting<R>,
-) -> Option<Handed<Peterson>> {
-    let Place {
-        mut receiver,
-        mut senders,
-    } = place;
-    if number >= WORKERS || senders.len() != WORKERS {
-        return None;
-    }
-    let worker = Worker::new(alloc, number, WORKERS);
-    let desk = Answers(Filed::Noted);
-    Some(run_worker(rt, worker, &mut receiver, &mut senders, gate, desk))
-}
-
 /// Puts the word to stop, until it is stored.
-fn stop<R: Wait + Clock>(rt: &R, to: &mut Pass) {
+fn stop<E: RingElection, R: Wait + Clock>(rt: &R, to: &mut SenderPass<Item<E>>) {
     for _ in 0..LOOKS {
-        if matches!(to.put(rt, Item::Stop), Put::Stored) {
+        if store(rt, to, Item::Stop).is_some() {
             return;
         }
         wait_for_a_look(rt);
@@ -87,7 +63,11 @@ fn stop<R: Wait + Clock>(rt: &R, to: &mut Pass) {
 }
 
 /// Waits until the workers have handled all items, and stops them. The answer is whether they have.
-fn watch<R: Wait + Clock>(rt: &R, gate: &Meeting<R>, own: &mut Vec<Pass>) -> bool {
+fn watch<E: RingElection, R: Wait + Clock>(
+    rt: &R,
+    gate: &Meeting<R>,
+    own: &mut Vec<SenderPass<Item<E>>>,
+) -> bool {
     let all = gate.waits_for(ITEMS);
     for pass in own {
         stop(rt, pass);
@@ -96,7 +76,7 @@ fn watch<R: Wait + Clock>(rt: &R, gate: &Meeting<R>, own: &mut Vec<Pass>) -> boo
 }
 
 /// Moves the nodes of a worker that stopped behind a list; none where it did not end well.
-fn take_nodes(handed: Option<Handed<Peterson>>, nodes: &mut Vec<Node<Peterson>>) -> Option<()> {
+fn take_nodes<E: RingElection>(handed: Option<Handed<E>>, nodes: &mut Vec<Node<E>>) -> Option<()> {
     let rest = handed?.append_to(nodes).ok()?;
     if rest.why == Why::Stopped && rest.dropped == 0 && rest.outbox.is_empty() {
         Some(())
@@ -105,7 +85,32 @@ fn take_nodes(handed: Option<Handed<Peterson>>, nodes: &mut Vec<Node<Peterson>>)
     }
 }
 
-/// What the two workers hand over, with inboxes of this capacity.
+/// Whether the nodes of two workers settle; none where the workers did not end well.
+fn judged<E: RingElection>(
+    alloc: Global,
+    charter: &Charter<E>,
+    zero: Option<Handed<E>>,
+    one: Option<Handed<E>>,
+) -> Option<Settlement> {
+    let mut nodes = Vec::new(alloc);
+    take_nodes(zero, &mut nodes)?;
+    take_nodes(one, &mut nodes)?;
+    Some(settle(charter, &nodes))
+}
+
+/// Puts the item by which a charter begins into each inbox; none where one did not store it.
+fn begin<E: RingElection, R: Wait>(
+    rt: &R,
+    charter: &Arc<Charter<E>>,
+    own: &mut Vec<SenderPass<Item<E>>>,
+) -> Option<()> {
+    for pass in own {
+        store(rt, pass, Item::Begin(Arc::try_clone(charter).ok()?))?;
+    }
+    Some(())
+}
+
+/// Whether the nodes of the two workers settle, with inboxes of this capacity; none where the workers did not end well.
 fn settlement<R: Threads + Wait + Clock + Copy + Send + Sync>(
     rt: &R,
     alloc: Global,
@@ -115,26 +120,21 @@ fn settlement<R: Threads + Wait + Clock + Copy + Send + Sync>(
 {
     let charter = charter(alloc, Peterson, Ring(1, &[4, 1, 3, 2]))?;
     let (first, last, mut own) = placed(alloc, capacity)?;
-    for pass in &mut own {
-        store(rt, pass, Item::Begin(Arc::try_clone(&charter).ok()?))?;
-    }
+    begin(rt, &charter, &mut own)?;
     let gate = Meeting::new(*rt, 2);
     let ((zero, one), all) = thread::join(
         rt,
         || thread::join(
             rt,
-            || work(rt, alloc, 0, first, &gate),
-            || work(rt, alloc, 1, last, &gate),
+            || worked(rt, alloc, 0, first, &gate, Filed::Noted),
+            || worked(rt, alloc, 1, last, &gate, Filed::Noted),
         ),
         || watch(rt, &gate, &mut own),
     );
     if !all {
         return None;
     }
-    let mut nodes = Vec::new(alloc);
-    take_nodes(zero, &mut nodes)?;
-    take_nodes(one, &mut nodes)?;
-    Some(settle(&charter, &nodes))
+    judged(alloc, &charter, zero, one)
 }
 
 #[test]
