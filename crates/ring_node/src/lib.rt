@@ -10,6 +10,7 @@
 mod charter;
 mod envelope;
 mod fault;
+mod filed;
 mod node;
 mod packet;
 mod port;
@@ -20,6 +21,7 @@ mod step;
 pub use charter::Charter;
 pub use envelope::Envelope;
 pub use fault::TakeFault;
+pub use filed::Filed;
 pub use node::Node;
 pub use packet::Packet;
 pub use report::Report;

@@ -5,8 +5,7 @@ use ring_election::RingElection;
 use ring_events::{Command, Reply};
 use ring_id::{GroupName, Refusal};
 use ring_lines::Queued;
-use ring_node::{Charter, Report};
-use ring_workers::Filed;
+use ring_node::{Charter, Filed, Report};
 use std::sync::{Arc, Wait};
 
 /// What a call of a table's access answers.

@@ -20,5 +20,5 @@ pub use entry::{Entry, is_refused};
 pub use history::{Entries, History};
 pub use kept::{Kept, KeptReply};
 pub use locked::{LockedSeat, LockedTable};
-pub use ring_workers::Filed;
+pub use ring_node::Filed;
 pub use table::{Table, is_starved};

@@ -4,7 +4,7 @@ ghost use Rattle.ring_workers.specs.Holdings.{AllOwned, NoTwoAlike, nodes_of};
 ghost use Rattle.ring_workers.specs.private.Holdings.{Steps};
 ghost use Rattle.ring_workers.specs.private.Runs.{EndsAt, Turns, held_of};
 
-use crate::desk::{Desk, Filed};
+use crate::desk::Desk;
 use crate::handed::{Handed, Why};
 use crate::item::Item;
 use crate::nodes::Nodes;
@@ -13,7 +13,7 @@ use crate::owner::Worker;
 use crate::seats::Fate;
 use ring_election::RingElection;
 use ring_id::{NoMemory, Refusal};
-use ring_node::{Charter, Envelope, Report};
+use ring_node::{Charter, Envelope, Filed, Report};
 use std::alloc::Global;
 use std::collections::VecDeque;
 use std::sync::Arc;

@@ -23,10 +23,11 @@ mod post;
 mod run;
 mod seats;
 
-pub use desk::{Desk, Filed};
+pub use desk::Desk;
 pub use gate::{Gate, OpenGate, Pass};
 pub use handed::{Handed, Rest, Why};
 pub use item::Item;
 pub use nodes::Nodes;
 pub use owner::Worker;
+pub use ring_node::Filed;
 pub use run::run_worker;
