@@ -2,6 +2,7 @@
 use Rattle.std.specs.Prelude.{◌≡◌, ℕ, Option, Some, None, refl}
 use Rattle.ring_chang.specs.declared.chang.ChangState.{ChangState}
 use Rattle.ring_hirschberg.specs.declared.hirschberg.HirschbergMsg.{HirschbergMsg}
+use Rattle.ring_hirschberg.specs.declared.hirschberg.HirschbergMsg.TheVariants as token
 use Rattle.ring_hirschberg.specs.declared.hirschberg.HirschbergState.{HirschbergState}
 use Rattle.ring_lelann.specs.LeLann.{Knowledge}
 use Rattle.ring_peterson.specs.declared.peterson.PetersonState.{PetersonState}
@@ -74,8 +75,19 @@ hirschberg_state _ = None
 
 -- a message of Hirschberg
 abbrev pub hirschberg_message : AnyMsg → Option HirschbergMsg
-hirschberg_message (message.Hirschberg v) = Some v
+hirschberg_message (message.Out v hops) = Some (token.Out v hops)
+hirschberg_message (message.Back v) = Some (token.Back v)
 hirschberg_message _ = None
+
+-- a token as a message of the sum
+abbrev pub token_put : HirschbergMsg → AnyMsg
+token_put (token.Out v hops) = message.Out v hops
+token_put (token.Back v) = message.Back v
+
+-- what was put in is its own
+pub hirschberg_message-put : (v : HirschbergMsg) → hirschberg_message (token_put v) ≡ Some v
+hirschberg_message-put (token.Out v hops) = refl
+hirschberg_message-put (token.Back v) = refl
 
 -- no other state is one
 pub hirschberg_state-own : (w : AnyState) (s : HirschbergState) → hirschberg_state w ≡ Some s → w ≡ state.Hirschberg s
@@ -83,8 +95,11 @@ hirschberg_state-own (state.Hirschberg _) s is = cc
 hirschberg_state-own _ s is = cc
 
 -- no other message is one
-pub hirschberg_message-own : (w : AnyMsg) (v : HirschbergMsg) → hirschberg_message w ≡ Some v → w ≡ message.Hirschberg v
-hirschberg_message-own (message.Hirschberg _) v is = cc
+pub hirschberg_message-own : (w : AnyMsg) (v : HirschbergMsg) → hirschberg_message w ≡ Some v → w ≡ token_put v
+hirschberg_message-own (message.Out _ _) (token.Out _ _) is = cc
+hirschberg_message-own (message.Out _ _) (token.Back _) is = cc
+hirschberg_message-own (message.Back _) (token.Out _ _) is = cc
+hirschberg_message-own (message.Back _) (token.Back _) is = cc
 hirschberg_message-own _ v is = cc
 
 -- the states of Hirschberg
@@ -93,7 +108,7 @@ hirschberg_states = record { put = λ s. state.Hirschberg s; of = hirschberg_sta
 
 -- the messages of Hirschberg
 abbrev pub hirschberg_messages : Variant AnyMsg HirschbergMsg
-hirschberg_messages = record { put = λ v. message.Hirschberg v; of = hirschberg_message; of_put = λ _. refl; put_of = hirschberg_message-own }
+hirschberg_messages = record { put = token_put; of = hirschberg_message; of_put = hirschberg_message-put; put_of = hirschberg_message-own }
 
 -- a state of Peterson
 abbrev pub peterson_state : AnyState → Option PetersonState

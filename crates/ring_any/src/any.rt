@@ -1,5 +1,7 @@
 ghost use Rattle.std.specs.Prelude.{◌≡◌, ◌↔◌, IfOk, IsOk, MatchOption, IsSomeAnd, OnErr, OnOk, false};
 ghost use Rattle.ring_any.specs.Any.{any_greatest, any_table, any_two_way, grows, word_of};
+ghost use Rattle.ring_any.specs.Kinds.{hirschberg_messages, token_put};
+ghost use Rattle.ring_any.specs.Variants.{put_sends};
 ghost use Rattle.ring_any.specs.declared.any.Any.{Any};
 
 use ring_chang::{Chang, ChangState};
@@ -27,16 +29,19 @@ pub enum Any {
     Peterson,
 }
 
-/// A message of one of the elections.
+/// A message of one of the elections. Each starts with its identity, so that nothing has to be moved to
+/// make a message of an algorithm one of the sum, and a token has no tag of its own.
 #[derive(Clone, Copy, Debug, PartialEq, Eq)]
 pub enum AnyMsg {
-    /// An identity.
+    /// An identity of LeLann's.
     LeLann(NodeId),
-    /// An identity.
+    /// An identity of Chang and Roberts'.
     Chang(NodeId),
-    /// A token on its way out or home.
-    Hirschberg(HirschbergMsg),
-    /// An identity.
+    /// A token of Hirschberg and Sinclair's on its way out.
+    Out { id: NodeId, hops: u32 },
+    /// A token of theirs on its way home.
+    Back { id: NodeId },
+    /// An identity of Peterson's.
     Peterson(NodeId),
 }
 
@@ -136,10 +141,7 @@ impl RingElection for Any {
             }
             Any::Hirschberg => {
                 let (state, sends) = Hirschberg.start(alloc, me);
-                (
-                    AnyState::Hirschberg(state),
-                    wrapped(sends, AnyMsg::Hirschberg),
-                )
+                (AnyState::Hirschberg(state), tokens(sends))
             }
             Any::Peterson => {
                 let (state, sends) = Peterson.start(alloc, me);
@@ -172,9 +174,13 @@ impl RingElection for Any {
                 let sends = Chang.receive(state, from, message)?;
                 Ok(wrapped(sends, AnyMsg::Chang))
             }
-            (Any::Hirschberg, AnyState::Hirschberg(state), AnyMsg::Hirschberg(message)) => {
-                let sends = Hirschberg.receive(state, from, message)?;
-                Ok(wrapped(sends, AnyMsg::Hirschberg))
+            (Any::Hirschberg, AnyState::Hirschberg(state), AnyMsg::Out { id, hops }) => {
+                let sends = Hirschberg.receive(state, from, HirschbergMsg::Out { id, hops })?;
+                Ok(tokens(sends))
+            }
+            (Any::Hirschberg, AnyState::Hirschberg(state), AnyMsg::Back { id }) => {
+                let sends = Hirschberg.receive(state, from, HirschbergMsg::Back { id })?;
+                Ok(tokens(sends))
             }
             (Any::Peterson, AnyState::Peterson(state), AnyMsg::Peterson(message)) => {
                 let sends = Peterson.receive(state, from, message)?;
@@ -207,6 +213,29 @@ impl RingElection for Any {
     ghost equal_same = { λ a b h. Prim.search rules };
 
     ghost equal_messages = { λ a b h. Prim.search rules };
+}
+
+/// A token of Hirschberg and Sinclair's, as a message of the sum.
+#[inline(always)]
+fn token(message: HirschbergMsg) -> AnyMsg
+    ensures { result ≡ token_put message }
+{
+    match message {
+        HirschbergMsg::Out { id, hops } => AnyMsg::Out { id, hops },
+        HirschbergMsg::Back { id } => AnyMsg::Back { id },
+    }
+}
+
+/// These sends, each token made a message of the sum.
+#[inline(always)]
+fn tokens(sends: Sends<HirschbergMsg>) -> Sends<AnyMsg>
+    ensures { result ≡ put_sends hirschberg_messages sends }
+{
+    let Sends { left, right } = sends;
+    Sends {
+        left: left.map(token),
+        right: right.map(token),
+    }
 }
 
 /// These sends, each message made one of the sum.

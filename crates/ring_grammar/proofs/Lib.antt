@@ -1,3 +1,4 @@
+mod Asking
 mod Cutting
 mod Digits
 mod Identities

@@ -1,4 +1,4 @@
-ghost use Rattle.std.specs.Prelude.{◌≡◌, ◌∷◌, [], IfSome, IfNone};
+ghost use Rattle.std.specs.Prelude.{◌≡◌, ◌∷◌, [], codes, IfSome, IfNone};
 ghost use Rattle.ring_any.specs.declared.any.Any.{Any};
 ghost use Rattle.ring_events.specs.declared.event.Event.{Event};
 ghost use Rattle.ring_events.specs.declared.event.Command.{Command};
@@ -49,9 +49,29 @@ fn client_command(event: Event<Any>) -> Option<Command<Any>>
     }
 }
 
-// The event that these bytes spell, however long they are.
+// The event that these bytes spell, however long they are. A question who leads, which clients ask most, is read at once.
 #[inline(always)]
 fn event(line: &[u8]) -> Option<Event<Any>>
+    ensures { Reads event_words IsEvent (words_in line.now) result }
+{
+    match line {
+        [b'w', b'h', b'o', b' ', rest @ ..] => who(rest),
+        _ => any_event(line),
+    }
+}
+
+// The question who leads that these bytes spell behind its first word. A number is cut no further, since it has no space.
+#[inline(always)]
+fn who(rest: &[u8]) -> Option<Event<Any>>
+    ensures { Reads event_words IsEvent (codes "who" ∷ words_in rest.now) result }
+{
+    let (group, argument) = cut(rest, b' ')?;
+    let (group, number) = (name(group)?, node_number(argument)?);
+    Some(Event::Client(Command::Who(group, number)))
+}
+
+// The event that these bytes spell, by its words.
+fn any_event(line: &[u8]) -> Option<Event<Any>>
     ensures { Reads event_words IsEvent (words_in line.now) result }
 {
     let Some((word, rest)) = cut(line, b' ') else {

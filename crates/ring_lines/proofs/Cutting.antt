@@ -1,10 +1,11 @@
 -- Where the first line of a text ends, and what that says of the lines of the text.
-use Rattle.std.proofs.Common.{◌≡◌, ℕ, ◌<◌, ◌≤◌, Bool, true, false, ◌==◌, nat_lt, cond, List, [], ◌∷◌, ◌++◌, length, take, get_or, Option, Some, None, refl, ap, ◌∙◌, arith, length-take}
+use Rattle.std.proofs.Common.{◌≡◌, ℕ, ◌<◌, ◌≤◌, Bool, true, false, ◌==◌, nat_lt, cond, List, [], ◌∷◌, ◌++◌, length, take, get_or, Option, Some, None, refl, ap, sym, ◌∙◌, arith, length-take}
 use Rattle.std.specs.List.{position, position_or_len}
 use Rattle.std.proofs.lemmas.Bool.{ltb-true, ltb-false, eqb-true, or_parts, cond-false}
 use Rattle.std.proofs.lemmas.List.{get_or-take}
 use Rattle.std.proofs.lemmas.List.Folds.{list_any_none}
-use Rattle.std.proofs.lemmas.List.Sums.{fails_before_first, passes_at_first, split_at_first}
+use Rattle.std.proofs.lemmas.List.Sums.{fails_before_first, passes_at_first, position_or_len_is, split_at_first}
+use Rattle.memchr.specs.Find.{IsFirstByte}
 use Rattle.ring_lines.specs.Lines.{lines_of, whole_lines_of, onto_whole, has_lf}
 use Rattle.ring_lines.specs.private.Filling.{FindsLine, IsCutAt}
 use Rattle.std.specs.List.{onto_first}
@@ -32,6 +33,30 @@ cut_at-first bytes h = record {
       let ten : get_or bytes (position_or_len is_lf bytes) 0 ≡ 10 = eqb-true _ _ (passes_at_first is_lf bytes 0 h) in
       rw ten at (split_at_first is_lf bytes 0 h);
 }
+
+-- a test that is not passed
+fails : (passed : Bool) → ¬ (passed ≡ true) → passed ≡ false
+fails true not_passed = absurd (not_passed refl)
+fails false not_passed = refl
+
+-- the first byte that passes a test stands at its position
+pub first_byte-position : (test : ℕ → Bool) (bytes : List ℕ) (found : Option ℕ) → IsFirstByte test bytes found → found ≡ position test bytes
+first_byte-position test bytes None nowhere =
+    let end : position_or_len test bytes ≡ length bytes =
+        position_or_len_is test bytes (length bytes) 0 (omega arith) (λ k below. fails _ (nowhere k (omega arith) below)) (λ past. absurd (omega arith)) in
+    elim (nat_lt (position_or_len test bytes) (length bytes)) as
+    (λ b. nat_lt (position_or_len test bytes) (length bytes) ≡ b → None ≡ cond b (Some (position_or_len test bytes)) None) [
+      | true ↦ λ below. absurd (omega (arith, end, ltb-true _ _ below))
+      | false ↦ λ _. refl
+    ] refl
+first_byte-position test bytes (Some at) first =
+    let there : position_or_len test bytes ≡ at =
+        position_or_len_is test bytes at 0 (omega (arith, first.0.high)) (λ k below. fails _ (first.0.before k (omega arith) below)) (λ _. first.1) in
+    elim (nat_lt (position_or_len test bytes) (length bytes)) as
+    (λ b. nat_lt (position_or_len test bytes) (length bytes) ≡ b → Some at ≡ cond b (Some (position_or_len test bytes)) None) [
+      | true ↦ λ _. ap (λ (n : ℕ). Some n) (sym there)
+      | false ↦ λ past. absurd (omega (arith, there, first.0.high, ltb-false _ _ past))
+    ] refl
 
 -- the place of the first LF is where the first line ends
 pub finds_line-position : (bytes : List ℕ) (found : Option ℕ) → found ≡ position is_lf bytes → FindsLine bytes found

@@ -5,6 +5,7 @@ ghost use Rattle.ring_lines.specs.private.Filling.{answer_of, phase_of};
 
 use crate::answers::{Found, LONGEST, Line, LineFault, Phase};
 use crate::ends::{Intake, ReadFault};
+use memchr::memchr;
 use std::alloc::{AllocError, Global};
 use std::marker::Model;
 
@@ -178,7 +179,7 @@ impl LineBuffer {
 fn find_line(bytes: &[u8]) -> Option<usize>
     ensures { result ≡ position (λ byte. byte == 10) bytes.now }
 {
-    bytes.iter().position(|byte| *byte == LF)
+    memchr(LF, bytes)
 }
 
 // The answer for a line that ends with these bytes, behind more than it may have where it is long.

@@ -1,5 +1,5 @@
 use Rattle.ring_grammar.proofs.Words.{too_many_words}
-use Rattle.ring_grammar.proofs.parse.event.Goals as goal
+use Rattle.ring_grammar.proofs.parse.any_event.Goals as goal
 
 pub returns-in-Some-cut-3 : goal.returns-in-Some-cut-3
 returns-in-Some-cut-3 c = λ event legal same.
