@@ -1,13 +1,12 @@
 -- Goings: how what happens to some nodes happens to all, and one thing after another.
-use Rattle.std.proofs.Common.{◌≡◌, ◌+◌, ◌<◌, ◌≤◌, ℕ, zero, suc, List, [], ◌∷◌, ◌++◌, length, Option, Some, None, slice_get, refl, sym, ap, ◌∙◌, subst, inl, inr, ◌⊎◌, arith, append_assoc}
+use Rattle.std.proofs.Common.{◌+◌, List, [], ◌++◌, refl, sym, ap, ◌∙◌, inl, inr, append_assoc}
 use Rattle.std.proofs.lemmas.List.{append-nil}
 use Rattle.ring_election.specs.Tables.{Table}
 use Rattle.ring_node.specs.Envelopes.{Sent}
 use Rattle.ring_node.specs.Nodes.{Seated}
 use Rattle.ring_workers.specs.private.Goings.{Goes, Grows}
-use Rattle.ring_workers.specs.Goings.{HasReceived, IsSent}
-use Rattle.ring_workers.specs.Lists.{IsOneOf}
-use Rattle.ring_workers.proofs.Among.{among_none, among_left, among_right, among_append}
+use Rattle.ring_workers.specs.Goings.{HasReceived}
+use Rattle.ring_workers.proofs.Among.{among_left, among_right, among_append}
 
 -- a node is later what it was
 pub grows_none : {E M : Type 0} (node : Seated E M) → Grows node node

@@ -1,5 +1,5 @@
 -- Groups: what happens to one group's seats happens to all that is held.
-use Rattle.std.proofs.Common.{◌≡◌, ◌+◌, ◌<◌, ◌≤◌, ℕ, zero, suc, List, [], ◌∷◌, ◌++◌, length, Option, Some, None, slice_get, refl, sym, ap, ◌∙◌, subst, inl, inr, ◌⊎◌, arith, append_assoc, true≢false}
+use Rattle.std.proofs.Common.{◌≡◌, ◌+◌, ◌<◌, ℕ, zero, suc, List, [], ◌∷◌, ◌++◌, length, Option, Some, None, slice_get, refl, sym, ap, ◌∙◌, subst, inl, inr, ◌⊎◌, arith, append_assoc, true≢false}
 use Rattle.indexmap.specs.IndexMap.{set_value_at}
 use Rattle.std.specs.Map.{keys_of, lookup, values_of}
 use Rattle.std.specs.Str.{bytes_eq}
@@ -15,8 +15,8 @@ use Rattle.ring_election.specs.Tables.{Table}
 use Rattle.ring_node.specs.declared.charter.Charter.{Charter}
 use Rattle.ring_node.specs.Envelopes.{Sent}
 use Rattle.ring_node.specs.Nodes.{Seated}
-use Rattle.ring_workers.specs.private.Goings.{Goes, Grows}
-use Rattle.ring_workers.specs.Goings.{HasReceived, IsSent}
+use Rattle.ring_workers.specs.private.Goings.{Goes}
+use Rattle.ring_workers.specs.Goings.{HasReceived}
 use Rattle.ring_workers.specs.Holdings.{AllSeated, Holding, charters_in, charters_of, nodes_in, nodes_of}
 use Rattle.ring_workers.specs.private.Holdings.{IsGroupAt, IsHolding, Steps}
 use Rattle.ring_workers.specs.Lists.{IsOneOf}

@@ -1,18 +1,16 @@
 -- Handling: what a worker has in hand before and after one item.
-use Rattle.std.proofs.Common.{◌≡◌, ◌≤◌, ℕ, List, [], ◌∷◌, ◌++◌, Option, Some, None, refl, sym, ap, ◌∙◌, subst, inl, inr, ◌⊎◌, arith}
+use Rattle.std.proofs.Common.{◌≡◌, ℕ, List, [], ◌∷◌, ◌++◌, Option, Some, None, refl, sym, ap, ◌∙◌, subst, inl, inr, ◌⊎◌, arith}
 use Rattle.std.proofs.lemmas.List.{append-nil}
 use Rattle.ring_election.specs.Tables.{Table}
 use Rattle.ring_inbox.specs.Values.{ReceiverLog, SenderLog}
 use Rattle.ring_node.specs.declared.charter.Charter.{Charter}
 use Rattle.ring_node.specs.Envelopes.{Sent}
-use Rattle.ring_node.specs.Nodes.{Seated}
 use Rattle.ring_workers.specs.declared.handed.Handed.{Handed}
 use Rattle.ring_workers.specs.declared.handed.Why.{Why}
 use Rattle.ring_workers.specs.declared.handed.Why.TheVariants.{Stopped, Closed, Halted, Starved, Spent}
 use Rattle.ring_workers.specs.declared.item.Item.{Item}
 use Rattle.ring_workers.specs.declared.item.Item.TheVariants.{Begin, Packet, Stop}
 use Rattle.ring_workers.specs.private.Fates.{IsBegun, IsDelivered}
-use Rattle.ring_workers.specs.private.Goings.{Grows}
 use Rattle.ring_workers.specs.Goings.{HasReceived}
 use Rattle.ring_workers.specs.Handed.{Ended, Hands}
 use Rattle.ring_workers.specs.Holdings.{AllOwned, AllSeated, Holding, NoTwoAlike, charters_of, nodes_of}

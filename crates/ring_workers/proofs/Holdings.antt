@@ -1,15 +1,14 @@
 -- Holdings: whose the nodes are, and that no two are alike.
-use Rattle.std.proofs.Common.{◌≡◌, ◌+◌, ◌<◌, ◌≤◌, ℕ, zero, suc, List, [], ◌∷◌, ◌++◌, length, Option, Some, None, slice_get, refl, sym, ap, ◌∙◌, subst, inl, inr, ◌⊎◌, arith, add-one}
+use Rattle.std.proofs.Common.{◌≡◌, ◌+◌, ℕ, zero, suc, List, [], ◌∷◌, ◌++◌, Option, Some, None, slice_get, refl, sym, ap, ◌∙◌, inl, inr, arith}
 use Rattle.std.proofs.lemmas.Option.{none-some, same_Some}
-use Rattle.ring_node.specs.declared.charter.Charter.{Charter}
 use Rattle.ring_node.specs.Nodes.{Seated, member_of}
-use Rattle.ring_workers.specs.Holdings.{AllOwned, NoTwoAlike, charters_in, nodes_in}
+use Rattle.ring_workers.specs.Holdings.{AllOwned, NoTwoAlike, nodes_in}
 use Rattle.ring_workers.specs.private.Holdings.{IsGroupAt, IsHolding}
 use Rattle.ring_workers.specs.Lists.{IsOneOf}
 use Rattle.ring_workers.specs.Owners.{owner_of}
 use Rattle.ring_workers.specs.private.Seatings.{IsSeating}
 use Rattle.ring_workers.specs.Seatings.{Seating, seated_in}
-use Rattle.ring_workers.proofs.Among.{among_none, among_first, among_rest, among_cons, among_left, among_right, among_append}
+use Rattle.ring_workers.proofs.Among.{among_none, among_first, among_rest, among_append}
 use Rattle.ring_workers.proofs.Seatings.{place_of}
 
 module _ {E M : Type 0} where

@@ -1,9 +1,10 @@
 -- Posting: the envelopes from a place on join a list, one at a time.
-use Rattle.std.proofs.Common.{◌≡◌, ◌+◌, ◌<◌, ◌≤◌, ℕ, List, [], ◌∷◌, ◌++◌, Option, Some, None, refl, sym, ap, ◌∙◌, inl, inr, ◌⊎◌, append_assoc, length, slice_get, zero, suc, arith}
+use Rattle.std.proofs.Common.{◌≡◌, ◌+◌, ◌<◌, ◌≤◌, ℕ, List, [], ◌∷◌, ◌++◌, Option, Some, None, refl, sym, ap, ◌∙◌, inl, inr, append_assoc, length, length-append, slice_get, zero, suc, arith}
 use Rattle.std.specs.Prelude.{IsSome, option_map}
 use Rattle.std.proofs.lemmas.List.{append-nil}
 use Rattle.std.proofs.lemmas.Bool.{cases_eq, cases_lt}
-use Rattle.ring_workers.specs.Lists.{IsOneOf}
+use Rattle.ring_node.specs.declared.packet.Packet.{Packet}
+use Rattle.ring_node.specs.Nodes.{Extends}
 use Rattle.ring_workers.specs.private.Posts.{Posted, Posts}
 use Rattle.ring_workers.proofs.Among.{among_last, among_left}
 
@@ -47,3 +48,25 @@ pub mapped_within : {A B : Type 0} (f : A → B) (xs : List A) (k : ℕ) → k <
 mapped_within f [] k within = absurd (omega arith)
 mapped_within f (x ∷ xs) zero within = refl
 mapped_within f (x ∷ xs) (suc k) within = mapped_within f xs k (omega arith)
+
+-- What a node has sent to a side when it took a packet, against what it had sent: how much there is to post, for which
+-- there is room.
+module _ {M : Type 0} (from most : ℕ) (old new : List (Packet M)) (is : from ≡ length old) (extends : Extends old most new) where
+  longer : length new ≡ from + length extends.more
+  longer = ap length extends.behind ∙ length-append old extends.more ∙ ap (λ n. n + length extends.more) (sym is)
+
+  pub extended_from : from ≤ length new
+  extended_from = let l = longer in omega arith
+
+  pub extended_many : (have : ℕ) → most ≤ have → length new ≤ have + from
+  extended_many have enough = let l = longer in let few : length extends.more ≤ most = extends.few in omega arith
+
+  pub extended_room : (len capacity : ℕ) → len + most ≤ capacity → len + length new ≤ capacity + from
+  extended_room len capacity enough = let l = longer in let few : length extends.more ≤ most = extends.few in omega arith
+
+  -- what is left behind it
+  pub rest_many : (have after rest : ℕ) → most + rest ≤ have → after + length new ≡ have + from → rest ≤ after
+  rest_many have after rest enough left = let l = longer in let few : length extends.more ≤ most = extends.few in omega arith
+
+  pub rest_room : (len after capacity left rest : ℕ) → len + (most + rest) ≤ capacity → after + from ≡ len + length new → left ≡ capacity → after + rest ≤ left
+  rest_room len after capacity left rest enough grown same = let l = longer in let few : length extends.more ≤ most = extends.few in omega arith

@@ -1,15 +1,14 @@
 -- A node is seated, or takes an envelope: what it sends joins the outbox.
-use Rattle.std.proofs.Common.{◌≡◌, ◌+◌, ◌<◌, ◌≤◌, ℕ, zero, suc, List, [], ◌∷◌, ◌++◌, length, set, take, Option, Some, None, slice_get, refl, sym, ap, ◌∙◌, subst, inl, inr, ◌⊎◌, arith, append_assoc, nat_lt}
+use Rattle.std.proofs.Common.{◌≡◌, ◌+◌, ◌<◌, ◌≤◌, ℕ, zero, suc, List, [], ◌∷◌, ◌++◌, length, set, take, Option, Some, None, slice_get, refl, sym, ap, ◌∙◌, subst, inl, inr, ◌⊎◌, arith, append_assoc}
 use Rattle.std.specs.Prelude.{option_map, Result, Ok, Err, OnOk}
-use Rattle.std.proofs.lemmas.List.{append-nil, take-append-le}
-use Rattle.std.proofs.lemmas.Option.{none-some, slice_get_past, slice_get_within}
+use Rattle.std.proofs.lemmas.List.{take-append-le}
 use Rattle.ring_id.specs.declared.side.Side.{Side}
 use Rattle.ring_id.specs.declared.side.Side.TheVariants.{Left, Right}
 use Rattle.ring_id.specs.Sides.{other}
 use Rattle.ring_election.specs.Tables.{Table}
 use Rattle.ring_node.specs.declared.packet.Packet.{Packet}
 use Rattle.ring_node.specs.Envelopes.{Sent, index_after}
-use Rattle.ring_node.specs.Nodes.{Extends, Gains, IsForNode, IsNext, Seated, envelope_of, member_of, receiving, sent_of, taken_of}
+use Rattle.ring_node.specs.Nodes.{Gains, IsNext, Seated, envelope_of, member_of, sent_of, taken_of}
 use Rattle.ring_workers.specs.private.Goings.{Goes, Grows, HandsTo, HasTakenOver}
 use Rattle.ring_workers.specs.Goings.{HasReceived, IsSent}
 use Rattle.ring_workers.specs.Owners.{owner_of}

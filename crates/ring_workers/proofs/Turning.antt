@@ -9,16 +9,15 @@ use Rattle.ring_node.specs.Envelopes.{Sent}
 use Rattle.ring_node.specs.Nodes.{Seated}
 use Rattle.ring_workers.specs.declared.item.Item.{Item}
 use Rattle.ring_workers.specs.declared.item.Item.TheVariants.{Begin, Packet, Stop}
-use Rattle.ring_workers.specs.Holdings.{AllSeated, Holding, charters_of, nodes_of}
+use Rattle.ring_workers.specs.Holdings.{Holding, charters_of, nodes_of}
 use Rattle.ring_workers.specs.private.Holdings.{IsOlder, Steps}
 use Rattle.ring_workers.specs.Lists.{IsOneOf}
 use Rattle.ring_workers.specs.Runs.{AllDone, IsDone, OneTerm, Ran, charter_of}
-use Rattle.ring_workers.specs.private.Runs.{IsHandled, StepsFor, Turns}
+use Rattle.ring_workers.specs.private.Runs.{IsHandled, Turns}
 use Rattle.ring_workers.specs.private.Sends.{Sends}
-use Rattle.ring_workers.specs.private.Goings.{Grows}
-use Rattle.ring_workers.specs.Goings.{HasReceived, IsSent}
+use Rattle.ring_workers.specs.Goings.{IsSent}
 use Rattle.ring_workers.specs.Seatings.{HasNodeAt}
-use Rattle.ring_workers.proofs.Among.{among_append, among_last, among_left, among_map, among_none, among_one, among_right}
+use Rattle.ring_workers.proofs.Among.{among_append, among_last, among_left, among_none, among_one, among_right}
 use Rattle.ring_workers.proofs.Growing.{received_later, seated_later}
 use Rattle.ring_workers.proofs.Running.{stored_none, stored_on}
 

@@ -1,6 +1,6 @@
-use Rattle.std.proofs.Common.{◌≡◌, ◌<◌, Some, slice_get, refl, sym, ap, ◌∙◌, arith, vec_len}
+use Rattle.std.proofs.Common.{◌≡◌, ◌<◌, Some, slice_get, refl, ap, ◌∙◌, arith, vec_len}
 use Rattle.std.proofs.lemmas.Option.{slice_get_read}
-use Rattle.ring_workers.specs.Owners.{owner_of, receiver_of}
+use Rattle.ring_workers.specs.Owners.{owner_of}
 use Rattle.ring_workers.proofs.Running.{sends_back, sends_next, sends_none}
 use Rattle.ring_workers.proofs.outbox.send.Goals as goal
 

@@ -1,10 +1,31 @@
-use Rattle.std.proofs.Common.{◌≡◌, ℕ, length, refl, ap, ◌∙◌, subst}
+use Rattle.std.proofs.Common.{◌≡◌, ℕ, refl, sym, ap, ◌∙◌, subst, arith}
 use Rattle.std.proofs.lemmas.Result.{err_from_is_err_and}
 use Rattle.ring_id.specs.declared.side.Side.TheVariants.{Left, Right}
-use Rattle.ring_node.specs.Nodes.{Seated, envelope_of, receiving, sent_of}
+use Rattle.ring_node.specs.Nodes.{Seated, envelope_of, receiving}
 use Rattle.ring_id.specs.Sides.{other}
 use Rattle.ring_workers.specs.private.Posts.{Posts}
+use Rattle.ring_workers.proofs.Posting.{extended_from, extended_many, extended_room, rest_many, rest_room}
 use Rattle.ring_workers.proofs.post.hand_to.Goals as goal
+
+pub post-requires : goal.post-requires
+post-requires g c =
+    let journal : c.take.new.self ≡ receiving c.args.node.now (other c.args.envelope.side) c.args.envelope.packet = c.in_ok-report.ensures.takes.journal in
+    record {
+      copies = λ k d within. c.requires.copies k d within ∙ sym (ap (λ (n : Seated _ _). n.charter) journal);
+      from = extended_from _ _ _ _ c.sent-left.ensures c.in_ok-report.ensures.gains.left;
+      many = extended_many _ _ _ _ c.sent-left.ensures c.in_ok-report.ensures.gains.left _ (omega (arith, c.requires.many));
+      room = extended_room _ _ _ _ c.sent-left.ensures c.in_ok-report.ensures.gains.left _ _ (omega (arith, c.requires.room));
+    }
+
+pub post-requires-2 : goal.post-requires-2
+post-requires-2 g c = record {
+  copies = c.post.ensures.copies;
+  from = extended_from _ _ _ _ c.sent-right.ensures c.in_ok-report.ensures.gains.right;
+  many = extended_many _ _ _ _ c.sent-right.ensures c.in_ok-report.ensures.gains.right _
+      (rest_many _ _ _ _ c.sent-left.ensures c.in_ok-report.ensures.gains.left _ _ 2 c.requires.many c.post.ensures.many);
+  room = extended_room _ _ _ _ c.sent-right.ensures c.in_ok-report.ensures.gains.right _ _
+      (rest_room _ _ _ _ c.sent-left.ensures c.in_ok-report.ensures.gains.left _ _ _ _ 2 c.requires.room c.post.ensures.len c.post.ensures.room);
+}
 
 pub returns : goal.returns
 returns g c =

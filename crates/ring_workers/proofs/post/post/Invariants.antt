@@ -1,4 +1,4 @@
-use Rattle.std.proofs.Common.{◌≡◌, ◌+◌, ◌≤◌, ℕ, length, vec_len}
+use Rattle.std.proofs.Common.{◌≡◌, ◌+◌, ◌≤◌, length, vec_len}
 use Rattle.std.specs.Prelude.{All}
 use Rattle.std.specs.VecDeque.{deque_capacity, deque_len}
 use Rattle.ring_node.specs.Nodes.{envelope_of, sent_of}

@@ -1,7 +1,5 @@
-use Rattle.std.proofs.Common.{◌≡◌, vec_len, List, [], Some, None, refl, ap, ◌∙◌}
-use Rattle.ring_node.specs.Envelopes.{Sent}
+use Rattle.std.proofs.Common.{None, refl, ap, ◌∙◌}
 use Rattle.ring_workers.specs.Holdings.{Holding}
-use Rattle.ring_workers.specs.Runs.{Ran}
 use Rattle.ring_workers.proofs.Handling.{ended_at, hands_over, ran_sent}
 use Rattle.ring_workers.proofs.Turning.{ran_none, ran_turn}
 use Rattle.ring_workers.proofs.run.run_worker.Goals as goal

@@ -1,9 +1,9 @@
 -- A group that is added stands last.
-use Rattle.std.proofs.Common.{◌≡◌, ◌++◌, ◌∷◌, [], ℕ, length, List, Some, None, slice_get, sym, ap, ◌∙◌, subst, arith, refl}
+use Rattle.std.proofs.Common.{◌++◌, ◌∷◌, [], slice_get, sym, ap, ◌∙◌, subst, refl}
 use Rattle.std.specs.Map.{lookup}
 use Rattle.std.specs.Str.{bytes_eq}
 use Rattle.indexmap.proofs.CallerLemmas.{insert_entry-new}
-use Rattle.ring_workers.specs.private.Holdings.{HasGroupAt, IsGroupAt, IsHolding, Steps}
+use Rattle.ring_workers.specs.private.Holdings.{IsGroupAt, IsHolding, Steps}
 use Rattle.ring_workers.proofs.Groups.{empty_group, get_pushed, holding_push, other_name, steps_none, steps_push}
 use Rattle.ring_workers.proofs.nodes.Nodes.add.Goals as goal
 

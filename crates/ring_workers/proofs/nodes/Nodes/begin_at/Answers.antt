@@ -1,15 +1,14 @@
 -- What happens at the place of a group.
-use Rattle.std.proofs.Common.{◌≡◌, Some, slice_get, sym, ap, ◌∙◌, subst, refl, true≢false}
+use Rattle.std.proofs.Common.{slice_get, sym, ap, ◌∙◌, subst, refl, true≢false}
 use Rattle.std.specs.Prelude.{IfOk, IsTrue}
 use Rattle.std.proofs.lemmas.Option.{slice_get_within}
 use Rattle.indexmap.specs.IndexMap.{set_value_at}
 use Rattle.ring_workers.specs.private.Goings.{Goes}
-use Rattle.ring_workers.specs.Holdings.{AllSeated, nodes_in}
+use Rattle.ring_workers.specs.Holdings.{AllSeated}
 use Rattle.ring_workers.specs.private.Holdings.{Steps}
-use Rattle.ring_workers.specs.Owners.{owner_of, receiver_of}
 use Rattle.ring_workers.specs.private.Seatings.{KeepsTerm}
 use Rattle.ring_workers.specs.Seatings.{seated_in}
-use Rattle.ring_workers.proofs.Groups.{all_held_if, get_set_value-same, group_kept, holding_set, received_held_if, steps_in, value_there}
+use Rattle.ring_workers.proofs.Groups.{all_held_if, get_set_value-same, group_kept, holding_set, steps_in, value_there}
 use Rattle.ring_workers.proofs.nodes.Nodes.begin_at.Goals as goal
 
 pub unreachable-requires : goal.unreachable-requires

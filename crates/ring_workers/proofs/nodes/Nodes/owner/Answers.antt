@@ -1,10 +1,7 @@
 -- What the type keeps of the nodes.
-use Rattle.std.proofs.Common.{◌≡◌, subst}
+use Rattle.std.proofs.Common.{subst}
 use Rattle.ring_workers.specs.Holdings.{AllOwned, NoTwoAlike, nodes_of}
 use Rattle.ring_workers.proofs.Holdings.{all_owned, no_two_alike}
-use Rattle.ring_workers.proofs.Taking.{goes_seat}
-use Rattle.ring_workers.proofs.Goings.{goes_on}
-use Rattle.ring_workers.proofs.Groups.{steps_in}
 use Rattle.ring_workers.proofs.nodes.Nodes.owner.Goals as goal
 
 pub returns-clause-owned : goal.returns-clause-owned

@@ -1,8 +1,8 @@
 -- Seats of an older term give way.
-use Rattle.std.proofs.Common.{◌≡◌, ℕ, length, List, [], Some, None, slice_get, sym, ap, ◌∙◌, subst, arith, refl, true≢false}
+use Rattle.std.proofs.Common.{[], slice_get, sym, ap, ◌∙◌, subst, refl, true≢false}
 use Rattle.std.proofs.lemmas.Option.{slice_get_within}
 use Rattle.indexmap.specs.IndexMap.{set_value_at}
-use Rattle.ring_workers.specs.private.Holdings.{HasGroupAt, IsGroupAt, IsHolding, Steps}
+use Rattle.ring_workers.specs.private.Holdings.{IsGroupAt, Steps}
 use Rattle.ring_workers.proofs.Groups.{empty_group, get_set_value-same, holding_set, steps_none, steps_replace}
 use Rattle.ring_workers.proofs.nodes.Nodes.replace.Goals as goal
 

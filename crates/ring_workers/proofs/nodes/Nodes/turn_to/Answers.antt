@@ -1,6 +1,5 @@
 -- The place of a group, and the term that it holds.
-use Rattle.std.proofs.Common.{◌≡◌, ◌<◌, ℕ, length, List, [], Some, None, slice_get, sym, ap, ◌∙◌, subst, arith, refl}
-use Rattle.ring_workers.specs.private.Holdings.{HasGroupAt, HasOlderAt, IsGroupAt, IsHolding, IsOlder, Steps}
+use Rattle.std.proofs.Common.{◌≡◌, ◌<◌, slice_get, sym, ap, ◌∙◌, subst, arith, refl}
 use Rattle.ring_workers.specs.Holdings.{charters_of}
 use Rattle.ring_workers.specs.Lists.{IsOneOf}
 use Rattle.ring_workers.proofs.Groups.{charter_at, name_found, steps_none}

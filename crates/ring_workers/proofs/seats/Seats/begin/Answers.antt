@@ -1,8 +1,7 @@
 -- Position after position, the nodes that the owner owns are seated.
-use Rattle.std.proofs.Common.{◌≡◌, ◌+◌, ◌≤◌, length, sym, ap, ◌∙◌, subst, arith}
-use Rattle.ring_workers.specs.private.Seatings.{IsSeating}
+use Rattle.std.proofs.Common.{◌+◌, ◌≤◌, length, sym, ap, ◌∙◌, arith}
 use Rattle.ring_workers.specs.Seatings.{seated_in}
-use Rattle.ring_workers.proofs.Beginning.{SeatedSoFar, so_far_all, so_far_first, so_far_seated, so_far_skipped}
+use Rattle.ring_workers.proofs.Beginning.{so_far_all, so_far_first, so_far_seated, so_far_skipped}
 use Rattle.ring_workers.proofs.Goings.{goes_none, goes_on}
 use Rattle.ring_workers.proofs.Taking.{goes_still}
 use Rattle.ring_workers.proofs.seats.Seats.begin.Goals.{then-is_free+in_ok-seat, else-is_free}

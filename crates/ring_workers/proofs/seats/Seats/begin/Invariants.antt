@@ -1,5 +1,5 @@
 -- So far the nodes at earlier positions are seated.
-use Rattle.std.proofs.Common.{◌≡◌, length}
+
 use Rattle.ring_workers.proofs.Beginning.{SeatedSoFar}
 use Rattle.ring_workers.proofs.seats.Seats.begin.Given as goal
 

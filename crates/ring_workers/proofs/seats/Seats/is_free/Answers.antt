@@ -1,8 +1,7 @@
 -- A node that the owner owns is free where it is not seated.
-use Rattle.std.proofs.Common.{◌≡◌, Some, slice_get, ap, sym, ◌∙◌, subst, arith}
+use Rattle.std.proofs.Common.{◌≡◌, slice_get, ap, sym, ◌∙◌, subst}
 use Rattle.ring_workers.specs.Owners.{owner_of}
-use Rattle.ring_workers.specs.Seatings.{HasNodeAt, seated_in}
-use Rattle.ring_workers.specs.private.Seatings.{IsFree, IsSeating}
+use Rattle.ring_workers.specs.private.Seatings.{IsSeating}
 use Rattle.ring_workers.proofs.Seatings.{free_there, opposite, seated_not_free}
 use Rattle.ring_workers.proofs.seats.Seats.is_free.Goals as goal
 

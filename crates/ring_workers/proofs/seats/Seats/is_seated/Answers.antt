@@ -1,7 +1,6 @@
 -- Whether a node is seated is told by its place.
-use Rattle.std.proofs.Common.{◌≡◌, length, Option, Some, None, slice_get, refl, ap, ◌∙◌, subst, inl, inr}
+use Rattle.std.proofs.Common.{◌≡◌, length, Some, None, slice_get, refl, ap, ◌∙◌, subst, inl, inr}
 use Rattle.std.proofs.lemmas.Option.{slice_get_past, slice_get_read}
-use Rattle.ring_node.specs.Nodes.{Seated}
 use Rattle.ring_workers.specs.private.Seatings.{IsSeating}
 use Rattle.ring_workers.proofs.Seatings.{node_there}
 use Rattle.ring_workers.proofs.seats.Seats.is_seated.Goals as goal

@@ -1,4 +1,4 @@
-use Rattle.std.proofs.Common.{◌≡◌, ◌<◌, ◌∙◌, ap, ◌+◌, length, sym, arith}
+use Rattle.std.proofs.Common.{◌∙◌, ap, ◌+◌, sym, arith}
 use Rattle.ring_workers.proofs.Moving.{counted_none, counted_some}
 use Rattle.ring_workers.proofs.seats.Seats.len.Goals as goal
 use Rattle.ring_workers.proofs.seats.Seats.len.Goals.{in-None, in-Some}

@@ -1,7 +1,6 @@
 -- All places are empty.
-use Rattle.std.proofs.Common.{◌≡◌, ℕ, length, replicate, None, Option, sym, ap, ◌∙◌, subst, arith, rules}
+use Rattle.std.proofs.Common.{◌≡◌, length, sym, ap, ◌∙◌, arith}
 use Rattle.ring_node.specs.Nodes.{Seated}
-use Rattle.ring_workers.specs.private.Seatings.{IsSeating, empty_seating}
 use Rattle.ring_workers.proofs.Seatings.{empties, seating_empty}
 use Rattle.ring_workers.proofs.seats.Seats.new.Goals as goal
 

@@ -1,10 +1,9 @@
 -- A node is seated at its own place, and what it sends has joined the outbox.
-use Rattle.std.proofs.Common.{◌≡◌, ◌<◌, ℕ, length, Some, None, slice_get, set, sym, ap, ◌∙◌, subst, arith}
+use Rattle.std.proofs.Common.{◌≡◌, ◌<◌, length, Some, slice_get, set, sym, ap, ◌∙◌, subst, arith}
 use Rattle.std.specs.Prelude.{slice_index}
 use Rattle.ring_workers.specs.private.Goings.{Goes}
 use Rattle.ring_workers.specs.Owners.{owner_of}
-use Rattle.ring_workers.specs.Seatings.{HasNodeAt, seated_in}
-use Rattle.ring_workers.specs.private.Seatings.{IsPlaced, IsSeating}
+use Rattle.ring_workers.specs.Seatings.{seated_in}
 use Rattle.ring_workers.proofs.Seatings.{node_there, seating_set}
 use Rattle.ring_workers.proofs.Taking.{get_set-same, goes_seated, goes_still}
 use Rattle.ring_workers.proofs.seats.Seats.seat.Goals as goal

@@ -1,5 +1,5 @@
 -- Where room is refused nothing happens.
-use Rattle.std.proofs.Common.{sym, ap, ◌∙◌}
+use Rattle.std.proofs.Common.{ap}
 use Rattle.ring_workers.specs.Seatings.{seated_in}
 use Rattle.ring_workers.proofs.Taking.{goes_still}
 use Rattle.ring_workers.proofs.seats.Seats.seat_for_receipt.Goals as goal

@@ -1,10 +1,8 @@
 -- The node at a place takes an envelope.
-use Rattle.std.proofs.Common.{◌≡◌, ◌<◌, ℕ, length, Some, None, slice_get, set, sym, ap, ◌∙◌, subst, arith}
+use Rattle.std.proofs.Common.{◌<◌, length, Some, set, sym, ap, ◌∙◌, subst, arith}
 use Rattle.std.proofs.lemmas.Option.{get_or_from_slice_get, slice_get_within}
 use Rattle.ring_workers.specs.private.Goings.{Goes}
-use Rattle.ring_workers.specs.Goings.{HasReceived}
 use Rattle.ring_workers.specs.Seatings.{HasNodeAt, seated_in}
-use Rattle.ring_workers.specs.private.Seatings.{IsPlaced, IsSeating}
 use Rattle.ring_workers.proofs.Seatings.{seat_of, seating_set}
 use Rattle.ring_workers.proofs.Taking.{goes_handed, goes_still, placed_handed, received_handed}
 use Rattle.ring_workers.proofs.seats.Seats.take.Goals as goal
