@@ -10,6 +10,8 @@ mod book;
 #[path = "../../plain/src/grammar.rs"]
 mod grammar;
 mod history;
+#[path = "../../plain/src/keep.rs"]
+mod keep;
 #[path = "../../plain/src/lines.rs"]
 mod lines;
 #[path = "../../plain/src/names.rs"]

@@ -2,9 +2,11 @@
 
 use crate::grammar::{Event, parse_event};
 use crate::history::{Entry, Outcome};
+use crate::keep::Journals;
 use crate::refusal::Refusal;
 use crate::reply::Reply;
 use crate::service::Service;
+use crate::world;
 
 /// How many deliveries end every election.
 const ENOUGH: u64 = 1_000_000_000;
@@ -18,14 +20,14 @@ pub struct Table {
 impl Table {
     pub fn without_history() -> Table {
         Table {
-            service: Service::default(),
+            service: Service::new(world::begin::<Journals>),
             history: None,
         }
     }
 
     pub fn with_history() -> Table {
         Table {
-            service: Service::default(),
+            service: Service::new(world::begin::<Journals>),
             history: Some(Vec::new()),
         }
     }

@@ -1,7 +1,8 @@
-//! One node of a running term: its state, its journal of receipts and all that it sent.
+//! One node of a running term: its state, and what it keeps of its packets.
 
 use crate::algorithms::{Algorithm, Sends};
-use crate::names::{BothSides, NodeId, Side};
+use crate::keep::{Journals, Keep, Record};
+use crate::names::{NodeId, Side};
 
 /// What goes over a link: a message of the algorithm, or the announcement of the leader.
 #[derive(Clone, Copy, Debug, PartialEq, Eq)]
@@ -10,60 +11,52 @@ pub enum Packet<M> {
     Leader(NodeId),
 }
 
-/// One entry of a node's journal: what it took, and from which side.
+/// What a node took, and from which side.
 #[derive(Clone, Copy, Debug, PartialEq, Eq)]
 pub struct Receipt<M> {
     pub side: Side,
     pub packet: Packet<M>,
 }
 
-pub struct Node<A: Algorithm> {
+pub struct Node<A: Algorithm, K: Keep = Journals> {
     state: A,
-    journal: Vec<Receipt<A::Message>>,
-    sent: BothSides<Vec<Packet<A::Message>>>,
-    taken: BothSides<usize>,
+    record: K::Record<A::Message>,
     known: Option<NodeId>,
 }
 
-impl<A: Algorithm> Node<A> {
+impl<A: Algorithm, K: Keep> Node<A, K> {
     /// The node as it stands when its term starts, with its first sends made.
-    pub fn seat(me: NodeId) -> Node<A> {
+    pub fn seat(me: NodeId) -> Node<A, K> {
         let (state, sends) = A::start(me);
         let mut node = Node {
             state,
-            journal: Vec::new(),
-            sent: BothSides {
-                left: Vec::new(),
-                right: Vec::new(),
-            },
-            taken: BothSides::default(),
+            record: K::Record::default(),
             known: None,
         };
         node.send(sends);
         node
     }
 
-    /// All receipts in order.
+    /// What it keeps.
     #[cfg(test)]
-    pub fn journal(&self) -> &[Receipt<A::Message>] {
-        &self.journal
+    pub fn record(&self) -> &K::Record<A::Message> {
+        &self.record
     }
 
-    /// All that was sent to this side, in order.
-    pub fn sent(&self, side: Side) -> &[Packet<A::Message>] {
-        &self.sent[side]
+    /// How many packets were sent to this side and not fetched yet.
+    pub fn waiting(&self, side: Side) -> usize {
+        self.record.waiting(side)
     }
 
-    /// How many packets were taken from this side.
-    pub fn taken(&self, side: Side) -> usize {
-        self.taken[side]
+    /// The oldest packet that waits at this side, which then waits no more.
+    pub fn fetch(&mut self, side: Side) -> Option<Packet<A::Message>> {
+        self.record.fetch(side)
     }
 
     /// Takes one packet, with all that the node sends because of it. The answer is the leader,
     /// where this receipt is the first by which the node knows it.
     pub fn take(&mut self, side: Side, packet: Packet<A::Message>) -> Option<NodeId> {
-        self.journal.push(Receipt { side, packet });
-        self.taken[side] += 1;
+        self.record.take(Receipt { side, packet });
         let leader = match packet {
             Packet::Leader(leader) => Some(leader),
             Packet::Algo(message) => {
@@ -81,13 +74,19 @@ impl<A: Algorithm> Node<A> {
             return None;
         }
         self.known = leader;
-        self.sent.right.extend(leader.map(Packet::Leader));
+        if let Some(leader) = leader {
+            self.record.send(Side::Right, Packet::Leader(leader));
+        }
         leader
     }
 
     fn send(&mut self, sends: Sends<A::Message>) {
-        self.sent.left.extend(sends.left.map(Packet::Algo));
-        self.sent.right.extend(sends.right.map(Packet::Algo));
+        if let Some(message) = sends.left {
+            self.record.send(Side::Left, Packet::Algo(message));
+        }
+        if let Some(message) = sends.right {
+            self.record.send(Side::Right, Packet::Algo(message));
+        }
     }
 }
 
@@ -103,14 +102,12 @@ mod tests {
     #[test]
     fn a_node_keeps_its_receipts_and_what_it_sent() {
         let mut node = Node::<Chang>::seat(id(3));
+        assert_eq!(node.fetch(Side::Right), Some(Packet::Algo(id(3))));
         assert_eq!(node.take(Side::Left, Packet::Algo(id(2))), None);
         assert_eq!(node.take(Side::Left, Packet::Algo(id(3))), Some(id(3)));
         assert_eq!(node.take(Side::Left, Packet::Leader(id(3))), None);
-        let packets: Vec<_> = node
-            .journal()
-            .iter()
-            .map(|receipt| receipt.packet)
-            .collect();
+        let receipts = node.record().receipts().iter();
+        let packets: Vec<_> = receipts.map(|receipt| receipt.packet).collect();
         assert_eq!(
             packets,
             [
@@ -120,9 +117,12 @@ mod tests {
             ]
         );
         assert_eq!(
-            node.sent(Side::Right),
+            node.record().sent(Side::Right),
             [Packet::Algo(id(3)), Packet::Leader(id(3))]
         );
-        assert_eq!((node.taken(Side::Left), node.taken(Side::Right)), (3, 0));
+        assert_eq!(
+            (node.waiting(Side::Left), node.waiting(Side::Right)),
+            (0, 1)
+        );
     }
 }

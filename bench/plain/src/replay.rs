@@ -5,16 +5,23 @@ use crate::lines::{Filled, Line, LineFault, LineReader};
 use crate::refusal::Refusal;
 use crate::reply::Reply;
 use crate::service::Service;
+use crate::world::Begin;
 use std::io::{Read, Write};
 
 /// Replies are written when this many bytes of them are held, and before each read.
 const REPLY_BUFFER: usize = 1 << 16;
 
-/// Answers every line of the reader; the answer is their number. At most `reads` reads are made.
-pub fn replay<R: Read, W: Write>(reader: R, writer: W, reads: u64) -> Result<u64, LineFault> {
+/// Answers every line of the reader by a new service; the answer is their number. At most `reads`
+/// reads are made.
+pub fn replay<R: Read, W: Write>(
+    begin: Begin,
+    reader: R,
+    writer: W,
+    reads: u64,
+) -> Result<u64, LineFault> {
     let mut lines = LineReader::new(reader, reads);
     let mut session = Session {
-        service: Service::default(),
+        service: Service::new(begin),
         writer,
         replies: Vec::new(),
         count: 0,
@@ -73,6 +80,8 @@ impl<W: Write> Session<W> {
 #[cfg(test)]
 mod tests {
     use super::*;
+    use crate::keep::Journals;
+    use crate::world;
     use std::io;
 
     const FIRST_RUN: &[u8] = b"create a chang\njoin a 3\njoin a 1\njoin a 2\nstart a\npending a\n\
@@ -81,7 +90,7 @@ mod tests {
     /// What is written for an input, and the answer.
     fn replayed(reader: impl Read, reads: u64) -> (String, Result<u64, LineFault>) {
         let mut written = Vec::new();
-        let answer = replay(reader, &mut written, reads);
+        let answer = replay(world::begin::<Journals>, reader, &mut written, reads);
         (String::from_utf8(written).unwrap(), answer)
     }
 
@@ -178,7 +187,8 @@ mod tests {
     #[test]
     fn a_failing_writer_has_a_prefix_of_the_replies() {
         let mut writer = FourBytes::default();
-        assert_eq!(replay(FIRST_RUN, &mut writer, 10), Err(LineFault::Write));
+        let answer = replay(world::begin::<Journals>, FIRST_RUN, &mut writer, 10);
+        assert_eq!(answer, Err(LineFault::Write));
         assert_eq!(writer.written, b"ok\no");
     }
 }

@@ -7,16 +7,25 @@ use crate::names::{GroupName, NodeId, NodeNo, Side};
 use crate::ready::Link;
 use crate::refusal::Refusal;
 use crate::reply::Reply;
-use crate::world::{self, Delivery, RunningTerm};
+use crate::world::{Begin, Delivery, RunningTerm};
 
 /// The book, and the last term of each group at the group's place in the book.
-#[derive(Default)]
 pub struct Service {
+    begin: Begin,
     book: Book,
     running: Vec<Option<Box<dyn RunningTerm>>>,
 }
 
 impl Service {
+    /// A service without a group, which starts its terms in this way.
+    pub fn new(begin: Begin) -> Service {
+        Service {
+            begin,
+            book: Book::default(),
+            running: Vec::new(),
+        }
+    }
+
     /// Takes one event; a refusal changes nothing.
     pub fn step(&mut self, event: Event) -> Reply<'_> {
         self.answer(event).unwrap_or_else(Reply::Refused)
@@ -62,7 +71,7 @@ impl Service {
         let place = self.book.place(group)?;
         let group = self.book.group_at(place);
         let term = group.start()?;
-        self.running[place] = Some(world::begin(group.kind(), group.last_term()?.ring()));
+        self.running[place] = Some((self.begin)(group.kind(), group.last_term()?.ring()));
         Ok(Reply::Term(term))
     }
 
@@ -99,12 +108,7 @@ impl Service {
         }
     }
 
-    fn cut(
-        &mut self,
-        group: &GroupName,
-        node: NodeNo,
-        side: Side,
-    ) -> Result<Reply<'_>, Refusal> {
+    fn cut(&mut self, group: &GroupName, node: NodeNo, side: Side) -> Result<Reply<'_>, Refusal> {
         let place = self.book.place(group)?;
         let receiver = self.book.group(group)?.last_term()?.position(node)?;
         if !self.running_at(place)?.cut(Link { receiver, side }) {

@@ -1,6 +1,7 @@
 //! All nodes of one running term, and the packets between them.
 
 use crate::algorithms::{Algorithm, Chang, Hirschberg, Kind, LeLann, Peterson};
+use crate::keep::Keep;
 use crate::names::{NodeId, Side};
 use crate::node::Node;
 use crate::ready::{Link, ReadyLinks};
@@ -33,27 +34,29 @@ pub trait RunningTerm: Send {
     fn pending(&self) -> u64;
 }
 
-/// Starts a term of this kind on a ring.
-pub fn begin(kind: Kind, ring: &[NodeId]) -> Box<dyn RunningTerm> {
+/// How a term of some kind is started on a ring.
+pub type Begin = fn(Kind, &[NodeId]) -> Box<dyn RunningTerm>;
+
+/// Starts a term of this kind on a ring, whose nodes keep as much as `K` says.
+pub fn begin<K: Keep>(kind: Kind, ring: &[NodeId]) -> Box<dyn RunningTerm> {
     match kind {
-        Kind::LeLann => Box::new(World::<LeLann>::begin(ring)),
-        Kind::Chang => Box::new(World::<Chang>::begin(ring)),
-        Kind::Hirschberg => Box::new(World::<Hirschberg>::begin(ring)),
-        Kind::Peterson => Box::new(World::<Peterson>::begin(ring)),
+        Kind::LeLann => Box::new(World::<LeLann, K>::begin(ring)),
+        Kind::Chang => Box::new(World::<Chang, K>::begin(ring)),
+        Kind::Hirschberg => Box::new(World::<Hirschberg, K>::begin(ring)),
+        Kind::Peterson => Box::new(World::<Peterson, K>::begin(ring)),
     }
 }
 
-/// What is in flight on a link is what its sender sent there, from the number that its receiver
-/// took on.
-struct World<A: Algorithm> {
-    nodes: Vec<Node<A>>,
+/// What is in flight on a link is what its sender has waiting there.
+struct World<A: Algorithm, K: Keep> {
+    nodes: Vec<Node<A, K>>,
     pending: u64,
     ready: ReadyLinks,
     cut: ReadyLinks,
 }
 
-impl<A: Algorithm> World<A> {
-    fn begin(ring: &[NodeId]) -> World<A> {
+impl<A: Algorithm, K: Keep> World<A, K> {
+    fn begin(ring: &[NodeId]) -> World<A, K> {
         let nodes = ring.iter().map(|&me| Node::seat(me)).collect();
         let mut world = World {
             nodes,
@@ -87,11 +90,11 @@ impl<A: Algorithm> World<A> {
         }
     }
 
-    /// Counts what the node at this position sent beyond the given numbers.
+    /// Counts what waits at the node at this position beyond the given numbers.
     fn count_sends(&mut self, position: usize, left: usize, right: usize) {
         let node = &self.nodes[position];
-        let more_left = node.sent(Side::Left).len() - left;
-        let more_right = node.sent(Side::Right).len() - right;
+        let more_left = node.waiting(Side::Left) - left;
+        let more_right = node.waiting(Side::Right) - right;
         self.pending += (more_left + more_right) as u64;
         if more_left > 0 {
             let receiver = self.neighbour(position, Side::Left);
@@ -123,16 +126,15 @@ impl<A: Algorithm> World<A> {
         }
         let Link { receiver, side } = link;
         let sender = self.neighbour(receiver, side);
-        let place = self.nodes[receiver].taken(side);
-        let sent = self.nodes[sender].sent(side.other());
-        let Some(&packet) = sent.get(place) else {
+        let sender = &mut self.nodes[sender];
+        let Some(packet) = sender.fetch(side.other()) else {
             return Delivery::Idle;
         };
-        if sent.len() == place + 1 {
+        if sender.waiting(side.other()) == 0 {
             self.ready.remove(link);
         }
         let node = &mut self.nodes[receiver];
-        let (left, right) = (node.sent(Side::Left).len(), node.sent(Side::Right).len());
+        let (left, right) = (node.waiting(Side::Left), node.waiting(Side::Right));
         let learned = node.take(side, packet);
         self.pending -= 1;
         self.count_sends(receiver, left, right);
@@ -140,7 +142,7 @@ impl<A: Algorithm> World<A> {
     }
 }
 
-impl<A: Algorithm> RunningTerm for World<A> {
+impl<A: Algorithm, K: Keep> RunningTerm for World<A, K> {
     fn deliver(&mut self, link: Link) -> Delivery {
         if link.side == Side::Right && !A::TWO_WAY {
             return Delivery::OneWay;
@@ -177,6 +179,8 @@ impl<A: Algorithm> RunningTerm for World<A> {
 #[cfg(test)]
 mod tests {
     use super::*;
+    use crate::in_flight::InFlight;
+    use crate::keep::Journals;
     use crate::node::Packet;
 
     fn ring(numbers: &[u32]) -> Vec<NodeId> {
@@ -188,7 +192,12 @@ mod tests {
 
     #[test]
     fn the_first_delivery_is_at_the_least_link() {
-        let mut world = World::<Chang>::begin(&ring(&[3, 1, 2]));
+        the_least_link_comes_first::<Journals>();
+        the_least_link_comes_first::<InFlight>();
+    }
+
+    fn the_least_link_comes_first<K: Keep>() {
+        let mut world = World::<Chang, K>::begin(&ring(&[3, 1, 2]));
         let least = Link {
             receiver: 0,
             side: Side::Left,
@@ -204,7 +213,12 @@ mod tests {
 
     #[test]
     fn a_cut_link_keeps_its_packets() {
-        let mut world = World::<Chang>::begin(&ring(&[3, 1, 2]));
+        cut_packets_are_pending::<Journals>();
+        cut_packets_are_pending::<InFlight>();
+    }
+
+    fn cut_packets_are_pending<K: Keep>() {
+        let mut world = World::<Chang, K>::begin(&ring(&[3, 1, 2]));
         let link = Link {
             receiver: 2,
             side: Side::Left,
@@ -219,14 +233,16 @@ mod tests {
     #[test]
     fn each_node_took_what_its_neighbours_sent() {
         let members = ring(&[9, 4, 12, 7, 1, 30, 5]);
-        let mut world = World::<Hirschberg>::begin(&members);
+        let mut world = World::<Hirschberg, Journals>::begin(&members);
         let done = world.drain(1_000_000, &mut |_, _| {});
-        let receipts: usize = world.nodes.iter().map(|node| node.journal().len()).sum();
+        let records: Vec<_> = world.nodes.iter().map(|node| node.record()).collect();
+        let receipts: usize = records.iter().map(|record| record.receipts().len()).sum();
         assert_eq!(done, receipts as u64);
-        for (position, node) in world.nodes.iter().enumerate() {
+        for (position, record) in records.iter().enumerate() {
             for side in [Side::Left, Side::Right] {
-                let sender = &world.nodes[world.neighbour(position, side)];
-                let taken = node.journal().iter().filter(|receipt| receipt.side == side);
+                let sender = records[world.neighbour(position, side)];
+                let receipts = record.receipts().iter();
+                let taken = receipts.filter(|receipt| receipt.side == side);
                 let packets: Vec<_> = taken.map(|receipt| receipt.packet).collect();
                 assert_eq!(packets, sender.sent(side.other()));
             }
@@ -235,10 +251,10 @@ mod tests {
 
     #[test]
     fn what_each_position_sends_under_peterson() {
-        let mut world = World::<Peterson>::begin(&ring(&[4, 1, 3, 2]));
+        let mut world = World::<Peterson, Journals>::begin(&ring(&[4, 1, 3, 2]));
         world.drain(100, &mut |_, _| {});
         let sent = |position: usize| -> Vec<u32> {
-            let packets = world.nodes[position].sent(Side::Right).iter();
+            let packets = world.nodes[position].record().sent(Side::Right).iter();
             packets
                 .filter_map(|packet| match packet {
                     Packet::Algo(value) => Some(value.get()),

@@ -6,6 +6,9 @@
 #[path = "../../../plain/src/algorithms/mod.rs"]
 mod algorithms;
 #[allow(dead_code)]
+#[path = "../../../plain/src/keep.rs"]
+mod keep;
+#[allow(dead_code)]
 #[path = "../../../plain/src/names.rs"]
 mod names;
 #[allow(dead_code)]

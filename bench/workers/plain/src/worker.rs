@@ -36,7 +36,6 @@ pub enum Item<M> {
 /// A node, and how many packets of each sort it has sent to and taken from each side.
 struct Seat<A: Algorithm> {
     node: Node<A>,
-    sent: [usize; 2],
     algos_sent: [usize; 2],
     algos_taken: [usize; 2],
     leaders_taken: [usize; 2],
@@ -174,7 +173,6 @@ impl<A: Algorithm> Worker<A> {
         if seats.places[position].is_none() {
             let mut seat = Seat {
                 node: Node::seat(charter.ring[position]),
-                sent: [0; 2],
                 algos_sent: [0; 2],
                 algos_taken: [0; 2],
                 leaders_taken: [0; 2],
@@ -250,7 +248,7 @@ fn post<A: Algorithm>(
 ) {
     for side in [Side::Left, Side::Right] {
         let at = place_of(side);
-        for &packet in &seat.node.sent(side)[seat.sent[at]..] {
+        while let Some(packet) = seat.node.fetch(side) {
             let index = match packet {
                 Packet::Algo(_) => seat.algos_sent[at],
                 Packet::Leader(_) => 0,
@@ -266,6 +264,5 @@ fn post<A: Algorithm>(
                 packet,
             });
         }
-        seat.sent[at] = seat.node.sent(side).len();
     }
 }
