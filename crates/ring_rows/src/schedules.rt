@@ -24,7 +24,7 @@ fn identity_of(message: AnyMsg) -> u32 {
         AnyMsg::LeLann(id) => id.get(),
         AnyMsg::Chang(id) => id.get(),
         AnyMsg::Peterson(id) => id.get(),
-        AnyMsg::Hirschberg(_) => u32::MAX,
+        AnyMsg::Out { .. } | AnyMsg::Back { .. } => u32::MAX,
     }
 }
 
