@@ -29,6 +29,19 @@ def digest_of(path):
         return hashlib.file_digest(replies, "sha256").hexdigest()
 
 
+def deliveries_in(replies):
+    """The deliveries that the replies of a run tell of."""
+    with replies.open("rb") as lines:
+        return sum(int(line.split()[1]) if line.startswith(b"drained ") else line == b"moved\n"
+                   for line in lines)
+
+
+def leaders_in(replies):
+    """How many replies of a run name a leader."""
+    with replies.open("rb") as lines:
+        return sum(line.startswith(b"leader ") for line in lines)
+
+
 def timed_run(command, lines, replies):
     """Runs over a file of lines; the time is that of the process and what it waited for."""
     with lines.open("rb") as source, replies.open("wb") as target:

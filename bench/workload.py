@@ -2,6 +2,8 @@
 
 import random
 
+import measure
+
 ALL = 1000000000
 KINDS = ["lelann", "chang", "hirschberg", "peterson"]
 RING = 256
@@ -13,6 +15,27 @@ class Work:
     def __init__(self, name, lines):
         self.name = name
         self.lines = lines
+
+
+class Contrast:
+    """A name for the table, a function to the lines of a schedule from how much it does, the two
+    amounts that are set against each other, and a function from replies to what was done."""
+
+    def __init__(self, name, lines, less, more, acts_in):
+        self.name = name
+        self.lines = lines
+        self.less = less
+        self.more = more
+        self.acts_in = acts_in
+
+
+def write_lines(lines, path):
+    """Writes lines into a file; the answer is their number."""
+    count = 0
+    with path.open("w") as target:
+        for count, line in enumerate(lines, start=1):
+            target.write(line + "\n")
+    return count
 
 
 def scaled(number, scale):
@@ -137,4 +160,33 @@ WORKS = [
     Work("mixed lines, 256 groups of 16", mixed),
     Work("who lines, a ring of 256", questions),
     Work("LeLann, 256 rings of 256 kept", many_rings),
+]
+
+
+def delivery(name, kind, members, terms):
+    """One delivery: so many terms with drains of 0, and the same with drains of all."""
+    def lines(limit):
+        yield from group_of("ring", kind, members)
+        for _ in range(terms):
+            yield "start ring"
+            yield f"drain ring {limit}"
+    return Contrast(f"delivery, {name}", lines, 0, ALL, measure.deliveries_in)
+
+
+def question():
+    """One `who` line: a decided ring with one question, and the same with ten thousand."""
+    return Contrast("who line, a ring of 256", questions, 0, 0.01, measure.leaders_in)
+
+
+def contrast_ring(kind, length):
+    return random_ring(random.Random(f"one ring of {kind}"), length)
+
+
+CONTRASTS = [
+    delivery("Chang-Roberts, a falling ring of 256", "chang", range(RING, 0, -1), 3),
+    delivery("Chang-Roberts, a falling ring of 3", "chang", [3, 2, 1], 1000),
+    delivery("Hirschberg-Sinclair, a ring of 64", "hirschberg", contrast_ring("hirschberg", 64), 30),
+    delivery("Peterson, a ring of 256", "peterson", contrast_ring("peterson", RING), 30),
+    delivery("LeLann, a ring of 256", "lelann", range(1, RING + 1), 2),
+    question(),
 ]
