@@ -1,6 +1,8 @@
 -- Handling: what a worker has in hand before and after one item.
-use Rattle.std.proofs.Common.{◌≡◌, ℕ, List, [], ◌∷◌, ◌++◌, Option, Some, None, refl, sym, ap, ◌∙◌, subst, inl, inr, ◌⊎◌, arith}
+use Rattle.std.proofs.Common.{◌≡◌, ℕ, List, [], ◌∷◌, ◌++◌, Option, Some, None, refl, sym, ap, ◌∙◌, subst, inl, inr, ◌⊎◌, arith, false, true≢false}
 use Rattle.std.proofs.lemmas.List.{append-nil}
+use Rattle.std.specs.Prelude.{Result, Ok, Err, OnOk}
+use Rattle.std.specs.Result.{is_err}
 use Rattle.ring_election.specs.Tables.{Table}
 use Rattle.ring_inbox.specs.Values.{ReceiverLog, SenderLog}
 use Rattle.ring_node.specs.declared.charter.Charter.{Charter}
@@ -10,7 +12,9 @@ use Rattle.ring_workers.specs.declared.handed.Why.{Why}
 use Rattle.ring_workers.specs.declared.handed.Why.TheVariants.{Stopped, Closed, Halted, Starved, Spent}
 use Rattle.ring_workers.specs.declared.item.Item.{Item}
 use Rattle.ring_workers.specs.declared.item.Item.TheVariants.{Begin, Packet, Stop}
-use Rattle.ring_workers.specs.private.Fates.{IsBegun, IsDelivered}
+use Rattle.ring_workers.specs.declared.seats.Fate.{Fate}
+use Rattle.ring_workers.specs.declared.seats.Fate.TheVariants.{Done, Older, Strange}
+use Rattle.ring_workers.specs.private.Fates.{IsBegun, IsDelivered, IsEnvelopeFate, IsFate}
 use Rattle.ring_workers.specs.Goings.{HasReceived}
 use Rattle.ring_workers.specs.Handed.{Ended, Hands}
 use Rattle.ring_workers.specs.Holdings.{AllOwned, AllSeated, Holding, NoTwoAlike, charters_of, nodes_of}
@@ -58,6 +62,25 @@ delivered_handled old new dropped envelope delivered none c is =
       | inl older ↦ inl (subst (λ (d : Charter _). IsOlder (charters_of old) d) same older)
       | inr received ↦ inr received
     ]
+
+-- what became of an envelope, where one that is for no node here or not the next of its link is counted
+pub delivered_by : {E M : Type 0} (old new : Holding E M) (dropped : ℕ) (envelope : Sent E M) (fate : Fate) → IsEnvelopeFate old new envelope fate → (dropped ≡ 0 → fate ≡ Strange → ⊥)
+    → IsDelivered old new dropped envelope
+delivered_by old new dropped envelope Done is counted = λ none. inr is
+delivered_by old new dropped envelope Older is counted = λ none. inl is
+delivered_by old new dropped envelope Strange is counted = λ none. absurd (counted none refl)
+
+-- and of a charter
+pub begun_by : {E M : Type 0} (old new : Holding E M) (dropped : ℕ) (charter : Charter E) (fate : Fate) → IsFate old new charter fate → (dropped ≡ 0 → fate ≡ Strange → ⊥)
+    → IsBegun old new dropped charter
+begun_by old new dropped charter Done is counted = λ none. inr is
+begun_by old new dropped charter Older is counted = λ none. inl is
+begun_by old new dropped charter Strange is counted = λ none. absurd (counted none refl)
+
+-- what holds of a result that is no refusal
+pub room_found : {A F : Type 0} (result : Result A F) (P : Type 0) → OnOk result P → false ≡ is_err result → P
+room_found (Ok a) P h e = h
+room_found (Err f) P h e = absurd (true≢false (sym e))
 
 -- what waited was sent on, by an owner that counts as many workers
 pub ran_sent : {E S M : Type 0} (t : E → Table S M) (number workers counted : ℕ) (from to : ReceiverLog (Item E M S)) (old mid new : List (SenderLog (Item E M S)))

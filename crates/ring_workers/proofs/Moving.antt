@@ -1,5 +1,5 @@
 -- Moving: how many nodes there are, counted place by place and group by group.
-use Rattle.std.proofs.Common.{◌≡◌, ◌+◌, ◌<◌, ℕ, List, [], ◌∷◌, ◌++◌, length, take, get_or, Option, Some, None, refl, sym, ap, ◌∙◌, length-append}
+use Rattle.std.proofs.Common.{◌≡◌, ◌+◌, ◌<◌, ◌≤◌, ℕ, zero, suc, arith, List, [], ◌∷◌, ◌++◌, length, take, get_or, Option, Some, None, refl, sym, ap, ◌∙◌, length-append}
 use Rattle.std.proofs.lemmas.List.{append-nil, take_more}
 use Rattle.std.specs.Map.{values_of}
 use Rattle.ring_node.specs.Nodes.{Seated}
@@ -35,3 +35,22 @@ seated_all (seats ∷ others) = seated_in seats.places ++ seated_all others
 pub seated_all-values : {E M : Type 0} (groups : List (List ℕ × Seating E M)) → seated_all (values_of groups) ≡ nodes_in groups
 seated_all-values [] = refl
 seated_all-values (g ∷ groups) = ap (λ l. seated_in g.1.places ++ l) (seated_all-values groups)
+
+-- the nodes of a group and of those behind it
+pub nodes_next : {E M : Type 0} (groups : List (List ℕ × Seating E M)) (name : List ℕ) (seats : Seating E M) (rest : List (List ℕ × Seating E M)) → groups ≡ (name, seats) ∷ rest
+    → length (nodes_in groups) ≡ length (seated_in seats.places) + length (nodes_in rest)
+nodes_next groups name seats rest is = ap (λ gs. length (nodes_in gs)) is ∙ length-append (seated_in seats.places) (nodes_in rest)
+
+-- the nodes at a place and at those behind it
+pub seated_in-some : {A : Type 0} (places : List (Option A)) (place : Option A) (node : A) (rest : List (Option A)) → places ≡ place ∷ rest → place ≡ Some node → seated_in places ≡ node ∷ seated_in rest
+seated_in-some {A} places place node rest is some = ap seated_in (is ∙ ap (λ (p : Option A). p ∷ rest) some)
+
+pub seated_in-none : {A : Type 0} (places : List (Option A)) (place : Option A) (rest : List (Option A)) → places ≡ place ∷ rest → place ≡ None → seated_in places ≡ seated_in rest
+seated_in-none {A} places place rest is none = ap seated_in (is ∙ ap (λ (p : Option A). p ∷ rest) none)
+
+-- all of a list, where as much is taken
+pub taken_whole : {A : Type 0} (xs : List A) (n : ℕ) → length xs ≤ n → take n xs ≡ xs
+taken_whole [] zero h = refl
+taken_whole [] (suc n) h = refl
+taken_whole (x ∷ xs) zero h = absurd (omega arith)
+taken_whole (x ∷ xs) (suc n) h = ap (λ l. x ∷ l) (taken_whole xs n (omega arith))

@@ -70,3 +70,32 @@ module _ {M : Type 0} (from most : ℕ) (old new : List (Packet M)) (is : from �
 
   pub rest_room : (len after capacity left rest : ℕ) → len + (most + rest) ≤ capacity → after + from ≡ len + length new → left ≡ capacity → after + rest ≤ left
   rest_room len after capacity left rest enough grown same = let l = longer in let few : length extends.more ≤ most = extends.few in omega arith
+
+-- within a list there is an element
+pub is_within : {A : Type 0} (xs : List A) (k : ℕ) → k < length xs → IsSome (slice_get xs k)
+is_within [] k within = absurd (omega arith)
+is_within (x ∷ xs) zero within = refl
+is_within (x ∷ xs) (suc k) within = is_within xs k (omega arith)
+
+-- one more is stored, where there is room for so many
+pub more_fits : (len capacity missing counter : ℕ) → len + missing ≤ capacity + counter → counter < missing → len < capacity
+more_fits len capacity missing counter room less = omega arith
+
+pub more_many : (after len before counter : ℕ) → after ≡ len + 1 → len ≡ before + counter → after ≡ before + (counter + 1)
+more_many after len before counter one many = omega arith
+
+pub more_room : (after len left capacity missing counter : ℕ) → after ≡ len + 1 → left ≡ capacity → len + missing ≤ capacity + counter → after + missing ≤ left + (counter + 1)
+more_room after len left capacity missing counter one same room = omega arith
+
+-- A node that is seated has sent few to each side: there is room for what it sent to one side, and then for the other.
+pub first_many : (few have : ℕ) → few ≤ 1 → 2 ≤ have → few ≤ have + 0
+first_many few have one enough = omega arith
+
+pub first_room : (len few capacity : ℕ) → few ≤ 1 → len + 2 ≤ capacity → len + few ≤ capacity + 0
+first_room len few capacity one enough = omega arith
+
+pub second_many : (few sent have after : ℕ) → few ≤ 1 → sent ≤ 1 → 2 ≤ have → after + sent ≡ have + 0 → few ≤ after + 0
+second_many few sent have after one other enough left = omega arith
+
+pub second_room : (few sent len after capacity left : ℕ) → few ≤ 1 → sent ≤ 1 → len + 2 ≤ capacity → after + 0 ≡ len + sent → left ≡ capacity → after + few ≤ left + 0
+second_room few sent len after capacity left one other enough grown same = omega arith

@@ -151,6 +151,10 @@ module _ {E M : Type 0} (seats : Seating E M) (seating : IsSeating seats.number 
   other_not_free member at other free =
       other (sym (ap (owner_of seats.workers) (get_or_from_slice_get seats.charter.roster place member 0 (sym at))) ∙ free.owned)
 
+-- where the ring has no such position, none is free
+pub none_not_free : {E M : Type 0} (seats : Seating E M) (place : ℕ) → None ≡ slice_get seats.charter.roster place → IsFree seats place → ⊥
+none_not_free seats place none free = none-some _ (none ∙ slice_get-get_or seats.charter.roster place 0 free.inside)
+
 -- what follows from a test, of the test's opposite
 pub opposite : (b : Bool) (P Q R : Type 0) → MatchBool b P Q → (Q → R) → (P → R → ⊥) → MatchBool (not b) R (R → ⊥)
 opposite true P Q R h yes_then no_then = no_then h

@@ -1,11 +1,18 @@
--- What a receipt adds to what a node sent, in numbers.
-use Rattle.std.proofs.Common.{◌≡◌, ◌+◌, ◌≤◌, ℕ, List, ◌++◌, length, ap, arith, length-append}
-use Rattle.ring_node.specs.declared.packet.Packet.{Packet}
-use Rattle.ring_node.specs.Nodes.{Extends}
+-- Sending: to whom an envelope goes.
+use Rattle.std.proofs.Common.{◌≡◌, ℕ, List, length, Option, Some, slice_get, sym, ap, ◌∙◌}
+use Rattle.std.proofs.lemmas.Option.{get_or_from_slice_get}
+use Rattle.ring_id.specs.declared.side.Side.{Side}
+use Rattle.ring_roster.specs.Ring.{neighbour}
+use Rattle.ring_node.specs.Envelopes.{Sent}
+use Rattle.ring_workers.specs.Owners.{position_of, receiver_of}
 
--- at least what it was, and no more than so many more
-pub extends_few : {M : Type 0} (old : List (Packet M)) (most : ℕ) (new : List (Packet M)) → Extends old most new → (length old ≤ length new) × (length new ≤ length old + most)
-extends_few old most new extends =
-    let all : length new ≡ length (old ++ extends.more) = ap length extends.behind in
-    let few : length extends.more ≤ most = extends.few in
-    (omega (arith, length-append old extends.more), omega (arith, length-append old extends.more))
+-- the member to which an envelope's link leads, looked up step by step
+pub receiver_found : {E M : Type 0} (e : Sent E M) (ring : List ℕ) (place from : ℕ) (side : Side) (found : Option ℕ) (member : ℕ)
+    → ring ≡ e.charter.roster → from ≡ e.from → side ≡ e.side → place ≡ neighbour (length ring) from side → found ≡ slice_get ring place → found ≡ Some member
+    → member ≡ receiver_of e
+receiver_found e ring place from side found member ring_is from_is side_is place_is found_is is =
+    let at : place ≡ position_of e =
+    place_is ∙ ap (λ r. neighbour (length r) from side) ring_is ∙ ap (λ f. neighbour (length e.charter.roster) f side) from_is ∙ ap (λ s. neighbour (length e.charter.roster) e.from s) side_is in
+    let there : slice_get e.charter.roster (position_of e) ≡ Some member =
+    ap (λ k. slice_get e.charter.roster k) (sym at) ∙ ap (λ r. slice_get r place) (sym ring_is) ∙ sym found_is ∙ is in
+    sym (get_or_from_slice_get e.charter.roster (position_of e) member 0 there)

@@ -1,6 +1,6 @@
 -- A node is seated, or takes an envelope: what it sends joins the outbox.
 use Rattle.std.proofs.Common.{◌≡◌, ◌+◌, ◌<◌, ◌≤◌, ℕ, zero, suc, List, [], ◌∷◌, ◌++◌, length, set, take, Option, Some, None, slice_get, refl, sym, ap, ◌∙◌, subst, inl, inr, ◌⊎◌, arith, append_assoc}
-use Rattle.std.specs.Prelude.{option_map, Result, Ok, Err, OnOk}
+use Rattle.std.specs.Prelude.{option_map, Result, Ok, Err, IfErr, OnOk}
 use Rattle.std.proofs.lemmas.List.{take-append-le}
 use Rattle.ring_id.specs.declared.side.Side.{Side}
 use Rattle.ring_id.specs.declared.side.Side.TheVariants.{Left, Right}
@@ -210,6 +210,11 @@ module _ {E S M : Type 0} (t : E → Table S M) (places : List (Option (Seated E
       → OnOk result (HasReceived (seated_in (set places place (Some new))) envelope)
   received_handed (Ok report) handed gains = received_taken t places place old new envelope u w there handed gains
   received_handed (Err fault) handed gains = tt
+
+  -- it comes back where it was not
+  pub back_handed : (result : Result (Option (Told E)) (TakeFault × Sent E M)) → HandsTo t old envelope result new u w → IfErr result (λ fault. fault.1 ≡ envelope)
+  back_handed (Ok report) handed = tt
+  back_handed (Err fault) handed = handed.0
 
   -- the node stays at its place
   pub placed_handed : (result : Result (Option (Told E)) (TakeFault × Sent E M)) → HandsTo t old envelope result new u w

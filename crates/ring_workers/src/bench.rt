@@ -76,10 +76,8 @@ impl<E: RingElection> Bench<E> {
         ensures grows { self.old.dropped ≤ self.new.dropped }
         ensures begun { OnOk result (IsBegun self.old.nodes self.new.nodes self.new.dropped charter.now.value) }
     {
-        match self.nodes.begin(self.alloc, charter, &mut self.outbox)? {
-            Fate::Done | Fate::Older => {}
-            Fate::Strange => self.dropped = self.dropped.saturating_add(1),
-        }
+        let fate = self.nodes.begin(self.alloc, charter, &mut self.outbox)?;
+        self.dropped = dropped_after(self.dropped, fate);
         Ok(())
     }
 
@@ -108,10 +106,7 @@ impl<E: RingElection> Bench<E> {
         let (fate, report) = self
             .nodes
             .hand_over(self.alloc, envelope, &mut self.outbox)?;
-        match fate {
-            Fate::Done | Fate::Older => {}
-            Fate::Strange => self.dropped = self.dropped.saturating_add(1),
-        }
+        self.dropped = dropped_after(self.dropped, fate);
         match report {
             Some(report) => Ok(file(&mut self.unfiled, report, desk)),
             None => Ok(None),
@@ -149,6 +144,18 @@ impl<E: RingElection> Bench<E> {
             dropped,
             why,
         }
+    }
+}
+
+/// How many items were dropped after one of this fate: one more where it was for no node here, or not the
+/// next packet of its link.
+fn dropped_after(dropped: u64, fate: Fate) -> u64
+    ensures grows { dropped ≤ result }
+    ensures counted { result ≡ 0 → fate ≡ Fate.Strange → ⊥ }
+{
+    match fate {
+        Fate::Done | Fate::Older => dropped,
+        Fate::Strange => dropped.saturating_add(1),
     }
 }
 

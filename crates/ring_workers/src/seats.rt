@@ -265,9 +265,13 @@ impl<E: RingElection> Seats<E> {
 
     /// How many nodes the owner owns that are not seated.
     fn count_free(&self) -> usize {
-        (0..self.places.len())
-            .filter(|position| self.is_free(*position))
-            .count()
+        let mut free: usize = 0;
+        for position in 0..self.places.len() {
+            if self.is_free(position) {
+                free = free.saturating_add(1);
+            }
+        }
+        free
     }
 
     /// How many nodes are seated.

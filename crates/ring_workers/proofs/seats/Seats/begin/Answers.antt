@@ -1,14 +1,23 @@
 -- Position after position, the nodes that the owner owns are seated.
-use Rattle.std.proofs.Common.{◌+◌, ◌≤◌, length, sym, ap, ◌∙◌, arith}
+use Rattle.std.proofs.Common.{◌+◌, ◌≤◌, length, sym, ap, ◌∙◌, arith, subst, true≢false}
+use Rattle.ring_workers.specs.private.Seatings.{IsSeating}
 use Rattle.ring_workers.specs.Seatings.{seated_in}
-use Rattle.ring_workers.proofs.Beginning.{so_far_all, so_far_first, so_far_seated, so_far_skipped}
+use Rattle.ring_workers.proofs.Beginning.{keeps_none, keeps_on, so_far_all, so_far_first, so_far_seated, so_far_skipped}
 use Rattle.ring_workers.proofs.Goings.{goes_none, goes_on}
 use Rattle.ring_workers.proofs.Taking.{goes_still}
 use Rattle.ring_workers.proofs.seats.Seats.begin.Goals.{then-is_free+in_ok-seat, else-is_free}
 use Rattle.ring_workers.proofs.seats.Seats.begin.Goals as goal
 
-pub returns-then-not-same-clause-goes : goal.returns-then-not-same-clause-goes
-returns-then-not-same-clause-goes g c = goes_none g.E.RingElection.table (seated_in c.args.self.now.places) c.args.outbox.now.items
+pub returns-then-not-same : goal.returns-then-not-same
+returns-then-not-same g c = record {
+  term = keeps_none c.args.self.now;
+  kept = subst (λ s. IsSeating s.number s.workers s.charter s.places) c.self.view_is c.self.invariant.0;
+  goes = goes_none g.E.RingElection.table (seated_in c.args.self.now.places) c.args.outbox.now.items;
+  seated = λ own. absurd (true≢false (sym own));
+}
+
+pub find_room-requires : goal.find_room-requires
+find_room-requires g c = c.self.invariant.1
 
 pub returns-in_err-find_room-clause-goes : goal.returns-in_err-find_room-clause-goes
 returns-in_err-find_room-clause-goes g c = goes_still g.E.RingElection.table _ _ _ _ (ap (λ s. seated_in s.places) c.self.view_is) c.find_room.ensures.outbox
@@ -39,3 +48,27 @@ returns-clause-seated g c =
     let end : length c.loop-position.self.charter.roster ≤ c.loop-position.position = omega (arith, c.self.invariant.0.size, inside, later, c.loop-position-test.false, c.len-position-end.ensures, c.self.inside.places.ok) in
     λ _. so_far_all g.E.RingElection.table c.args.self.now c.loop-position.self c.args.outbox.now.items c.loop-position.outbox.items c.loop-position.position c.args.charter.now c.loop-position.invariant end
     (c.loop-position.invariant.term.charter_is ∙ own)
+
+pub returns-in_err-find_room-clause-term : goal.returns-in_err-find_room-clause-term
+returns-in_err-find_room-clause-term g c = record { number_is = ap (λ s. s.number) c.self.view_is; workers_is = ap (λ s. s.workers) c.self.view_is; charter_is = ap (λ s. s.charter) c.self.view_is }
+
+pub returns-in_err-find_room-clause-kept : goal.returns-in_err-find_room-clause-kept
+returns-in_err-find_room-clause-kept g c = c.self.invariant.0
+
+pub seat-requires : goal.seat-requires
+seat-requires g c = record { inside = c.if-is_free.ensures.inside; empty = c.if-is_free.ensures.empty; owned = c.if-is_free.ensures.owned }
+
+pub returns-in_err-seat-clause-term : goal.returns-in_err-seat-clause-term
+returns-in_err-seat-clause-term g c = keeps_on c.args.self.now c.loop-position.self c.seat.new.self c.loop-position.invariant.term c.seat.ensures.term
+
+pub returns-in_err-seat-clause-kept : goal.returns-in_err-seat-clause-kept
+returns-in_err-seat-clause-kept g c = c.seat.ensures.kept
+
+pub returns-clause-term : goal.returns-clause-term
+returns-clause-term g c = c.loop-position.invariant.term
+
+pub returns-clause-kept : goal.returns-clause-kept
+returns-clause-kept g c = c.loop-position.invariant.kept
+
+pub returns-clause-goes : goal.returns-clause-goes
+returns-clause-goes g c = c.loop-position.invariant.goes

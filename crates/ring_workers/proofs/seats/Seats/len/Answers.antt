@@ -1,5 +1,6 @@
-use Rattle.std.proofs.Common.{◌∙◌, ap, ◌+◌, sym, arith}
-use Rattle.ring_workers.proofs.Moving.{counted_none, counted_some}
+use Rattle.std.proofs.Common.{◌∙◌, ap, ◌+◌, length, sym, arith}
+use Rattle.ring_workers.specs.Seatings.{seated_in}
+use Rattle.ring_workers.proofs.Moving.{counted_none, counted_some, taken_whole}
 use Rattle.ring_workers.proofs.seats.Seats.len.Goals as goal
 use Rattle.ring_workers.proofs.seats.Seats.len.Goals.{in-None, in-Some}
 
@@ -13,3 +14,8 @@ loop-place-preserved g c =
           let counted = counted_none c.deref-place-items.result.now c.loop-place.place-index c.place-item.result c.loop-place-test.true c.place-item.is w.in-None.is in
           record { counted = w.count-is ∙ c.loop-place.invariant.counted ∙ sym counted; below = omega arith }
     ]
+
+pub returns : goal.returns
+returns g c =
+    c.loop-place.invariant.counted
+    ∙ ap (λ ps. length (seated_in ps)) (taken_whole c.deref-place-items.result.now c.loop-place.place-index c.loop-place-test.false ∙ c.deref-place-items.ensures.value ∙ ap (λ s. s.places) c.self.view_is)

@@ -21,3 +21,9 @@ invariant_of-result g c =
 
 pub returns-clause-kept : goal.returns-clause-kept
 returns-clause-kept g c = (invariant_of-result g c).0
+
+pub loop-init : goal.loop-init
+loop-init g c = (c.in_ok-places.ensures.items, c.in_ok-places.ensures.len, c.in_ok-places.ensures.capacity)
+
+pub push_reserved-requires : goal.push_reserved-requires
+push_reserved-requires g c = omega (arith, c.loop.invariant.1, c.loop.invariant.2, c.loop-test.true)

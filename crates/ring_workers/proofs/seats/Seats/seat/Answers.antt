@@ -6,6 +6,8 @@ use Rattle.ring_workers.specs.Owners.{owner_of}
 use Rattle.ring_workers.specs.Seatings.{seated_in}
 use Rattle.ring_workers.proofs.Seatings.{node_there, seating_set}
 use Rattle.ring_workers.proofs.Taking.{get_set-same, goes_seated, goes_still}
+use Rattle.ring_id.specs.declared.side.Side.TheVariants.{Left, Right}
+use Rattle.ring_workers.proofs.Posting.{first_many, first_room, second_many, second_room}
 use Rattle.ring_workers.proofs.seats.Seats.seat.Goals as goal
 
 pub returns-in_err-find_room-clause-goes : goal.returns-in_err-find_room-clause-goes
@@ -44,3 +46,54 @@ returns-clause-seated g c =
     let within : c.args.position < length c.self.inside.places.items = omega (arith, c.self.invariant.0.size, inside) in
     node_there c.self.inside.owner.number c.self.inside.owner.workers c.self.inside.charter.value (set c.self.inside.places.items c.args.position (Some c.in_ok-node.node)) c.args.position c.in_ok-node.node
     (returns-clause-kept g c) (get_set-same c.self.inside.places.items c.args.position (Some c.in_ok-node.node) within)
+
+pub find_room-requires : goal.find_room-requires
+find_room-requires g c = c.self.invariant.1
+
+pub seat-requires : goal.seat-requires
+seat-requires g c =
+    subst (λ ch. c.args.position < length ch.roster) (sym c.in_ok-copy.ensures) (subst (λ s. c.args.position < length s.charter.roster) (sym c.self.view_is) c.requires.inside)
+
+pub post-requires : goal.post-requires
+post-requires g c =
+    let charter_is = ap (λ n. n.charter) c.in_ok-node.ensures.node ∙ c.in_ok-copy.ensures in
+    record {
+      copies = λ k d h. c.find_room.ensures.copies k d h ∙ sym charter_is;
+      from = omega arith;
+      many = first_many _ _ (c.in_ok-node.ensures.few.each Left) c.in_ok-find_room.ensures.many;
+      room = first_room _ _ _ (c.in_ok-node.ensures.few.each Left) c.in_ok-find_room.ensures.room;
+    }
+
+pub post-requires-2 : goal.post-requires-2
+post-requires-2 g c = record {
+  copies = c.post.ensures.copies;
+  from = omega arith;
+  many = second_many _ _ _ _ (c.in_ok-node.ensures.few.each Right) (c.in_ok-node.ensures.few.each Left) c.in_ok-find_room.ensures.many c.post.ensures.many;
+  room = second_room _ _ _ _ _ _ (c.in_ok-node.ensures.few.each Right) (c.in_ok-node.ensures.few.each Left) c.in_ok-find_room.ensures.room c.post.ensures.len c.post.ensures.room;
+}
+
+pub index_mut-requires : goal.index_mut-requires
+index_mut-requires g c =
+    let inside = subst (λ s. c.args.position < length s.charter.roster) (sym c.self.view_is) c.requires.inside in
+    omega (arith, c.self.invariant.0.size, inside, c.self.inside.places.ok)
+
+pub returns-in_err-find_room-clause-term : goal.returns-in_err-find_room-clause-term
+returns-in_err-find_room-clause-term g c = record { number_is = ap (λ s. s.number) c.self.view_is; workers_is = ap (λ s. s.workers) c.self.view_is; charter_is = ap (λ s. s.charter) c.self.view_is }
+
+pub returns-in_err-find_room-clause-kept : goal.returns-in_err-find_room-clause-kept
+returns-in_err-find_room-clause-kept g c = c.self.invariant.0
+
+pub returns-in_err-copy-clause-term : goal.returns-in_err-copy-clause-term
+returns-in_err-copy-clause-term g c = record { number_is = ap (λ s. s.number) c.self.view_is; workers_is = ap (λ s. s.workers) c.self.view_is; charter_is = ap (λ s. s.charter) c.self.view_is }
+
+pub returns-in_err-copy-clause-kept : goal.returns-in_err-copy-clause-kept
+returns-in_err-copy-clause-kept g c = c.self.invariant.0
+
+pub returns-in_err-node-clause-term : goal.returns-in_err-node-clause-term
+returns-in_err-node-clause-term g c = record { number_is = ap (λ s. s.number) c.self.view_is; workers_is = ap (λ s. s.workers) c.self.view_is; charter_is = ap (λ s. s.charter) c.self.view_is }
+
+pub returns-in_err-node-clause-kept : goal.returns-in_err-node-clause-kept
+returns-in_err-node-clause-kept g c = c.self.invariant.0
+
+pub returns-clause-term : goal.returns-clause-term
+returns-clause-term g c = record { number_is = ap (λ s. s.number) c.self.view_is; workers_is = ap (λ s. s.workers) c.self.view_is; charter_is = ap (λ s. s.charter) c.self.view_is }

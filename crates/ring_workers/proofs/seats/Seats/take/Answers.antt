@@ -1,14 +1,24 @@
 -- The node at a place takes an envelope.
-use Rattle.std.proofs.Common.{◌<◌, length, Some, set, sym, ap, ◌∙◌, subst, arith}
+use Rattle.std.proofs.Common.{◌<◌, length, Some, set, refl, sym, ap, ◌∙◌, subst, arith}
 use Rattle.std.proofs.lemmas.Option.{get_or_from_slice_get, slice_get_within}
 use Rattle.ring_workers.specs.private.Goings.{Goes}
 use Rattle.ring_workers.specs.Seatings.{HasNodeAt, seated_in}
+use Rattle.ring_workers.proofs.Handling.{room_found}
 use Rattle.ring_workers.proofs.Seatings.{seat_of, seating_set}
-use Rattle.ring_workers.proofs.Taking.{goes_handed, goes_still, placed_handed, received_handed}
+use Rattle.ring_workers.proofs.Taking.{back_handed, goes_handed, goes_still, placed_handed, received_handed}
 use Rattle.ring_workers.proofs.seats.Seats.take.Goals as goal
 
-pub returns-then-is_err-clause-goes : goal.returns-then-is_err-clause-goes
-returns-then-is_err-clause-goes g c = goes_still g.E.RingElection.table _ _ _ _ (ap (λ s. seated_in s.places) c.self.view_is) c.find_room.ensures.outbox
+pub find_room-requires : goal.find_room-requires
+find_room-requires g c = c.self.invariant.1
+
+pub returns-then-is_err : goal.returns-then-is_err
+returns-then-is_err g c = record {
+  term = record { number_is = ap (λ s. s.number) c.self.view_is; workers_is = ap (λ s. s.workers) c.self.view_is; charter_is = ap (λ s. s.charter) c.self.view_is };
+  kept = c.self.invariant.0;
+  goes = goes_still g.E.RingElection.table _ _ _ _ (ap (λ s. seated_in s.places) c.self.view_is) c.find_room.ensures.outbox;
+  received = tt;
+  back = refl;
+}
 
 pub index_mut-requires : goal.index_mut-requires
 index_mut-requires g c =
@@ -29,6 +39,15 @@ hand_to-requires-clause-copies g c =
     let here = seat_of c.self.inside.owner.number c.self.inside.owner.workers c.self.inside.charter.value c.self.inside.places.items c.args.position c.self.invariant.0 h in
     let there = here ∙ ap Some (sym (c.index_mut.ensures.value ∙ get_or_from_slice_get c.self.inside.places.items c.args.position (Some h.node) c.index_mut.result.now here) ∙ c.in-Some.is) in
     λ k d lt. c.find_room.ensures.copies k d lt ∙ sym (c.self.invariant.0.each c.args.position c.in-Some.node there).charter_is
+
+pub hand_to-requires-clause-many : goal.hand_to-requires-clause-many
+hand_to-requires-clause-many g c = room_found c.find_room.result _ c.find_room.ensures.many c.if-is_err.ensures.value
+
+pub hand_to-requires-clause-room : goal.hand_to-requires-clause-room
+hand_to-requires-clause-room g c = room_found c.find_room.result _ c.find_room.ensures.room c.if-is_err.ensures.value
+
+pub returns-clause-term : goal.returns-clause-term
+returns-clause-term g c = record { number_is = ap (λ s. s.number) c.self.view_is; workers_is = ap (λ s. s.workers) c.self.view_is; charter_is = ap (λ s. s.charter) c.self.view_is }
 
 pub returns-clause-kept : goal.returns-clause-kept
 returns-clause-kept g c =
@@ -65,3 +84,11 @@ returns-clause-received g c =
     let there = here ∙ ap Some (sym (c.index_mut.ensures.value ∙ get_or_from_slice_get c.self.inside.places.items c.args.position (Some h.node) c.index_mut.result.now here) ∙ c.in-Some.is) in
     received_handed g.E.RingElection.table c.self.inside.places.items c.args.position c.in-Some.node c.hand_to.new.node there c.args.envelope c.find_room.new.outbox.items c.hand_to.new.outbox.items
     c.hand_to.result c.hand_to.ensures.handed c.hand_to.ensures.gains
+
+pub returns-clause-back : goal.returns-clause-back
+returns-clause-back g c =
+    let h = subst (λ s. HasNodeAt (seated_in s.places) s.charter c.args.position) (sym c.self.view_is) c.requires in
+    let here = seat_of c.self.inside.owner.number c.self.inside.owner.workers c.self.inside.charter.value c.self.inside.places.items c.args.position c.self.invariant.0 h in
+    let there = here ∙ ap Some (sym (c.index_mut.ensures.value ∙ get_or_from_slice_get c.self.inside.places.items c.args.position (Some h.node) c.index_mut.result.now here) ∙ c.in-Some.is) in
+    back_handed g.E.RingElection.table c.self.inside.places.items c.args.position c.in-Some.node c.hand_to.new.node there c.args.envelope c.find_room.new.outbox.items c.hand_to.new.outbox.items
+    c.hand_to.result c.hand_to.ensures.handed
