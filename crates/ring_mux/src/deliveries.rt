@@ -9,7 +9,6 @@ use ring_terms::Book;
 use ring_world::{Delivery, World};
 
 /// A delivery on the link into a position of a group's world, and what it tells noted in the book.
-#[inline(always)]
 pub fn carry<E: RingElection>(
     book: &mut Book<E>,
     world: &mut World<E>,
@@ -32,9 +31,7 @@ pub fn carry<E: RingElection>(
 }
 
 /// At most so many deliveries in a group's world, each at the link that is ready first: how many were
-/// made, and whether one was refused memory. It is a function of its own, so that all of a delivery stands in its loop
-/// and has the registers.
-#[inline(never)]
+/// made, and whether one was refused memory.
 pub fn carry_many<E: RingElection>(
     book: &mut Book<E>,
     world: &mut World<E>,
