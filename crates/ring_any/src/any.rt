@@ -1,6 +1,6 @@
 ghost use Rattle.std.specs.Prelude.{◌≡◌, ◌↔◌, IfOk, IsOk, MatchOption, IsSomeAnd, OnErr, OnOk, false};
 ghost use Rattle.ring_any.specs.Any.{any_greatest, any_table, any_two_way, grows, word_of};
-ghost use Rattle.ring_any.specs.Kinds.{hirschberg_messages, token_put};
+ghost use Rattle.ring_any.specs.Kinds.{hirschberg_message, hirschberg_messages, token_put};
 ghost use Rattle.ring_any.specs.Variants.{put_sends};
 ghost use Rattle.ring_any.specs.declared.any.Any.{Any};
 
@@ -174,22 +174,18 @@ impl RingElection for Any {
                 let sends = Chang.receive(state, from, message)?;
                 Ok(wrapped(sends, AnyMsg::Chang))
             }
-            (Any::Hirschberg, AnyState::Hirschberg(state), AnyMsg::Out { id, hops }) => {
-                let sends = Hirschberg.receive(state, from, HirschbergMsg::Out { id, hops })?;
-                Ok(tokens(sends))
-            }
-            (Any::Hirschberg, AnyState::Hirschberg(state), AnyMsg::Back { id }) => {
-                let sends = Hirschberg.receive(state, from, HirschbergMsg::Back { id })?;
+            (Any::Hirschberg, AnyState::Hirschberg(state), message) => {
+                let Some(message) = token_of(message) else {
+                    return Ok(NOTHING);
+                };
+                let sends = Hirschberg.receive(state, from, message)?;
                 Ok(tokens(sends))
             }
             (Any::Peterson, AnyState::Peterson(state), AnyMsg::Peterson(message)) => {
                 let sends = Peterson.receive(state, from, message)?;
                 Ok(wrapped(sends, AnyMsg::Peterson))
             }
-            _ => Ok(Sends {
-                left: None,
-                right: None,
-            }),
+            _ => Ok(NOTHING),
         }
     }
 
@@ -213,6 +209,24 @@ impl RingElection for Any {
     ghost equal_same = { λ a b h. Prim.search rules };
 
     ghost equal_messages = { λ a b h. Prim.search rules };
+}
+
+/// No sends.
+const NOTHING: Sends<AnyMsg> = Sends {
+    left: None,
+    right: None,
+};
+
+/// The token of Hirschberg and Sinclair's that a message of the sum is, if it is one.
+#[inline(always)]
+fn token_of(message: AnyMsg) -> Option<HirschbergMsg>
+    ensures { result ≡ hirschberg_message message }
+{
+    match message {
+        AnyMsg::Out { id, hops } => Some(HirschbergMsg::Out { id, hops }),
+        AnyMsg::Back { id } => Some(HirschbergMsg::Back { id }),
+        AnyMsg::LeLann(_) | AnyMsg::Chang(_) | AnyMsg::Peterson(_) => None,
+    }
 }
 
 /// A token of Hirschberg and Sinclair's, as a message of the sum.
