@@ -1,5 +1,5 @@
 -- Group by group, the nodes move behind the list.
-use Rattle.std.proofs.Common.{◌≡◌, ◌+◌, ◌≤◌, ◌++◌, length, sym, ap, ◌∙◌, subst, arith, append_assoc, length-append, vec_len, vec_capacity}
+use Rattle.std.proofs.Common.{◌+◌, ◌≤◌, ◌++◌, length, sym, ap, ◌∙◌, subst, arith, append_assoc, length-append, vec_len, vec_capacity}
 use Rattle.std.proofs.lemmas.List.{append-nil}
 use Rattle.ring_workers.specs.Holdings.{nodes_in}
 use Rattle.ring_workers.specs.Seatings.{seated_in}
