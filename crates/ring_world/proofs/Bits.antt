@@ -15,6 +15,10 @@ word_or_none words zeros k =
       | inr past ↦ get_or_past words k 0 past
     ]
 
+-- a number with a bit isn't 0
+pub bit_not_zero : (n k : ℕ) → bit_at n k ≡ 1 → n ≢ 0
+bit_not_zero n k there = λ zero. absurd (omega (arith, there, ap (λ (m : ℕ). bit_at m k) zero, bit_at-zero k))
+
 -- without a word that isn't 0 there is no bit
 pub no_bit : (words : List ℕ) → ((k : ℕ) → k < length words → get_or words k 0 ≡ 0) → (place : ℕ) → bit_of words place ≡ 0
 no_bit words zeros place =

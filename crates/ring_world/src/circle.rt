@@ -210,8 +210,12 @@ impl<E: RingElection> Circle<E> {
         let more = self.sent(position, to) - before;
         if more > 0 {
             let receiver = self.neighbour(position, to);
-            let cut = self.is_cut(receiver, to.other());
-            ready.put(place_of(receiver, to.other()), !cut);
+            let place = place_of(receiver, to.other());
+            if self.is_cut(receiver, to.other()) {
+                ready.put(place, false);
+            } else {
+                ready.insert(place);
+            }
         }
         more
     }

@@ -40,6 +40,18 @@ impl LinkSet {
         self.summary = with_bit(self.summary, index, word != 0);
     }
 
+    /// Puts the link at a place into the set.
+    #[tactic(auto, using(crate::proofs::Bits::bit_not_zero))]
+    pub fn insert(&mut self, place: usize)
+        requires { place < 512 }
+        ensures here { bit_of self.new.words place ≡ 1 }
+        ensures others { (other : ℕ) → other ≢ place → bit_of self.new.words other ≡ bit_of self.old.words other }
+    {
+        let index = place / 64;
+        self.words[index] = with_bit(self.words[index], place % 64, true);
+        self.summary = with_bit(self.summary, index, true);
+    }
+
     /// Takes the link at a place out of the set, in which it is, where nothing is left there.
     pub fn leave(&mut self, place: usize, is_last: bool)
         requires within { place < 512 }

@@ -1,6 +1,5 @@
 //! The words that stand beside arrows and above pictures, and the names of members.
 use ring_any::{Any, AnyMsg};
-use ring_hirschberg::HirschbergMsg;
 use ring_id::NodeId;
 use ring_node::Packet;
 use std::alloc::{AllocError, Global};
@@ -22,18 +21,11 @@ fn of_message(alloc: Global, message: AnyMsg) -> Result<String, AllocError> {
         AnyMsg::LeLann(id) => of_member(alloc, id),
         AnyMsg::Chang(id) => of_member(alloc, id),
         AnyMsg::Peterson(id) => of_member(alloc, id),
-        AnyMsg::Hirschberg(token) => of_token(alloc, token),
-    }
-}
-
-// The words of a token of Hirschberg and Sinclair's.
-fn of_token(alloc: Global, token: HirschbergMsg) -> Result<String, AllocError> {
-    match token {
-        HirschbergMsg::Out { id, hops } => {
+        AnyMsg::Out { id, hops } => {
             let id = of_member(alloc, id)?;
             format!(in alloc; "{id} out {hops}")
         }
-        HirschbergMsg::Back { id } => {
+        AnyMsg::Back { id } => {
             let id = of_member(alloc, id)?;
             format!(in alloc; "{id} back")
         }

@@ -5,13 +5,24 @@ use Rattle.ring_world.specs.private.LinkSets.{bit_of}
 use Rattle.ring_world.proofs.Tallies.{one_put}
 use Rattle.ring_world.proofs.circle.Circle.mark_sent.Goals as goal
 
-pub returns-then-more-gt0-clause-marked : goal.returns-then-more-gt0-clause-marked
-returns-then-more-gt0-clause-marked g c =
-    let place = rw (c.neighbour-receiver.ensures.value, c.other-then-more-gt0.ensures) at c.place_of.ensures.value in
-    let cut = rw (c.neighbour-receiver.ensures.value, c.other.ensures) at c.is_cut-cut.ensures in
+pub returns-then-is_cut-clause-marked : goal.returns-then-is_cut-clause-marked
+returns-then-is_cut-clause-marked g c =
+    let place = rw (c.neighbour-receiver.ensures.value, c.other.ensures) at c.place_of-place.ensures.value in
+    let cut = rw (c.neighbour-receiver.ensures.value, c.other-then-more-gt0.ensures) at c.is_cut.ensures in
     let waits = c.requires.waits (omega (arith, c.if-more-gt0.true, c.sent.ensures)) in
     inr
     (one_put g.E.RingElection.table c.args.self.now c.args.ready.now.words c.put.new.self.words c.args.position c.args.to c.requires.inside waits
     (omega (arith, c.sent.ensures, c.sent.type_inv))
-    (ap (bit_of c.put.new.self.words) (sym place) ∙ c.put.ensures.here ∙ ap (λ (b : Bool). cond (not b) 1 0) cut)
+    (ap (bit_of c.put.new.self.words) (sym place) ∙ c.put.ensures.here ∙ ap (λ (b : Bool). cond (not b) 1 0) (sym c.if-is_cut.true ∙ cut))
     (rw place at c.put.ensures.others))
+
+pub returns-else-is_cut-clause-marked : goal.returns-else-is_cut-clause-marked
+returns-else-is_cut-clause-marked g c =
+    let place = rw (c.neighbour-receiver.ensures.value, c.other.ensures) at c.place_of-place.ensures.value in
+    let cut = rw (c.neighbour-receiver.ensures.value, c.other-then-more-gt0.ensures) at c.is_cut.ensures in
+    let waits = c.requires.waits (omega (arith, c.if-more-gt0.true, c.sent.ensures)) in
+    inr
+    (one_put g.E.RingElection.table c.args.self.now c.args.ready.now.words c.insert.new.self.words c.args.position c.args.to c.requires.inside waits
+    (omega (arith, c.sent.ensures, c.sent.type_inv))
+    (ap (bit_of c.insert.new.self.words) (sym place) ∙ c.insert.ensures.here ∙ ap (λ (b : Bool). cond (not b) 1 0) (sym c.if-is_cut.false ∙ cut))
+    (rw place at c.insert.ensures.others))
