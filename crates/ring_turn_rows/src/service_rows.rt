@@ -1,7 +1,6 @@
-//! Rows of services that end, or cannot be started: what they leave.
+//! Rows of services: what they answer, and what they leave that end or cannot be started.
 
-use crate::grounds::{Ended, by_lock};
-use crate::session_rows::answers_each;
+use crate::grounds::{Ended, Ground};
 use ring_any::Any;
 use ring_service::{Service, StartFault};
 use ring_table::{Entry, LockedTable, Table};
@@ -10,6 +9,14 @@ use std::alloc::Global;
 use std::sync::{Arc, Wait};
 use std::thread::Threads;
 use std::time::Clock;
+
+const FIRST: &[u8] = b"create a chang\njoin a 5\nstart a\nmembers a\ndrain a 1\n";
+
+const FIRST_TOLD: &[u8] = b"ok\nok\nterm 1\nmembers 5\nno bad-line\n";
+
+const SECOND: &[u8] = b"join a 5\ncut a 5 left\ngroups";
+
+const SECOND_TOLD: &[u8] = b"no member\nno bad-line\ngroups a\n";
 
 // How many calls stand in a history.
 fn calls(table: &Table<Any>) -> usize {
@@ -22,27 +29,26 @@ fn calls(table: &Table<Any>) -> usize {
     calls
 }
 
-// A service with one worker answers two sessions, and is ended: whether each line got its reply, each command
-// its entry, the worker handed over, and no begin waits.
+// A service with one worker answers two sessions, one after the other, and is ended: whether each line got its reply,
+// each command its entry, the worker handed over, and no begin waits. None where memory is refused.
 fn hands_over<R: Threads + Wait + Clock + Copy + Send + Drop + 'static>(
     rt: &R,
     alloc: Global,
 ) -> Option<bool> {
     let gate = Arc::new(alloc, OpenGate).ok()?;
-    let mut ground = by_lock(rt, alloc, 1, 64, gate)?;
-    let told = answers_each(rt, alloc, &mut ground);
+    let mut ground = Ground::open(rt, alloc, 1, 64, gate)?;
+    let told = ground.tells(rt, alloc, 1, FIRST, FIRST_TOLD)
+        && ground.tells(rt, alloc, 2, SECOND, SECOND_TOLD);
     let Ended {
-        keeper,
+        table,
         handed,
         waiting,
-    } = ground.end(rt);
-    let whole = handed.len() == 1 && waiting.is_empty();
-    let table = keeper.into_access()?.into_table();
-    Some(told && whole && calls(&table) == 6)
+    } = ground.end(rt)?;
+    Some(told && handed.len() == 1 && waiting.is_empty() && calls(&table) == 6)
 }
 
 #[test]
-fn a_service_that_ends_hands_over(rt: HostRuntime) {
+fn a_service_answers_each_line_and_hands_over(rt: HostRuntime) {
     let alloc = rt.alloc();
     let first = hands_over(&rt, alloc);
     assert!(rt; first == Some(true) || hands_over(&rt, alloc) == Some(true));

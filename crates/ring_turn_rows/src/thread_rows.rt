@@ -1,18 +1,16 @@
-//! Rows of threads that share a table: where the calls of each are placed, and that the table has no others.
+//! A row of threads that take turns at a table: where the calls of each are placed, and that the table has no others.
 ghost use Rattle.std.specs.Prelude.{◌≡◌, ℕ, IfSome};
 
-use crate::grounds::{Ended, Ground, Keeper, ShutGate, by_lock, by_turns, has_told};
 use ring_any::Any;
 use ring_events::{Command, Reply};
 use ring_id::{GroupName, NodeId};
 use ring_lines::parse_command;
-use ring_table::{Access, Answer, Entry, Kept, LockedSeat, LockedTable, Table};
+use ring_table::{Answer, Entry, Kept, Table};
 use ring_turn::{Seat, TurnLock};
 use std::alloc::Global;
-use std::sync::{Arc, Wait};
+use std::sync::Wait;
 use std::thread;
 use std::thread::Threads;
-use std::time::Clock;
 
 /// A table with three seats, which threads share.
 trait Shared: Drop {
@@ -73,38 +71,6 @@ impl Shared for TurnLock<Any> {
         all.push_reserved(second);
         all.push_reserved(third);
         Some(self.close(all))
-    }
-}
-
-impl Shared for LockedTable<Any> {
-    type Seat = LockedSeat<Any>;
-
-    ghost sits = { λ _ _ _. Unit {0} };
-
-    ghost is_for_three = { λ _. Unit {0} };
-
-    fn ask<R: Wait>(
-        &self,
-        rt: &R,
-        seat: &mut LockedSeat<Any>,
-        session: u32,
-        command: Command<Any>,
-    ) -> Answer
-        requires { (number : ℕ) × Unit {0} }
-        ensures { (number : ℕ) → Unit {0} → Unit {0} }
-    {
-        self.call(rt, seat, session, command)
-    }
-
-    fn end(
-        self,
-        _alloc: Global,
-        _seats: (LockedSeat<Any>, LockedSeat<Any>, LockedSeat<Any>),
-    ) -> Option<Table<Any>>
-        requires three { Unit {0} }
-        requires seats { Unit {0} × Unit {0} × Unit {0} }
-    {
-        Some(self.into_table())
     }
 }
 
@@ -248,109 +214,4 @@ fn two_threads_take_turns(rt: HostRuntime) {
     let alloc = rt.alloc();
     let first = take_turns(&rt, alloc);
     assert!(rt; first == Some(true) || take_turns(&rt, alloc) == Some(true));
-}
-
-// Two threads that share a locked table.
-fn share_lock<R: Threads + Wait + Sync>(rt: &R, alloc: Global) -> Option<bool> {
-    let (table, mut seats) = LockedTable::new(alloc, Table::new(alloc), 3).ok()?;
-    let third = seats.pop()?;
-    let second = seats.pop()?;
-    let first = seats.pop()?;
-    two_threads(rt, alloc, table, (first, second, third))
-}
-
-#[test]
-fn two_threads_share_a_lock(rt: HostRuntime) {
-    let alloc = rt.alloc();
-    let first = share_lock(&rt, alloc);
-    assert!(rt; first == Some(true) || share_lock(&rt, alloc) == Some(true));
-}
-
-// The lines by which a hundred identities from a number on join the group `a`.
-fn joins(alloc: Global, from: u32) -> Option<Vec<u8>> {
-    let mut lines = Vec::new(alloc);
-    for number in from..from.saturating_add(100) {
-        let line = format!(in alloc; "join a {number}\n").ok()?;
-        lines.extend_from_slice(line.as_bytes()).ok()?;
-    }
-    Some(lines)
-}
-
-// Whether a session was told a hundred times that it is done.
-fn is_all_ok(told: &Option<Vec<u8>>) -> bool {
-    match told {
-        Some(told) => told.len() == 300 && told.chunks(3).all(|line| line == b"ok\n".as_slice()),
-        None => false,
-    }
-}
-
-// How many identities from a number on joined in this session, in order.
-fn joined(table: &Table<Any>, from: u32, number: u32) -> u32 {
-    let mut next = from;
-    for entry in table.history() {
-        if let Entry::Call {
-            session,
-            command: Command::Join(_, node),
-            reply: _,
-        } = entry
-            && *session == number
-            && node.get() == next
-        {
-            next = next.saturating_add(1);
-        }
-    }
-    next.saturating_sub(from)
-}
-
-// Two sessions in two threads, in which a hundred identities join each: whether each line was told that it is
-// done, and there are no other entries. What is left is the table.
-fn two_sessions<R, A>(
-    rt: &R,
-    alloc: Global,
-    ground: Ground<A>,
-    low: &[u8],
-    high: &[u8],
-) -> (bool, Keeper<A>)
-where
-    R: Threads + Wait + Sync,
-    A: Access<Any> + Send + Sync + Drop + 'static,
-    A::Seat: Send + 'static,
-{
-    let mut ground = ground;
-    let made = ground.session(rt, alloc, 1, b"create a chang\n");
-    let (mut ground, first, second) = ground.two_sessions(rt, alloc, low, high);
-    let last = ground.placed(rt, alloc, 3, b"groups\n");
-    let Ended {
-        keeper,
-        handed: _,
-        waiting: _,
-    } = ground.end(rt);
-    let told = has_told(&made, b"ok\n") && is_all_ok(&first) && is_all_ok(&second);
-    (told && has_told(&last, b"202 groups a\n"), keeper)
-}
-
-// The same by a turn lock and by a locked table, in whose history each session's calls stand in order. None where
-// memory is refused.
-fn both_serve<R>(rt: &R, alloc: Global) -> Option<bool>
-where
-    R: Threads + Wait + Clock + Copy + Send + Sync + Drop + 'static,
-{
-    let (low, high) = (joins(alloc, 1)?, joins(alloc, 101)?);
-    let gate = Arc::new(alloc, ShutGate).ok()?;
-    let copy = Arc::try_clone(&gate).ok()?;
-    let ground = by_turns(rt, alloc, 1, 200, 1, gate)?;
-    let (turns, _) = two_sessions(rt, alloc, ground, &low, &high);
-    let ground = by_lock(rt, alloc, 1, 1, copy)?;
-    let (locks, keeper) = two_sessions(rt, alloc, ground, &low, &high);
-    let table = keeper.into_access()?.into_table();
-    let whole = table.history().len() == 202;
-    let ordered = joined(&table, 1, 1) == 100 && joined(&table, 101, 2) == 100;
-    Some(turns && locks && whole && ordered)
-}
-
-#[test]
-fn two_sessions_share_a_table(rt: HostRuntime) {
-    let alloc = rt.alloc();
-    let first = both_serve(&rt, alloc);
-    assert!(rt; first == Some(true) || both_serve(&rt, alloc) == Some(true));
 }

@@ -1,5 +1,5 @@
 use Rattle.ring_turn.proofs.Sharing.{table_sync}
-use Rattle.ring_turn_rows.proofs.session_rows.spends.Goals as goal
+use Rattle.ring_turn_rows.proofs.turn_rows.spends.Goals as goal
 
 -- the lock may be shared among threads
 pub are_spent-requires-sync-A : goal.are_spent-requires-sync-A

@@ -1,7 +1,7 @@
 use Rattle.std.proofs.Common.{rules, ◌≡◌, sym, subst}
 use Rattle.std.specs.Prelude.{Some}
 use Rattle.std.proofs.lemmas.List.Elements.{All-pop}
-use Rattle.ring_turn_rows.proofs.grounds.Ground.open.Goals as goal
+use Rattle.ring_turn_rows.proofs.grounds.open.Goals as goal
 
 -- both callers' seats are of the access that the service serves
 pub invariant_of-result : goal.invariant_of-result
