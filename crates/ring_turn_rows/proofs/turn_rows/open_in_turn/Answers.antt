@@ -1,4 +1,4 @@
-use Rattle.std.proofs.Common.{rules, ◌≡◌, ◌+◌, []}
+use Rattle.std.proofs.Common.{rules, ◌≡◌, []}
 use Rattle.ring_turn.specs.Seats.{fresh_seats}
 use Rattle.ring_turn.proofs.Returning.{all_are_of_lock}
 use Rattle.ring_turn.proofs.Sharing.{table_sync}
