@@ -55,6 +55,7 @@ impl HirschbergState {
     }
 
     /// An own token came home from that side: where that begins a phase, its token goes out.
+    #[inline(always)]
     fn come_home(&mut self, side: Side) -> Sends<HirschbergMsg>
         ensures state { self.new ≡ counted self.old side }
         ensures sends { result ≡ new_token self.old (counted self.old side) }
@@ -124,6 +125,7 @@ impl RingElection for Hirschberg {
 
     /// One receipt, by the table: decides where the own token comes round, passes greater tokens
     /// and drops smaller ones, and begins a phase when both own tokens came home. Takes no memory.
+    #[inline(always)]
     fn receive(
         &self,
         state: &mut HirschbergState,
@@ -213,6 +215,7 @@ fn token(id: NodeId, hops: u32) -> Sends<HirschbergMsg>
 
 /// What becomes of a greater token: on with one hop less, turned at its last hop, dropped where it
 /// has none left.
+#[inline(always)]
 fn pass(from: Side, id: NodeId, hops: u32) -> Sends<HirschbergMsg>
     ensures { result ≡ passed from id hops }
 {
