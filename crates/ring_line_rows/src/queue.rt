@@ -6,8 +6,8 @@ use std::process::Abort;
 use std::sync::{Mutex, Wait};
 
 // The lock at which answers queue, and marks of what was done: `r` a line was read, `l` a long one, `q` it was queued for,
-// `a` a line was answered, `s` its answer was spelled, `<` a read call, `>` a write call. Where the lock
-// was held, the letter is a great one, and the others are `!`.
+// `a` a line was answered, `z` the answerer rests, `s` an answer was spelled, `<` a read call, `>` a write call. Where
+// the lock was held, the letter is a great one, and the others are `!`.
 #[derive(Drop)]
 struct Watched {
     door: Mutex<()>,
@@ -91,6 +91,10 @@ impl<'b, R: Wait> Answerer for Queueing<'b, R> {
             text: self.text,
         }
     }
+
+    fn rest(&self, _state: &mut ()) {
+        self.watched.note(b'z', b'Z');
+    }
 }
 
 // A reader that gives these pieces, one for each read call.
@@ -142,7 +146,7 @@ fn notes<R: Wait + AllocGlobal>(
     let text = vec![in alloc; 0; len]?;
     let watched = Watched {
         door: Mutex::new(()),
-        log: RefCell::new(Vec::with_capacity(alloc, 200)?),
+        log: RefCell::new(Vec::with_capacity(alloc, 210)?),
     };
     let queueing = Queueing {
         rt,
@@ -172,23 +176,24 @@ fn assert_notes<R: Wait + Abort + AllocGlobal>(
 
 #[test]
 fn the_queue_is_held_while_lines_are_answered(rt: HostRuntime) {
-    assert_notes(&rt, &[b"a\nb\nc", b"d\n"], 9, b"<rrqAAss><rqAs><");
-    assert_notes(&rt, &[b"a\n", b"b"], 9, b"<rqAs><<rqAs>");
-    assert_notes(&rt, &[&[b'a'; 200], b"\nb\n"], 9, b"<<lrqAAss><");
+    assert_notes(&rt, &[b"a\nb\nc", b"d\n"], 9, b"<rrqAAZss><rqAZs><");
+    assert_notes(&rt, &[b"a\n", b"b"], 9, b"<rqAZs><<rqAZs>");
+    assert_notes(&rt, &[&[b'a'; 200], b"\nb\n"], 9, b"<<lrqAAZss><");
 }
 
 #[test]
 fn the_queue_is_left_where_the_page_is_full(rt: HostRuntime) {
-    assert_notes(&rt, &[b"a\nb\nc\nd"], 40000, b"<rrrqAAAss>>s><rqAs>");
+    assert_notes(&rt, &[b"a\nb\nc\nd"], 40000, b"<rrrqAAAZss>>s><rqAZs>");
 }
 
 #[test]
 fn at_most_64_lines_are_answered_together(rt: HostRuntime) {
-    let mut wanted = [b'r'; 200];
+    let mut wanted = [b'r'; 202];
     wanted[0] = b'<';
     wanted[65] = b'q';
     wanted[66..130].fill(b'A');
-    wanted[130..194].fill(b's');
-    wanted[194..].copy_from_slice(b"rqAs><");
+    wanted[130] = b'Z';
+    wanted[131..195].fill(b's');
+    wanted[195..].copy_from_slice(b"rqAZs><");
     assert_notes(&rt, &[&[b'\n'; 65]], 9, &wanted);
 }

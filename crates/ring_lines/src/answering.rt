@@ -63,6 +63,12 @@ pub trait Answerer {
         requires { holds self.now state.old }
         ensures kept { holds self.now state.new }
         ensures answer { (line : List ℕ) → asks line asked → answers self.now line state.old result state.new };
+
+    /// Lets go of what the answers so far hold for those after them, and changes nothing else. It comes
+    /// after the last of the answers that are given together, before the head of a queue is let go.
+    fn rest(&self, state: &mut Self::State)
+        requires { holds self.now state.old }
+        ensures { state.new ≡ state.old };
 }
 
 /// Answers each line of the reader by the spelling of one answer to the writer, in order.
@@ -74,8 +80,8 @@ pub trait Answerer {
 /// Unless writing failed, each answer is legal. Makes at most `reads` read calls.
 ///
 /// Lines that are held are read before the first of them is answered, at most 64 of them, and their
-/// answers are spelled after the last of them is given. What an answer left in `queued` is let go in
-/// between: tests say so, and no clause.
+/// answers are spelled after the last of them is given. In between the answerer rests, and what an answer
+/// left in `queued` is let go: tests say so, and no clause.
 pub fn answer_lines<A: Answerer, R: Intake, W: Outlet>(
     alloc: Global,
     answerer: &A,

@@ -62,8 +62,8 @@ impl<A: Answerer> Batch<A> {
         }
     }
 
-    /// Answers all that was asked, in order. Who queues for the answers has let go of the head of the
-    /// queue afterwards.
+    /// Answers all that was asked, in order. The answerer rests afterwards, and who queues for the answers
+    /// has let go of the head of the queue.
     pub(crate) fn answer(&mut self, answerer: &A, state: &mut A::State, alloc: Global)
         requires { A.holds answerer.now state.old }
         ensures kept { A.holds answerer.now state.new }
@@ -101,4 +101,5 @@ fn answer_all<A: Answerer>(
         let answer = answerer.answer(state, alloc, &mut queued, *question);
         given.push_reserved(answer);
     }
+    answerer.rest(state);
 }

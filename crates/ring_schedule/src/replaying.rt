@@ -48,6 +48,8 @@ impl Answerer for Replayer {
             None => Reply::Refused(Refusal::BadLine),
         }
     }
+
+    fn rest(&self, _state: &mut Mux<Any>) {}
 }
 
 /// Answers a schedule: each line of the reader by one line to the writer, from no groups at all.

@@ -124,6 +124,22 @@ impl<A: Access<Any> + Drop> Front<A> {
         self.access.queue(rt)
     }
 
+    /// Has the seat keep the access's table until it rests, where it can.
+    pub(crate) fn keep(&self, seat: &mut A::Seat)
+        requires { A.has_seat self.now seat.old }
+        ensures { seat.new ≡ seat.old }
+    {
+        self.access.keep(seat);
+    }
+
+    /// Has the seat keep the table no more.
+    pub(crate) fn rest(&self, seat: &mut A::Seat)
+        requires { A.has_seat self.now seat.old }
+        ensures { seat.new ≡ seat.old }
+    {
+        self.access.rest(seat);
+    }
+
     /// The access's answer to a command of a session. What waits for the workers is tried first.
     pub(crate) fn answer<R: Wait>(
         &self,

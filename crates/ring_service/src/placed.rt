@@ -48,10 +48,14 @@ impl<A: Access<Any> + Drop, R: Wait> Answerer for PlacedSession<'_, A, R> {
         let Session { front, rt, number } = &self.session;
         match asked {
             Some(command) => {
-                self.session.queue(queued);
+                self.session.queue(state, queued);
                 front.answer(*rt, state, *number, command)
             }
             None => Answer::Unplaced(Refusal::BadLine),
         }
+    }
+
+    fn rest(&self, state: &mut A::Seat) {
+        self.session.rest(state);
     }
 }

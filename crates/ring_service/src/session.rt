@@ -1,3 +1,5 @@
+ghost use Rattle.std.specs.Prelude.{◌≡◌};
+
 use crate::front::Front;
 use ring_any::Any;
 use ring_events::{Command, Reply};
@@ -16,10 +18,14 @@ pub(crate) struct Session<'a, A: Drop, R> {
 }
 
 impl<'b, A: Access<Any> + Drop, R: Wait> Session<'b, A, R> {
-    /// Queues for the access, where it isn't done yet.
-    pub(crate) fn queue<'a>(&'a self, queued: &mut Queued<'a>) {
+    /// Queues for the access, where it isn't done yet, and has the seat keep its table.
+    pub(crate) fn queue<'a>(&'a self, seat: &mut A::Seat, queued: &mut Queued<'a>)
+        requires { A.has_seat self.now.front.now seat.old }
+        ensures { seat.new ≡ seat.old }
+    {
         if queued.is_none() {
             *queued = self.front.queue(self.rt);
+            self.front.keep(seat);
         }
     }
 }
@@ -58,12 +64,16 @@ impl<A: Access<Any> + Drop, R: Wait> Answerer for Session<'_, A, R> {
     ) -> Reply {
         match asked {
             Some(command) => {
-                self.queue(queued);
+                self.queue(state, queued);
                 self.front
                     .answer(self.rt, state, self.number, command)
                     .into_reply()
             }
             None => Reply::Refused(Refusal::BadLine),
         }
+    }
+
+    fn rest(&self, state: &mut A::Seat) {
+        self.front.rest(state);
     }
 }

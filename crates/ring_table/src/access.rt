@@ -53,6 +53,18 @@ pub trait Access<E: RingElection> {
     /// not wait for those who queue.
     fn queue<R: Wait>(&self, rt: &R) -> Queued<'_>;
 
+    /// Has the seat keep the table from its next call on until it rests, where the access has seats that
+    /// do: its calls after that one find the table there, and those through other seats wait. Nothing else
+    /// changes.
+    fn keep(&self, seat: &mut Self::Seat)
+        requires { has_seat self.now seat.old }
+        ensures { seat.new ≡ seat.old };
+
+    /// Has the seat keep the table no more. Nothing else changes.
+    fn rest(&self, seat: &mut Self::Seat)
+        requires { has_seat self.now seat.old }
+        ensures { seat.new ≡ seat.old };
+
     /// A command of a session. Where it is placed, it is the one entry that the seat gains, with its
     /// reply; where it is not, the seat gains none.
     fn call<R: Wait>(

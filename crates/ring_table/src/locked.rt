@@ -151,6 +151,10 @@ impl<E: RingElection> Access<E> for LockedTable<E> {
         None
     }
 
+    fn keep(&self, _seat: &mut LockedSeat<E>) {}
+
+    fn rest(&self, _seat: &mut LockedSeat<E>) {}
+
     fn call<R: Wait>(
         &self,
         rt: &R,

@@ -1,101 +1,144 @@
--- A whole turn of a seat, as its caller sees it.
-use Rattle.std.proofs.Common.{◌≡◌, ℕ, ◌+◌, ◌-◌, ◌<◌, Bool, List, [], ◌∷◌, ◌++◌, length, length-append, sym, refl, ap, ◌∙◌, subst, arith}
+-- A whole call through a seat, as its caller sees it.
+use Rattle.std.proofs.Common.{◌≡◌, ℕ, ◌+◌, ◌-◌, ◌<◌, ◌≤◌, Bool, List, [], ◌∷◌, ◌++◌, length, length-append, append_assoc, append-nil, sym, refl, ap, ◌∙◌, subst, inl, inr, ⊎_elim, arith}
+use Rattle.std.specs.Prelude.{Some, None}
 use Rattle.atomic_table.specs.Seated.{TableId}
 use Rattle.atomic_table.specs.Table.{Me}
+use Rattle.ring_id.specs.declared.refusal.Refusal.TheVariants.{NoMemory}
+use Rattle.ring_node.specs.Reports.{Told}
+use Rattle.ring_node.specs.declared.filed.Filed.{Filed}
 use Rattle.ring_terms.specs.Object.{Object}
+use Rattle.ring_events.specs.declared.event.Command.{Command}
+use Rattle.ring_events.specs.declared.reply.Reply.{Reply}
+use Rattle.ring_table.specs.Accesses.{filing}
 use Rattle.ring_table.specs.Histories.{IsLegal}
-use Rattle.ring_table.specs.Tables.{TableView}
+use Rattle.ring_table.specs.Tables.{Calls, Files, TableView}
 use Rattle.ring_table.specs.declared.entry.Entry.{Entry}
-use Rattle.ring_turn.specs.Calls.{Passes, Turns}
+use Rattle.ring_turn.specs.Calls.{Passes, Reported, Turns}
 use Rattle.ring_turn.specs.declared.view.Doing.{Doing}
-use Rattle.ring_turn.specs.declared.view.Stage.TheVariants.{Idle}
-use Rattle.ring_turn.specs.Turns.{entries, made_by}
+use Rattle.ring_turn.specs.Turns.{entries, made_by, turns_by}
 use Rattle.ring_turn.specs.private.Rule.{Desk}
-use Rattle.ring_turn.specs.private.Seats.{IsIdle}
+use Rattle.ring_turn.specs.private.Seats.{IsHanded, IsOpen, IsSeated, Parts, Reaches, with_hand}
 use Rattle.ring_turn.specs.Seats.{IsSameSeat, SeatView, seat_of}
-use Rattle.ring_turn.specs.private.Steps.{counted, drew, served, took, Entered, HasOneMore, IsInside, Settled}
-use Rattle.ring_turn.proofs.Histories.{made_by-own}
-use Rattle.ring_turn.proofs.Turning.{length_one_more, whole_one_more}
+use Rattle.ring_turn.specs.private.Steps.{beyond, gained, known}
+use Rattle.ring_turn.proofs.Ending.{beyond_more}
+use Rattle.ring_turn.proofs.Histories.{entries-more, length-entries, made_by-own, turns_by-push}
 
 module _ {E : Type 0} where
-  -- who entered is inside
-  pub entered_inside : (me now : Me (Desk E) (Doing E)) (table : TableView E) → Entered me table now → IsInside now
-  entered_inside me now table e = record { ticket = e.ticket; stage = ap (λ (m : Me (Desk E) (Doing E)). m.0.stage) e.is; hand = ap (λ (m : Me (Desk E) (Doing E)). m.1) e.is }
-
-  -- and has the whole history in hand
-  pub entered_whole : (me now : Me (Desk E) (Doing E)) (table : TableView E) → Entered me table now → table.history ≡ now.0.opening ++ entries now.0.seen
-  entered_whole me now table e = e.whole ∙ ap (λ (m : Me (Desk E) (Doing E)). m.0.opening ++ entries m.0.seen) (sym e.is)
-
-  -- a call that added one entry
-  abbrev pub entered_one : (me now : Me (Desk E) (Doing E)) (table new : TableView E) (entry : Entry E) → Entered me table now → new.history ≡ table.history ++ entry ∷ [] → HasOneMore now new
-  entered_one me now table new entry e added = record { entry = entry; added = added ∙ ap (λ (l : List (Entry E)). l ++ entry ∷ []) (entered_whole me now table e) }
-
-  -- a seat is idle after its turn, with one turn less
-  idle_again : (left : ℕ) (me after : Me (Desk E) (Doing E)) (v : Doing E) → IsIdle left me → after ≡ (v, []) → v.stage ≡ Idle → v.budget ≡ me.0.budget - 1 → v.lives ≡ me.0.lives → v.makes ≡ me.0.makes → IsIdle (left - 1) after
-  idle_again left me after v idle is stage budget lives makes = record {
-    stage = ap (λ (m : Me (Desk E) (Doing E)). m.0.stage) is ∙ stage;
-    budget = ap (λ (m : Me (Desk E) (Doing E)). m.0.budget) is ∙ budget ∙ ap (λ (n : ℕ). n - 1) idle.budget;
-    lives = ap (λ (m : Me (Desk E) (Doing E)). m.0.lives) is ∙ lives ∙ idle.lives;
-    seats_none = ap (λ (m : Me (Desk E) (Doing E)). m.0.makes) is ∙ makes ∙ idle.seats_none;
-    empty = ap (λ (m : Me (Desk E) (Doing E)). m.1) is;
+  -- a table in hand may have more entries
+  pub open_more : (me : Me (Desk E) (Doing E)) (table longer : TableView E) (more : List (Entry E)) → IsOpen table me → longer.history ≡ table.history ++ more → IsOpen longer me
+  open_more me table longer more ready added = record {
+    inside = ready.inside;
+    lives = ready.lives;
+    seats_none = ready.seats_none;
+    own = ready.own;
+    new = ready.new ++ more;
+    added = added ∙ ap (λ (l : List (Entry E)). l ++ more) ready.added ∙ append_assoc (known me.0) ready.new more;
   }
 
-  -- what a seat knows after a turn without an entry
-  passed_is : (me now after : Me (Desk E) (Doing E)) (table : TableView E) → (e : Entered me table now) → after ≡ (served now.0, []) → after ≡ (served (took e.ticket e.log (drew e.ticket me.0)), [])
-  passed_is me now after table e left = left ∙ ap (λ (m : Me (Desk E) (Doing E)). (served m.0, [])) e.is
+  -- as after a call
+  pub open_after_call : (two_way greatest : E → Bool) (session : ℕ) (command : Command E) (me : Me (Desk E) (Doing E)) (table new : TableView E) (answer : Reply) → Calls two_way greatest session command table answer new → IsOpen table me → IsOpen new me
+  open_after_call two_way greatest session command me table new answer (inl called) ready = open_more me table new _ ready called.added
+  open_after_call two_way greatest session command me table new answer (inr lost) ready = subst (λ (t : TableView E). IsOpen t me) (sym lost.same) ready
 
-  pub passed : (id at : TableId) (left : ℕ) (me now after : Me (Desk E) (Doing E)) (table : TableView E) → 0 < left → Entered me table now → at ≡ id → after ≡ (served now.0, []) → Passes (seat_of id left me.0) (seat_of at (left - 1) after.0)
-  passed id at left me now after table some e here left_is = record {
-    some_left = some;
-    log = e.log;
-    starts = e.starts;
-    own = e.own;
-    is = λ i. seat_of (here i) (left - 1) ((passed_is me now after table e left_is i).0);
-  }
+  -- and as after a report
+  pub open_after_report : (greatest : E → Bool) (report : Told E) (me : Me (Desk E) (Doing E)) (table new : TableView E) (answer : Filed) → Files greatest report table answer new → IsOpen table me → IsOpen new me
+  open_after_report greatest report me table new answer (inl filed) ready = open_more me table new _ ready filed.added
+  open_after_report greatest report me table new answer (inr lost) ready = subst (λ (t : TableView E). IsOpen t me) (sym lost.same) ready
 
-  -- what a seat knows after a turn with an entry
-  turned_is : (two_way greatest : E → Bool) (me now after : Me (Desk E) (Doing E)) (table new : TableView E) (entry : Entry E) (place : ℕ) → (e : Entered me table now) → new.history ≡ table.history ++ entry ∷ [] → Settled two_way greatest now new place after
-      → after ≡ (served (counted entry (took e.ticket e.log (drew e.ticket me.0))), [])
-  turned_is two_way greatest me now after table new entry place e added settled =
-      settled.is entry (entered_one me now table new entry e added).added ∙ ap (λ (m : Me (Desk E) (Doing E)). (served (counted entry m.0), [])) e.is
+  -- a seat that parted with the table after a call has a turn less
+  pub seated_after : (left : ℕ) (hand after : Desk E) (me now then : Me (Desk E) (Doing E)) (table new : TableView E) → IsSeated left hand me → Reaches hand me table now → Parts new now after then → IsSeated (left - 1) after then
+  seated_after left hand after me now then table new was reached parted =
+      let enough : left ≤ me.0.budget = was.budget in
+      let reaches : me.0.budget - 1 ≤ now.0.budget = reached.budget in
+      let same : then.0.budget ≡ now.0.budget = parted.budget in
+      record { budget = omega arith; seat = parted.seat }
 
-  pub turned_idle : (two_way greatest : E → Bool) (left : ℕ) (me now after : Me (Desk E) (Doing E)) (table new : TableView E) (entry : Entry E) (place : ℕ) → IsIdle left me → Entered me table now → new.history ≡ table.history ++ entry ∷ [] → Settled two_way greatest now new place after
-      → IsIdle (left - 1) after
-  turned_idle two_way greatest left me now after table new entry place idle e added settled =
-      idle_again left me after (served (counted entry (took e.ticket e.log (drew e.ticket me.0)))) idle (turned_is two_way greatest me now after table new entry place e added settled) refl refl refl refl
+  -- what the table in hand has more than the seat has seen
+  new_is : (me : Me (Desk E) (Doing E)) (table : TableView E) → (ready : IsOpen table me) → beyond (known me.0) table.history ≡ ready.new
+  new_is me table ready = ap (beyond (known me.0)) ready.added ∙ beyond_more (known me.0) ready.new
 
-  pub turned : (two_way greatest : E → Bool) (id at : TableId) (left : ℕ) (me now after : Me (Desk E) (Doing E)) (table new : TableView E) (entry : Entry E) (place : ℕ) → 0 < left → Entered me table now → new.history ≡ table.history ++ entry ∷ []
-      → Settled two_way greatest now new place after → at ≡ id → Turns two_way greatest (seat_of id left me.0) entry place new.book (seat_of at (left - 1) after.0)
-  turned two_way greatest id at left me now after table new entry place some e added settled here =
+  -- what a seat with a table in its hand shows: the whole history
+  shows_whole : (me : Me (Desk E) (Doing E)) (table : TableView E) → IsOpen table me → table.history ≡ known (with_hand (Some table) me.0)
+  shows_whole me table ready =
+      ready.added ∙ append_assoc me.0.opening (entries me.0.seen) ready.new
+      ∙ ap (λ (l : List (Entry E)). me.0.opening ++ l) (sym (entries-more me.0.seen me.0.number ready.new))
+      ∙ ap (λ (l : List (Entry E)). known (gained l me.0)) (sym (new_is me table ready))
+
+  -- and its own entries in it
+  shows_own : (me : Me (Desk E) (Doing E)) (table : TableView E) → IsOpen table me → made_by me.0.number (with_hand (Some table) me.0).seen ≡ (with_hand (Some table) me.0).mine
+  shows_own me table ready = let new : List (Entry E) = beyond (known me.0) table.history in
+      made_by-own me.0.number new me.0.seen ∙ ap (λ (l : List (Entry E)). l ++ new) ready.own
+
+  -- a seat with one entry more in the table in its hand
+  abbrev pub with_turn : Entry E → SeatView E → SeatView E
+  with_turn entry v = record v { seen = v.seen ++ (v.number, entry) ∷ []; mine = v.mine ++ entry ∷ [] }
+
+  one_more : (id : TableId) (left : ℕ) (me : Me (Desk E) (Doing E)) (table new : TableView E) (entry : Entry E) → IsOpen table me → new.history ≡ table.history ++ entry ∷ []
+      → seat_of id left (with_hand (Some new) me.0) ≡ with_turn entry (seat_of id left (with_hand (Some table) me.0))
+  unfolding open_more
+  one_more id left me table new entry ready added =
       let v : Doing E = me.0 in
-      let longer : List (ℕ × Entry E) = e.log ++ (v.number, entry) ∷ [] in
-      let is : after ≡ (served (counted entry (took e.ticket e.log (drew e.ticket v))), []) = turned_is two_way greatest me now after table new entry place e added settled in
-      let seen : after.0.seen ≡ longer = ap (λ (m : Me (Desk E) (Doing E)). m.0.seen) is in
-      let mine : after.0.mine ≡ v.mine ++ entry ∷ [] = ap (λ (m : Me (Desk E) (Doing E)). m.0.mine) is in
-      let one : new.history ≡ (v.opening ++ entries e.log) ++ entry ∷ [] = added ∙ ap (λ (l : List (Entry E)). l ++ entry ∷ []) e.whole in
-      let whole : new.history ≡ v.opening ++ entries longer = whole_one_more (took e.ticket e.log v) entry new.history one in
-      let long : length new.history ≡ length v.opening + length e.log + 1 = length_one_more v.opening e.log entry new.history one in
-      let more : length longer ≡ length e.log + 1 = length-append e.log ((v.number, entry) ∷ []) in
-      let sees : length after.0.seen ≡ length longer = ap length seen in
-      let at_is : place ≡ length new.history = settled.at in
+      let old : List (Entry E) = beyond (known v) table.history in
+      let more : beyond (known v) new.history ≡ old ++ entry ∷ [] =
+          new_is me new (open_more me table new (entry ∷ []) ready added) ∙ ap (λ (l : List (Entry E)). l ++ entry ∷ []) (sym (new_is me table ready)) in
+      ap (λ (l : List (Entry E)). seat_of id left (gained l v)) more
+      ∙ (λ i. record (seat_of id left v) {
+        seen = (ap (λ (l : List (ℕ × Entry E)). v.seen ++ l) (turns_by-push v.number old entry) ∙ sym (append_assoc v.seen (turns_by v.number old) ((v.number, entry) ∷ []))) i;
+        mine = sym (append_assoc v.mine old (entry ∷ [])) i;
+      })
+
+  -- what a seat shows after a call that added one entry
+  turned_is : (id at : TableId) (left : ℕ) (hand after : Desk E) (me now then : Me (Desk E) (Doing E)) (table new : TableView E) (entry : Entry E) → (reached : Reaches hand me table now) → new.history ≡ table.history ++ entry ∷ [] → Parts new now after then → at ≡ id
+      → seat_of at left (with_hand after then.0) ≡ with_turn entry (record (seat_of id left (with_hand hand me.0)) { seen = (with_hand hand me.0).seen ++ reached.between })
+  turned_is id at left hand after me now then table new entry reached added parted here =
+      ap (λ (i : TableId). seat_of i left (with_hand after then.0)) here ∙ parted.same id left ∙ one_more id left now table new entry reached.ready added ∙ ap (with_turn entry) (reached.sees id left)
+
+  pub turned : (two_way greatest : E → Bool) (id at : TableId) (left : ℕ) (hand after : Desk E) (me now then : Me (Desk E) (Doing E)) (table new : TableView E) (entry : Entry E) (place : ℕ) → 0 < left
+      → Reaches hand me table now → new.history ≡ table.history ++ entry ∷ [] → Parts new now after then → at ≡ id → place ≡ length new.history → IsLegal two_way greatest new.history new.book
+      → Turns two_way greatest (seat_of id left (with_hand hand me.0)) entry place new.book (seat_of at (left - 1) (with_hand after then.0))
+  turned two_way greatest id at left hand after me now then table new entry place some reached added parted here placed legal =
+      let v : SeatView E = seat_of id left (with_hand hand me.0) in
+      let w : SeatView E = seat_of at (left - 1) (with_hand after then.0) in
+      let ready : IsOpen new now = open_more now table new (entry ∷ []) reached.ready added in
+      let same : w ≡ seat_of id (left - 1) (with_hand (Some new) now.0) = ap (λ (i : TableId). seat_of i (left - 1) (with_hand after then.0)) here ∙ parted.same id (left - 1) in
+      let is : w ≡ record v { left = left - 1; seen = (v.seen ++ reached.between) ++ (v.number, entry) ∷ []; mine = v.mine ++ entry ∷ [] } = turned_is id at (left - 1) hand after me now then table new entry reached added parted here in
+      let whole : new.history ≡ v.opening ++ entries w.seen =
+          shows_whole now new ready ∙ ap (λ (u : SeatView E). u.opening ++ entries u.seen) (sym same) ∙ ap (λ (u : SeatView E). u.opening ++ entries w.seen) is in
+      let long : length new.history ≡ length (v.opening ++ entries w.seen) = ap length whole in
       record {
         some_left = some;
-        between = e.starts.0;
-        is = (λ i. seat_of (here i) (left - 1) ((is i).0))
-            ∙ ap (λ (l : List (ℕ × Entry E)). record (seat_of id left v) { left = left - 1; seen = l ++ (v.number, entry) ∷ []; mine = v.mine ++ entry ∷ [] }) e.starts.1;
-        own = ap (made_by v.number) seen ∙ made_by-own v.number entry e.log ∙ ap (λ (l : List (Entry E)). l ++ entry ∷ []) e.own ∙ sym mine;
-        at = omega arith;
-        legal = subst (λ (l : List (Entry E)). IsLegal two_way greatest l new.book) (whole ∙ ap (λ (l : List (ℕ × Entry E)). v.opening ++ entries l) (sym seen)) settled.legal;
+        between = reached.between;
+        is = is;
+        own = ap (λ (u : SeatView E). made_by u.number w.seen) (sym is) ∙ subst (λ (u : SeatView E). made_by u.number u.seen ≡ u.mine) (sym same) (shows_own now new ready);
+        at = omega (arith, length-append v.opening (entries w.seen), length-entries w.seen);
+        legal = subst (λ (l : List (Entry E)). IsLegal two_way greatest l new.book) whole legal;
+      }
+
+  -- a call that added none
+  pub passed : (id at : TableId) (left : ℕ) (hand after : Desk E) (me now then : Me (Desk E) (Doing E)) (table new : TableView E) → 0 < left → Reaches hand me table now → new ≡ table → Parts new now after then → at ≡ id
+      → Passes (seat_of id left (with_hand hand me.0)) (seat_of at (left - 1) (with_hand after then.0))
+  passed id at left hand after me now then table new some reached same parted here =
+      let v : Doing E = with_hand hand me.0 in
+      record {
+        some_left = some;
+        log = v.seen ++ reached.between;
+        starts = (reached.between, refl);
+        own = subst (λ (u : SeatView E). made_by u.number u.seen ≡ u.mine) (reached.sees id left) (shows_own now table reached.ready);
+        is = ap (λ (i : TableId). seat_of i (left - 1) (with_hand after then.0)) here ∙ parted.same id (left - 1) ∙ ap (λ (t : TableView E). seat_of id (left - 1) (with_hand (Some t) now.0)) same ∙ reached.sees id (left - 1);
       }
 
   -- the same, of the seats as their caller sees them
-  pub passed_seat : (id at : TableId) (left : ℕ) (me now after : Me (Desk E) (Doing E)) (table : TableView E) (v : SeatView E) → seat_of id left me.0 ≡ v → 0 < left → Entered me table now → at ≡ id → after ≡ (served now.0, []) → Passes v (seat_of at (left - 1) after.0)
-  passed_seat id at left me now after table v view some e here left_is = subst (λ (u : SeatView E). Passes u (seat_of at (left - 1) after.0)) view (passed id at left me now after table some e here left_is)
+  pub turned_seat : (two_way greatest : E → Bool) (id at : TableId) (left : ℕ) (hand after : Desk E) (me now then : Me (Desk E) (Doing E)) (table new : TableView E) (entry : Entry E) (place : ℕ) (v : SeatView E) → seat_of id left (with_hand hand me.0) ≡ v → 0 < left
+      → Reaches hand me table now → new.history ≡ table.history ++ entry ∷ [] → Parts new now after then → at ≡ id → place ≡ length new.history → IsLegal two_way greatest new.history new.book
+      → Turns two_way greatest v entry place new.book (seat_of at (left - 1) (with_hand after then.0))
+  turned_seat two_way greatest id at left hand after me now then table new entry place v view some reached added parted here placed legal =
+      subst (λ (u : SeatView E). Turns two_way greatest u entry place new.book (seat_of at (left - 1) (with_hand after then.0))) view
+      (turned two_way greatest id at left hand after me now then table new entry place some reached added parted here placed legal)
 
-  pub turned_seat : (two_way greatest : E → Bool) (id at : TableId) (left : ℕ) (me now after : Me (Desk E) (Doing E)) (table new : TableView E) (entry : Entry E) (place : ℕ) (v : SeatView E) → seat_of id left me.0 ≡ v → 0 < left → Entered me table now
-      → new.history ≡ table.history ++ entry ∷ [] → Settled two_way greatest now new place after → at ≡ id → Turns two_way greatest v entry place new.book (seat_of at (left - 1) after.0)
-  turned_seat two_way greatest id at left me now after table new entry place v view some e added settled here =
-      subst (λ (u : SeatView E). Turns two_way greatest u entry place new.book (seat_of at (left - 1) after.0)) view (turned two_way greatest id at left me now after table new entry place some e added settled here)
+  pub passed_seat : (id at : TableId) (left : ℕ) (hand after : Desk E) (me now then : Me (Desk E) (Doing E)) (table new : TableView E) (v : SeatView E) → seat_of id left (with_hand hand me.0) ≡ v → 0 < left → Reaches hand me table now → new ≡ table
+      → Parts new now after then → at ≡ id → Passes v (seat_of at (left - 1) (with_hand after then.0))
+  passed_seat id at left hand after me now then table new v view some reached same parted here =
+      subst (λ (u : SeatView E). Passes u (seat_of at (left - 1) (with_hand after then.0))) view (passed id at left hand after me now then table new some reached same parted here)
 
   -- a seat is the same after any turn
   pub same_after_turn : {two_way greatest : E → Bool} (v w : SeatView E) (entry : Entry E) (place : ℕ) (book : Object E) → Turns two_way greatest v entry place book w → IsSameSeat v w
@@ -104,3 +147,36 @@ module _ {E : Type 0} where
     number = ap (λ (u : SeatView E). u.number) turn.is;
     opening = ap (λ (u : SeatView E). u.opening) turn.is;
   }
+
+  -- and after a call that added none
+  pub same_after_pass : (v w : SeatView E) → Passes v w → IsSameSeat v w
+  same_after_pass v w pass = record {
+    lock = ap (λ (u : SeatView E). u.lock) pass.is;
+    number = ap (λ (u : SeatView E). u.number) pass.is;
+    opening = ap (λ (u : SeatView E). u.opening) pass.is;
+  }
+
+  -- a report, by what the table did with it
+  pub reported_seat : (two_way greatest : E → Bool) (report : Told E) (id at : TableId) (left : ℕ) (hand after : Desk E) (me now then : Me (Desk E) (Doing E)) (table new : TableView E) (answer : Filed) (place : ℕ) (v : SeatView E) → seat_of id left (with_hand hand me.0) ≡ v → 0 < left
+      → Reaches hand me table now → Files greatest report table answer new → Parts new now after then → at ≡ id → place ≡ length new.history → IsLegal two_way greatest new.history new.book
+      → Reported two_way greatest report v answer (seat_of at (left - 1) (with_hand after then.0))
+  reported_seat two_way greatest report id at left hand after me now then table new answer place v view some reached (inl filed) parted here placed legal = inl (record {
+    became = filed.became;
+    old = table.book;
+    book = new.book;
+    place = place;
+    noted = filed.noted;
+    answered = filed.answered;
+    turn = turned_seat two_way greatest id at left hand after me now then table new (filing report filed.became) place v view some reached filed.added parted here placed legal;
+  })
+  reported_seat two_way greatest report id at left hand after me now then table new answer place v view some reached (inr lost) parted here placed legal = inr (record {
+    refusal = NoMemory;
+    refused = lost.refused;
+    none = inl (refl, passed_seat id at left hand after me now then table new v view some reached lost.same parted here);
+  })
+
+  -- a seat is the same after a report that was filed or refused in a turn
+  pub same_after_report : (two_way greatest : E → Bool) (report : Told E) (v w : SeatView E) (answer : Filed) → Reported two_way greatest report v answer w → IsSameSeat v w
+  same_after_report two_way greatest report v w answer (inl files) = same_after_turn v w _ _ _ files.turn
+  same_after_report two_way greatest report v w answer (inr refuses) = ⊎_elim (λ starved. same_after_pass v w starved.1)
+      (λ spent. record { lock = ap (λ (u : SeatView E). u.lock) spent.1.same; number = ap (λ (u : SeatView E). u.number) spent.1.same; opening = ap (λ (u : SeatView E). u.opening) spent.1.same }) refuses.none

@@ -73,8 +73,8 @@ module _ {E : Type 0} where
       seat_is_of_lock lock all fewer was.done seat has (was.split ∙ ap (λ (l : List (SeatView E)). l ++ was.done) rest_is ∙ append_assoc fewer (seat ∷ []) was.done)
 
   -- a seat may be joined
-  pub joins_seat : (place other left : ℕ) (me theirs : Me (Desk E) (Doing E)) → me.0.makes ≡ true → IsIdle left theirs → Joins Keeps place me.0 other theirs.0 (joined me.0 theirs.0) nobody
-  joins_seat place other left me theirs makes idle = joins place other me.0 theirs.0 makes idle.lives idle.stage idle.seats_none
+  pub joins_seat : (place other : ℕ) (me theirs : Me (Desk E) (Doing E)) → me.0.makes ≡ true → IsIdle theirs → Joins Keeps place me.0 other theirs.0 (joined me.0 theirs.0) nobody
+  joins_seat place other me theirs makes idle = joins place other me.0 theirs.0 makes idle.lives idle.stage idle.seats_none
 
   -- a seat that is among those joined is kept
   has_past : (number k : ℕ) (seats : List (SeatView E)) (seat : SeatView E) → slice_get seats k ≡ Some seat → seat.number ≡ number → HasPast number (pasts seats)

@@ -38,8 +38,8 @@ module _ {E : Type 0} where
   kept_seat number crew log (past ∷ pasts) has all = ⊎_elim (λ is. ap crew.seat (sym is) ∙ all.0.seated) (λ others. kept_seat number crew log pasts others all.1) has
 
   -- the first place is the maker's, and the table lies on its desk
-  pub begins : (limit turns count : ℕ) (table : TableView E) → limit < 2 ^ 64 → count ≡ length table.history → Keeps (opening (0 ∷ 0 ∷ count ∷ []) (Some table ∷ []) (maker limit 0 turns table.history))
-  begins limit turns count table small count_is =
+  pub begins : (limit turns : ℕ) (table : TableView E) → limit < 2 ^ 64 → Keeps (opening (0 ∷ 0 ∷ []) (Some table ∷ []) (maker limit 0 turns table.history))
+  begins limit turns table small =
       let v : Doing E = maker limit 0 turns table.history in
       let L : Ledger E = record { limit = limit; queue = record { drawn = 0; served = 0; who = λ _. 0 }; crew = record { made = 0; base = 0; seat = λ _. 0 }; turned = record { opening = table.history; log = [] }; out = false } in
       let here : Fits L 0 v = record {
@@ -51,7 +51,7 @@ module _ {E : Type 0} where
       let all : Each (Fits L) ([] ++ v ∷ []) = each_after_push (Fits L) [] v (each_of_none (Fits L)) here in
       record {
         ledger = L;
-        words = ap (λ (n : ℕ). 0 ∷ 0 ∷ n ∷ []) (let e : count ≡ length table.history + 0 = omega arith in e);
+        words = refl;
         small = small;
         few = omega arith;
         tickets = omega arith;
@@ -62,10 +62,10 @@ module _ {E : Type 0} where
       }
 
   -- the same, of a table that was put on the desk, and of the history that the first place is told
-  pub begins_with : (limit turns count : ℕ) (table : TableView E) (desks : List (Desk E)) (history : List (Entry E)) → limit < 2 ^ 64 → count ≡ length table.history → desks ≡ Some table ∷ [] → history ≡ table.history
-      → Keeps (opening (0 ∷ 0 ∷ count ∷ []) desks (maker limit 0 turns history))
-  begins_with limit turns count table desks history small count_is desks_are history_is =
-      subst (λ (y : List (Desk E) × List (Entry E)). Keeps (opening (0 ∷ 0 ∷ count ∷ []) y.0 (maker limit 0 turns y.1))) (λ i. (sym desks_are i, sym history_is i)) (begins limit turns count table small count_is)
+  pub begins_with : (limit turns : ℕ) (table : TableView E) (desks : List (Desk E)) (history : List (Entry E)) → limit < 2 ^ 64 → desks ≡ Some table ∷ [] → history ≡ table.history
+      → Keeps (opening (0 ∷ 0 ∷ []) desks (maker limit 0 turns history))
+  begins_with limit turns table desks history small desks_are history_is =
+      subst (λ (y : List (Desk E) × List (Entry E)). Keeps (opening (0 ∷ 0 ∷ []) y.0 (maker limit 0 turns y.1))) (λ i. (sym desks_are i, sym history_is i)) (begins limit turns table small)
 
   -- the maker may make a seat, and give it its turns
   pub makes : (place : ℕ) (v : Doing E) → v.makes ≡ true → v.turns ≤ v.budget → Splits Keeps place v (gave v) (newcomer v.turns v.made v.opening)

@@ -63,14 +63,13 @@ module _ {E : Type 0} where
         seat = fits.seat;
         base = fits.base;
       } in stays in
-      let count : ℕ = length L.turned.opening + length L.turned.log in
       let found : slice_index s.words 0 ≡ ticket = ap (λ (ws : List ℕ). slice_index ws 0) h.words in (
         w,
         keeps,
         tt,
         record {
           ledger = now;
-          words = ap (λ (ws : List ℕ). slice_set ws 0 ((slice_index ws 0 + 1) % 2 ^ 64)) h.words ∙ ap (λ (n : ℕ). n ∷ L.queue.served ∷ count ∷ []) (mod-eq_of_lt fits64);
+          words = ap (λ (ws : List ℕ). slice_set ws 0 ((slice_index ws 0 + 1) % 2 ^ 64)) h.words ∙ ap (λ (n : ℕ). n ∷ L.queue.served ∷ []) (mod-eq_of_lt fits64);
           small = h.small;
           few = omega arith;
           tickets = omega arith;

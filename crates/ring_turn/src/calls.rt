@@ -1,19 +1,44 @@
-//! The calls through a seat: each is one turn.
+//! The calls through a seat: each is one turn, or one of several in a turn of a seat that keeps the table.
 ghost use Rattle.std.specs.Prelude.{◌≡◌, map};
-ghost use Rattle.ring_turn.specs.Calls.{Called, Begun, Reported};
+ghost use Rattle.ring_turn.specs.Calls.{Begun, Called, Reported};
 ghost use Rattle.ring_turn.specs.Seats.{IsSameSeat};
 
 use crate::lock::TurnLock;
 use crate::seat::Seat;
+use crate::turn::put_back;
 use ring_election::RingElection;
-use ring_events::{Command, Reply};
+use ring_events::Command;
 use ring_id::{GroupName, Refusal};
 use ring_node::{Charter, Report};
 use ring_table::{Answer, Filed, is_refused, is_starved};
 use std::sync::{Arc, Wait};
 
 impl<E: RingElection> TurnLock<E> {
-    /// A command of a session, in one turn of the seat, which is one of this lock.
+    /// Has the seat, which is one of this lock, keep the table from its next call on until it rests: that call
+    /// begins a turn, those after it find the table in it, and those through other seats wait.
+    ///
+    /// Nothing else changes. Who calls through a seat that keeps the table must not wait for calls through
+    /// other seats before it rests.
+    pub fn keep(&self, seat: &mut Seat<E>)
+        requires { seat.old.lock ≡ self.now.id }
+        ensures { seat.new ≡ seat.old }
+    {
+        seat.keeps = true;
+    }
+
+    /// Has the seat, which is one of this lock, keep the table no more: a turn that is open ends. Nothing else
+    /// changes.
+    pub fn rest(&self, seat: &mut Seat<E>)
+        requires { seat.old.lock ≡ self.now.id }
+        ensures { seat.new ≡ seat.old }
+    {
+        seat.keeps = false;
+        let hand = seat.hand.take();
+        put_back(&self.board, &mut seat.place, hand);
+    }
+
+    /// A command of a session, in one turn of the seat, which is one of this lock, or in the turn that is open
+    /// because the seat keeps the table.
     ///
     /// `Placed` says the reply, and the place of the call in the history: the number of entries up to and
     /// with it. `Unplaced` adds no entry: by `NoMemory` where the table was refused memory, which uses a
@@ -34,18 +59,19 @@ impl<E: RingElection> TurnLock<E> {
             return Answer::Unplaced(Refusal::SeatSpent);
         }
         seat.left -= 1;
-        let mut table = self.enter(rt, &mut seat.place);
+        let hand = seat.hand.take();
+        let mut table = self.reach(rt, &mut seat.place, hand);
         let reply = table.call(session, command);
+        let place = table.entries();
+        seat.hand = self.part(&mut seat.place, table, seat.keeps);
         if is_starved(&reply) {
-            self.leave(&mut seat.place, table);
             return Answer::Unplaced(Refusal::NoMemory);
         }
-        let place = self.settle(&mut seat.place, table);
         Answer::Placed { reply, place }
     }
 
-    /// A start, in one turn of the seat, which is one of this lock, with so many copies of the charter of
-    /// the term that it started. Where none was started there are none. The answer is that of `call`.
+    /// A start, in a turn as that of `call`, with so many copies of the charter of the term that it started.
+    /// Where none was started there are none. The answer is that of `call`.
     pub fn begin<R: Wait>(
         &self,
         rt: &R,
@@ -62,17 +88,18 @@ impl<E: RingElection> TurnLock<E> {
             return (Answer::Unplaced(Refusal::SeatSpent), Vec::new(self.alloc));
         }
         seat.left -= 1;
-        let mut table = self.enter(rt, &mut seat.place);
+        let hand = seat.hand.take();
+        let mut table = self.reach(rt, &mut seat.place, hand);
         let (reply, charters) = table.begin(session, group, copies);
+        let place = table.entries();
+        seat.hand = self.part(&mut seat.place, table, seat.keeps);
         if is_starved(&reply) {
-            self.leave(&mut seat.place, table);
             return (Answer::Unplaced(Refusal::NoMemory), charters);
         }
-        let place = self.settle(&mut seat.place, table);
         (Answer::Placed { reply, place }, charters)
     }
 
-    /// The filing of a report, in one turn of the seat, which is one of this lock.
+    /// The filing of a report, in a turn as that of `call`.
     ///
     /// What the book makes of the report is the answer, and one entry. `Refused` adds no entry, by the
     /// same two refusals as `call`, and leaves the seat as `call` does.
@@ -85,13 +112,11 @@ impl<E: RingElection> TurnLock<E> {
             return Filed::Refused(Refusal::SeatSpent);
         }
         seat.left -= 1;
-        let mut table = self.enter(rt, &mut seat.place);
+        let hand = seat.hand.take();
+        let mut table = self.reach(rt, &mut seat.place, hand);
         let filed = table.report(report);
-        if is_refused(&filed) {
-            self.leave(&mut seat.place, table);
-            return filed;
-        }
-        self.settle(&mut seat.place, table);
+        let _ = table.entries();
+        seat.hand = self.part(&mut seat.place, table, seat.keeps);
         filed
     }
 }

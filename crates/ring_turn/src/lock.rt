@@ -7,6 +7,7 @@ ghost use Rattle.ring_turn.specs.private.Seats.{IsOpened};
 use crate::held::HeldTable;
 use crate::rule::{Board, DESK, Joins, Makes, Place, Start};
 use crate::seat::Seat;
+use crate::turn::put_back;
 use ring_election::RingElection;
 use ring_id::NoMemory;
 use ring_table::Table;
@@ -65,7 +66,12 @@ impl<E: RingElection> TurnLock<E> {
         };
         for _ in 0..seats {
             let place = board.shared.split_seat::<Makes>(&mut maker);
-            all.push_reserved(Seat { place, left: turns });
+            all.push_reserved(Seat {
+                place,
+                left: turns,
+                keeps: false,
+                hand: None,
+            });
         }
         let lock = TurnLock {
             alloc,
@@ -94,7 +100,13 @@ impl<E: RingElection> TurnLock<E> {
         } = self;
         let mut rest = seats;
         while let Some(seat) = rest.pop() {
-            let Seat { place, left: _ } = seat;
+            let Seat {
+                mut place,
+                left: _,
+                keeps: _,
+                hand,
+            } = seat;
+            put_back(&board, &mut place, hand);
             board.shared.join_seat::<Joins>(&mut maker, place);
         }
         let mut closed = board.close_with(maker);
@@ -123,13 +135,12 @@ fn open<E: RingElection>(
         turns,
         table: Snapshot::of(&table),
     };
-    let entries = table.history().len() as u64;
     let table = HeldTable::new(alloc, table)?;
     let Ok(mut desks) = Vec::with_capacity(alloc, 1) else {
         return Err(NoMemory);
     };
     desks.push_reserved(Some(table));
-    match Board::new(alloc, &[0, 0, entries], desks, &start) {
+    match Board::new(alloc, &[0, 0], desks, &start) {
         Ok(made) => Ok(made),
         Err(_) => Err(NoMemory),
     }

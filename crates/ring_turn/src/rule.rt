@@ -8,12 +8,10 @@ use ring_table::Table;
 use std::alloc::Global;
 use std::snapshot::Snapshot;
 
-// The words: tickets drawn, tickets served, entries counted. And the one slot.
+// The words: tickets drawn, tickets served. And the one slot.
 pub(crate) const DRAWN: usize = 0;
 
 pub(crate) const SERVED: usize = 1;
-
-pub(crate) const ENTRIES: usize = 2;
 
 pub(crate) const DESK: usize = 0;
 
@@ -61,16 +59,7 @@ impl<E: RingElection> Play<Option<HeldTable<E>>, Doing<E>> for Looks {
     ghost then = { IsLook };
 }
 
-// A seat counts its entry.
-pub struct Counts;
-
-impl<E: RingElection> Play<Option<HeldTable<E>>, Doing<E>> for Counts {
-    ghost use Rattle.ring_turn.specs.private.Steps.{Counts as IsCount};
-
-    ghost then = { IsCount };
-}
-
-// A seat gives the desk back, and serves the next.
+// A seat gives the desk back with the entries that it added, and serves the next.
 pub struct Serves;
 
 impl<E: RingElection> Play<Option<HeldTable<E>>, Doing<E>> for Serves {

@@ -1,6 +1,7 @@
 //! The seats of a turn lock.
 ghost use Rattle.std.specs.Prelude.{◌≡◌, IsTrue, ◌↔◌};
 
+use crate::held::HeldTable;
 use crate::rule::Place;
 use ring_election::RingElection;
 use std::marker::Model;
@@ -9,22 +10,26 @@ use std::marker::Model;
 ///
 /// Contracts see its lock, its number there, how many turns it has left, the history that the lock was
 /// opened with, the turns that it has seen, and its own entries, in order. It has no bytes but its count
-/// of turns: what it has seen is for proofs.
+/// of turns and the table, while it keeps it: what it has seen is for proofs.
 #[derive(Drop)]
 pub struct Seat<E: RingElection> {
     pub(crate) place: Place<E>,
     pub(crate) left: u64,
+    // whether the seat keeps the table over its calls
+    pub(crate) keeps: bool,
+    // the table, while a turn is open between two calls
+    pub(crate) hand: Option<HeldTable<E>>,
 }
 
 impl<E: RingElection> Model for Seat<E> {
     ghost use Rattle.ring_turn.specs.Seats.{SeatView, seat_of};
-    ghost use Rattle.ring_turn.specs.private.Seats.{IsIdle};
+    ghost use Rattle.ring_turn.specs.private.Seats.{IsSeated, with_hand};
 
     ghost Value = { SeatView E };
 
-    ghost view = { λ seat. seat_of seat.place.table_id seat.left seat.place.me.0 };
+    ghost view = { λ seat. seat_of seat.place.table_id seat.left (with_hand seat.hand seat.place.me.0) };
 
-    ghost invariant = { λ seat. IsIdle seat.left seat.place.me };
+    ghost invariant = { λ seat. IsSeated seat.left seat.hand seat.place.me };
 }
 
 impl<E: RingElection> Seat<E> {

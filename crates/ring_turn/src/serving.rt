@@ -23,6 +23,20 @@ impl<E: RingElection> Access<E> for TurnLock<E> {
         Some(TurnLock::queue(self, rt))
     }
 
+    fn keep(&self, seat: &mut Seat<E>)
+        requires { seat.old.lock ≡ self.now.id }
+        ensures { seat.new ≡ seat.old }
+    {
+        TurnLock::keep(self, seat);
+    }
+
+    fn rest(&self, seat: &mut Seat<E>)
+        requires { seat.old.lock ≡ self.now.id }
+        ensures { seat.new ≡ seat.old }
+    {
+        TurnLock::rest(self, seat);
+    }
+
     fn call<R: Wait>(&self, rt: &R, seat: &mut Seat<E>, session: u32, command: Command<E>) -> Answer
         requires { seat.old.lock ≡ self.now.id }
         ensures seat { seat.new.lock ≡ self.now.id }

@@ -1,14 +1,14 @@
-//! One turn of a seat: it draws a ticket, waits, takes the table, and ends the turn with an entry or
-//! without.
-ghost use Rattle.std.specs.Prelude.{◌≡◌, ◌<◌, true, length, [], ◌∷◌, ◌++◌, IsSomeAnd, IfSome};
-ghost use Rattle.ring_table.specs.declared.entry.Entry.{Entry};
+//! One turn of a seat: it draws a ticket, waits and takes the table, and ends the turn with the entries that
+//! were added to it.
+ghost use Rattle.std.specs.Prelude.{◌≡◌, ◌<◌, ℕ, true, []};
+ghost use Rattle.ring_turn.specs.Seats.{seat_of};
 ghost use Rattle.ring_turn.specs.declared.view.Stage.TheVariants as stage;
-ghost use Rattle.ring_turn.specs.Turns.{entries};
-ghost use Rattle.ring_turn.specs.private.Steps.{counted, served, Entered, IsInside, HasOneMore, HasTurn, Settled};
+ghost use Rattle.ring_turn.specs.private.Seats.{IsHanded, IsIdle, IsOpen, Parts, Reaches, with_hand};
+ghost use Rattle.ring_turn.specs.private.Steps.{Entered, HasTurn, gave_back};
 
 use crate::held::HeldTable;
 use crate::lock::TurnLock;
-use crate::rule::{Counts, DESK, DRAWN, Desk, Draws, ENTRIES, Looks, Place, SERVED, Serves};
+use crate::rule::{Board, DESK, DRAWN, Draws, Looks, Place, SERVED, Serves};
 use ring_election::RingElection;
 use std::sync::Wait;
 use std::{hint, thread};
@@ -55,47 +55,76 @@ impl<E: RingElection> TurnLock<E> {
         unreachable!()
     }
 
-    // Ends a turn with the one entry that the table has more than the seat has seen. The answer is the
-    // place of that entry.
-    pub(crate) fn settle(&self, place: &mut Place<E>, table: HeldTable<E>) -> usize
+    // The table: what the seat keeps in its hand, or by a turn that begins here.
+    pub(crate) fn reach<R: Wait>(
+        &self,
+        rt: &R,
+        place: &mut Place<E>,
+        hand: Option<HeldTable<E>>,
+    ) -> HeldTable<E>
         requires here { place.old.table_id ≡ self.now.id }
-        requires inside { IsInside place.old.me }
-        requires one { HasOneMore place.old.me table }
+        requires seat { IsHanded hand place.old.me }
+        requires turn { 0 < place.old.me.0.budget }
         ensures here { place.new.table_id ≡ place.old.table_id }
-        ensures settled { Settled E.is_two_way E.is_greatest place.old.me table result place.new.me }
+        ensures reached { Reaches hand place.old.me result place.new.me }
     {
-        let at = table.entries();
-        let held = Some(table);
-        self.count(place, &held, at as u64);
-        let Some(table) = held else { unreachable!() };
-        self.leave(place, table);
-        at
+        match hand {
+            Some(table) => table,
+            None => self.enter(rt, place),
+        }
     }
 
-    // Counts the entry that the table in hand has more.
-    fn count(&self, place: &mut Place<E>, held: &Desk<E>, after: u64)
+    // What the seat keeps in its hand of the table after a call: the table, or nothing, by a turn that ends
+    // here.
+    pub(crate) fn part(
+        &self,
+        place: &mut Place<E>,
+        table: HeldTable<E>,
+        keeps: bool,
+    ) -> Option<HeldTable<E>>
         requires here { place.old.table_id ≡ self.now.id }
-        requires inside { IsInside place.old.me }
-        requires one { IsSomeAnd held.now (λ table. HasOneMore place.old.me table × (after ≡ length table.history)) }
+        requires ready { IsOpen table place.old.me }
         ensures here { place.new.table_id ≡ place.old.table_id }
-        ensures counted { IfSome held.now (λ table. (entry : Entry E) → table.history ≡ (place.old.me.0.opening ++ entries place.old.me.0.seen) ++ entry ∷ [] → place.new.me ≡ (counted entry place.old.me.0, place.old.me.1)) }
+        ensures parted { Parts table place.old.me result place.new.me }
     {
-        self.board
-            .shared
-            .compare_exchange_with::<Counts>(place, ENTRIES, after - 1, after, held);
+        let hand = Some(table);
+        if keeps {
+            return hand;
+        }
+        put_back(&self.board, place, hand);
+        None
     }
+}
 
-    // Puts the table back, which has no entry that isn't counted, and serves the next ticket.
-    pub(crate) fn leave(&self, place: &mut Place<E>, table: HeldTable<E>)
-        requires here { place.old.table_id ≡ self.now.id }
-        requires inside { IsInside place.old.me }
-        requires whole { table.history ≡ place.old.me.0.opening ++ entries place.old.me.0.seen }
-        ensures here { place.new.table_id ≡ place.old.table_id }
-        ensures served { place.new.me ≡ (served place.old.me.0, []) }
-    {
-        let None = self.board.shared.exchange(place, DESK, Some(table)) else {
-            unreachable!()
-        };
-        self.board.shared.fetch_add::<Serves>(place, SERVED, 1);
+// Ends the turn of a seat that keeps the table in its hand, if it does.
+pub(crate) fn put_back<E: RingElection>(
+    board: &Board<E>,
+    place: &mut Place<E>,
+    hand: Option<HeldTable<E>>,
+)
+    requires words { board.now.shared.table_id.words ≡ 2 }
+    requires here { place.old.table_id ≡ board.now.shared.table_id }
+    requires seat { IsHanded hand place.old.me }
+    ensures here { place.new.table_id ≡ place.old.table_id }
+    ensures idle { IsIdle place.new.me }
+    ensures budget { place.new.me.0.budget ≡ place.old.me.0.budget }
+    ensures same { (left : ℕ) → seat_of place.new.table_id left place.new.me.0 ≡ seat_of place.old.table_id left (with_hand hand place.old.me.0) }
+{
+    if let Some(table) = hand {
+        leave(board, place, table);
     }
+}
+
+// Puts the table back, with the entries that the seat added, and serves the next ticket.
+fn leave<E: RingElection>(board: &Board<E>, place: &mut Place<E>, table: HeldTable<E>)
+    requires words { board.now.shared.table_id.words ≡ 2 }
+    requires here { place.old.table_id ≡ board.now.shared.table_id }
+    requires ready { IsOpen table place.old.me }
+    ensures here { place.new.table_id ≡ place.old.table_id }
+    ensures left { place.new.me ≡ (gave_back table place.old.me.0, []) }
+{
+    let None = board.shared.exchange(place, DESK, Some(table)) else {
+        unreachable!()
+    };
+    board.shared.fetch_add::<Serves>(place, SERVED, 1);
 }

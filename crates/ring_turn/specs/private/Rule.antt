@@ -1,5 +1,5 @@
--- The rule of the table under a turn lock. Its words are the tickets drawn, the tickets served and the
--- entries counted; its one slot is the desk on which the service's table lies.
+-- The rule of the table under a turn lock. Its words are the tickets drawn and the tickets served; its one
+-- slot is the desk on which the service's table lies.
 use Rattle.std.specs.Prelude.{◌≡◌, ℕ, ◌+◌, ◌^◌, ◌<◌, ◌≤◌, Bool, true, false, List, [], ◌∷◌, ◌++◌, length, Option, Some}
 use mathlib.Core.Option.{Option as Slot, some, none}
 use lib.ListN.{get_elem?}
@@ -147,8 +147,8 @@ module _ {E : Type 0} where
   -- The rule, each line with what it is for:
   pub record Keeps (s : State (Desk E) (Doing E)) : Type 0 where
     pub ledger : Ledger E
-    -- a look at a word tells how far the queue and the history are
-    pub words : s.words ≡ ledger.queue.drawn ∷ ledger.queue.served ∷ (length ledger.turned.opening + length ledger.turned.log) ∷ []
+    -- a look at a word tells how far the queue is
+    pub words : s.words ≡ ledger.queue.drawn ∷ ledger.queue.served ∷ []
     -- no word wraps round: each ticket drawn was one of the turns that there are
     pub small : ledger.limit < 2 ^ 64
     pub few : ledger.queue.drawn + budgets s.views ≤ ledger.limit

@@ -1,14 +1,12 @@
 -- The steps under the rule of a turn lock: what a place knows after each, and what each tells.
-use Rattle.std.specs.Prelude.{◌≡◌, ℕ, ◌+◌, ◌-◌, Bool, true, false, List, [], ◌∷◌, ◌++◌, length, Option, Some, None}
-use mathlib.Core.Option.{Option as Slot, some, none}
+use Rattle.std.specs.Prelude.{◌≡◌, ℕ, ◌+◌, ◌-◌, true, false, List, [], ◌∷◌, ◌++◌, Some, None}
 use Rattle.atomic_table.specs.Table.{Me, Step, rest}
-use Rattle.ring_table.specs.Histories.{IsLegal}
 use Rattle.ring_table.specs.Tables.{TableView}
 use Rattle.ring_table.specs.declared.entry.Entry.{Entry}
 use Rattle.ring_turn.specs.declared.view.Doing.{Doing}
 use Rattle.ring_turn.specs.declared.view.Past.{Past}
 use Rattle.ring_turn.specs.declared.view.Stage.TheVariants.{Idle, Waits, Holds}
-use Rattle.ring_turn.specs.Turns.{entries, made_by, StartsWith}
+use Rattle.ring_turn.specs.Turns.{entries, made_by, turns_by, StartsWith}
 use Rattle.ring_turn.specs.private.Rule.{Desk}
 
 module _ {E : Type 0} where
@@ -32,13 +30,27 @@ module _ {E : Type 0} where
   abbrev pub took : ℕ → List (ℕ × Entry E) → Doing E → Doing E
   took ticket log v = record v { stage = Holds ticket; seen = log }
 
-  -- a seat that counted its entry
-  abbrev pub counted : Entry E → Doing E → Doing E
-  counted entry v = record v { seen = v.seen ++ (v.number, entry) ∷ []; mine = v.mine ++ entry ∷ [] }
+  -- the history as far as the seat has seen it
+  abbrev pub known : Doing E → List (Entry E)
+  known v = v.opening ++ entries v.seen
+
+  -- what stands in the second list behind as many entries as the first has
+  abbrev pub beyond : List (Entry E) → List (Entry E) → List (Entry E)
+  beyond [] history = history
+  beyond (entry ∷ entries) [] = []
+  beyond (entry ∷ entries) (first ∷ history) = beyond entries history
+
+  -- a seat that added these entries
+  abbrev pub gained : List (Entry E) → Doing E → Doing E
+  gained new v = record v { seen = v.seen ++ turns_by v.number new; mine = v.mine ++ new }
 
   -- a seat that gave the desk back and served the next
   abbrev pub served : Doing E → Doing E
   served v = record v { stage = Idle }
+
+  -- a seat that gave the desk back, with the entries that this table has and the seat hasn't seen
+  abbrev pub gave_back : TableView E → Doing E → Doing E
+  gave_back table v = served (gained (beyond (known v) table.history) v)
 
   -- the maker when it made one seat more
   abbrev pub gave : Doing E → Doing E
@@ -51,12 +63,6 @@ module _ {E : Type 0} where
   -- the maker when a seat was joined to it
   abbrev pub joined : Doing E → Doing E → Doing E
   joined v w = record v { kept = past_of w ∷ v.kept }
-
-  -- the history of the table that a step announces
-  abbrev pub announced : Slot (Desk E) → List (Entry E)
-  announced none = []
-  announced (some None) = []
-  announced (some (Some table)) = table.history
 
   -- a draw tells its ticket
   abbrev pub Draws : Step (Desk E) → Me (Desk E) (Doing E) → ℕ → Me (Desk E) (Doing E) → Type 0
@@ -78,13 +84,9 @@ module _ {E : Type 0} where
     pub turn : me.0.stage ≡ Waits found → HasTurn me now
     pub not_yet : (me.0.stage ≡ Waits found → ⊥) → now ≡ me
 
-  -- a count tells that the one entry that the announced table has more is this place's
-  abbrev pub Counts : Step (Desk E) → Me (Desk E) (Doing E) → ℕ → Me (Desk E) (Doing E) → Type 0
-  Counts step me found now = (entry : Entry E) → announced step.said ≡ (me.0.opening ++ entries me.0.seen) ++ entry ∷ [] → now ≡ (counted entry me.0, me.1)
-
-  -- who serves gives the desk back
+  -- who serves gives the desk back, with the table that it put there
   abbrev pub Serves : Step (Desk E) → Me (Desk E) (Doing E) → ℕ → Me (Desk E) (Doing E) → Type 0
-  Serves step me found now = now ≡ (served me.0, rest me.1)
+  Serves step me found now = (table : TableView E) → me.1 ≡ (0, Some table) ∷ rest me.1 → now ≡ (gave_back table me.0, rest me.1)
 
   -- A turn that was begun: the table is in hand, with all the turns so far.
   pub record Entered (me : Me (Desk E) (Doing E)) (table : TableView E) (now : Me (Desk E) (Doing E)) : Type 0 where
@@ -100,14 +102,3 @@ module _ {E : Type 0} where
     pub ticket : ℕ
     pub stage : me.0.stage ≡ Holds ticket
     pub hand : me.1 ≡ (0, None) ∷ []
-
-  -- the table has one entry more than the seat has seen
-  pub record HasOneMore (me : Me (Desk E) (Doing E)) (table : TableView E) : Type 0 where
-    pub entry : Entry E
-    pub added : table.history ≡ (me.0.opening ++ entries me.0.seen) ++ entry ∷ []
-
-  -- A turn that was ended with one entry: it is the seat's, the last one, and the history is legal.
-  pub record Settled (two_way greatest : E → Bool) (me : Me (Desk E) (Doing E)) (table : TableView E) (place : ℕ) (now : Me (Desk E) (Doing E)) : Type 0 where
-    pub is : (entry : Entry E) → table.history ≡ (me.0.opening ++ entries me.0.seen) ++ entry ∷ [] → now ≡ (served (counted entry me.0), [])
-    pub at : place ≡ length table.history
-    pub legal : IsLegal two_way greatest table.history table.book

@@ -23,4 +23,4 @@ loop-question-preserved g c = record {
 }
 
 pub returns-clause-answered : goal.returns-clause-answered
-returns-clause-answered g c = rw (take_all c.loop-question.question-index c.args.asked.now c.loop-question-test.false) at c.loop-question.invariant.answered
+returns-clause-answered g c = rw (c.rest.ensures, ← take_all c.loop-question.question-index c.args.asked.now c.loop-question-test.false) c.loop-question.invariant.answered

@@ -1,50 +1,46 @@
-use Rattle.std.proofs.Common.{◌-◌, ◌<◌, true≢false, map, refl, sym, ◌∙◌, subst, inl, arith}
+use Rattle.std.proofs.Common.{◌-◌, ◌<◌, true≢false, map, ap, refl, sym, ◌∙◌, subst, inl, arith}
 use Rattle.ring_events.specs.declared.event.Command.TheVariants.{Start}
 use Rattle.ring_table.specs.Tables.{GivesCharters}
 use Rattle.ring_table.specs.declared.entry.Entry.TheVariants.{Call}
-use Rattle.ring_table.proofs.Outcomes.{was_called}
-use Rattle.ring_turn.specs.Calls.{Turns}
+use Rattle.ring_table.proofs.Outcomes.{was_called, was_starved}
+use Rattle.ring_turn.specs.Calls.{Passes, Turns}
 use Rattle.ring_turn.specs.Seats.{seat_of}
-use Rattle.ring_turn.proofs.Calling.{entered_inside, entered_one, passed_seat, same_after_turn, turned_idle, turned_seat}
+use Rattle.ring_turn.specs.private.Seats.{IsHanded, IsSeated, with_hand}
+use Rattle.ring_turn.proofs.Calling.{open_after_call, passed_seat, same_after_pass, same_after_turn, seated_after, turned_seat}
 use Rattle.ring_turn.proofs.lock.TurnLock.begin.Given.{Over}
 use Rattle.ring_turn.proofs.lock.TurnLock.begin.Goals as goal
-use Rattle.ring_turn.proofs.lock.TurnLock.begin.Goals.{After-settle-place}
+use Rattle.ring_turn.proofs.lock.TurnLock.begin.Goals.{Else-is_starved, Joined-reply}
 
-pub leave-requires-clause-inside : goal.leave-requires-clause-inside
-leave-requires-clause-inside g c = entered_inside _ _ _ c.enter-table.ensures.entered
-
-pub returns-then-is_starved-clause-begun : goal.returns-then-is_starved-clause-begun
-returns-then-is_starved-clause-begun g c =
-    let some : 0 < c.seat.inside.left = omega (arith, c.if-seat-eq0.false) in (
-      subst (λ reply. GivesCharters c.args.group c.args.copies reply (map (λ charter. charter.value) c.begin-reply.result.1.items) c.begin-reply.new.self.book) (c.if-is_starved.ensures.0 refl) c.begin-reply.ensures.charters,
-      inl (
-        refl,
-        passed_seat c.seat.inside.place.table_id c.leave.new.place.table_id c.seat.inside.left c.seat.inside.place.me c.enter-table.new.place.me c.leave.new.place.me c.enter-table.result c.args.seat.now
-            c.seat.view_is some c.enter-table.ensures.entered (c.leave.ensures.here ∙ c.enter-table.ensures.here) c.leave.ensures.served,
-      ),
-    )
-
-pub settle-place-requires-clause-inside : goal.settle-place-requires-clause-inside
-settle-place-requires-clause-inside g c = entered_inside _ _ _ c.enter-table.ensures.entered
-
-pub settle-place-requires-clause-one : goal.settle-place-requires-clause-one
-settle-place-requires-clause-one g c = entered_one _ _ _ _ _ c.enter-table.ensures.entered (was_called _ _ _ _ _ _ _ c.begin-reply.ensures.called (λ is. true≢false (sym (c.if-is_starved.ensures.1 is)))).added
-
-pub invariant_of-seat-2 : goal.invariant_of-seat-2
-invariant_of-seat-2 g c =
-    let made = (was_called _ _ _ _ _ _ _ c.begin-reply.ensures.called (λ is. true≢false (sym (c.if-is_starved.ensures.1 is)))) in
-    turned_idle _ _ _ _ _ _ _ _ _ _ c.seat.invariant c.enter-table.ensures.entered made.added c.settle-place.ensures.settled
+pub part-requires-clause-ready : goal.part-requires-clause-ready
+part-requires-clause-ready g c = open_after_call _ _ _ _ _ _ _ _ c.begin-reply.ensures.called c.reach-table.ensures.reached.ready
 
 -- the turn that was made
-turn : (g : Over) (c : After-settle-place g) → Turns g.E.RingElection.is_two_way g.E.RingElection.is_greatest c.args.seat.now (Call c.args.session (Start c.args.group) c.begin-reply.result.0) c.settle-place.result c.begin-reply.new.self.book (seat_of c.settle-place.new.place.table_id (c.seat.inside.left - 1) c.settle-place.new.place.me.0)
+turn : (g : Over) (c : Else-is_starved g) → Turns g.E.RingElection.is_two_way g.E.RingElection.is_greatest c.args.seat.now (Call c.args.session (Start c.args.group) c.begin-reply.result.0) c.entries-place.result c.begin-reply.new.self.book (seat_of c.part.new.place.table_id (c.seat.inside.left - 1) (with_hand c.part.result c.part.new.place.me.0))
 turn g c =
     let some : 0 < c.seat.inside.left = omega (arith, c.if-seat-eq0.false) in
-    let made = (was_called _ _ _ _ _ _ _ c.begin-reply.ensures.called (λ is. true≢false (sym (c.if-is_starved.ensures.1 is)))) in
-    turned_seat _ _ c.seat.inside.place.table_id c.settle-place.new.place.table_id c.seat.inside.left c.seat.inside.place.me c.enter-table.new.place.me c.settle-place.new.place.me c.enter-table.result c.begin-reply.new.self _ _ c.args.seat.now
-    c.seat.view_is some c.enter-table.ensures.entered made.added c.settle-place.ensures.settled (c.settle-place.ensures.here ∙ c.enter-table.ensures.here)
+    let made = was_called _ _ _ _ _ _ _ c.begin-reply.ensures.called (λ is. true≢false (sym (c.if-is_starved.ensures.1 is))) in
+    turned_seat _ _ c.seat.inside.place.table_id c.part.new.place.table_id c.seat.inside.left c.take-hand.result c.part.result c.seat.inside.place.me c.reach-table.new.place.me c.part.new.place.me c.reach-table.result c.begin-reply.new.self _ _ c.args.seat.now
+    (ap (λ hand. seat_of c.seat.inside.place.table_id c.seat.inside.left (with_hand hand c.seat.inside.place.me.0)) c.take-hand.ensures.value ∙ c.seat.view_is) some c.reach-table.ensures.reached made.added c.part.ensures.parted (c.part.ensures.here ∙ c.reach-table.ensures.here) c.entries-place.ensures.many c.entries-place.ensures.legal
+
+-- the turn without an entry
+pass : (g : Over) (c : Joined-reply g) → Passes c.args.seat.now (seat_of c.part.new.place.table_id (c.seat.inside.left - 1) (with_hand c.part.result c.part.new.place.me.0))
+pass g c =
+    let some : 0 < c.seat.inside.left = omega (arith, c.if-seat-eq0.false) in
+    let lost = was_starved _ _ _ _ _ _ _ c.begin-reply.ensures.called (c.if-is_starved.ensures.0 refl) in
+    passed_seat c.seat.inside.place.table_id c.part.new.place.table_id c.seat.inside.left c.take-hand.result c.part.result c.seat.inside.place.me c.reach-table.new.place.me c.part.new.place.me c.reach-table.result c.begin-reply.new.self c.args.seat.now
+    (ap (λ hand. seat_of c.seat.inside.place.table_id c.seat.inside.left (with_hand hand c.seat.inside.place.me.0)) c.take-hand.ensures.value ∙ c.seat.view_is) some c.reach-table.ensures.reached lost.same c.part.ensures.parted (c.part.ensures.here ∙ c.reach-table.ensures.here)
+
+pub returns-then-is_starved-clause-same : goal.returns-then-is_starved-clause-same
+returns-then-is_starved-clause-same g c = same_after_pass _ _ (pass g c)
+
+pub returns-then-is_starved-clause-begun : goal.returns-then-is_starved-clause-begun
+returns-then-is_starved-clause-begun g c = (
+  subst (λ reply. GivesCharters c.args.group c.args.copies reply (map (λ charter. charter.value) c.begin-reply.result.1.items) c.begin-reply.new.self.book) (c.if-is_starved.ensures.0 refl) c.begin-reply.ensures.charters,
+  inl (refl, pass g c),
+)
 
 pub returns-clause-same : goal.returns-clause-same
-returns-clause-same g c = same_after_turn _ _ _ _ _ (turn g (goal.at.returns-clause-same g c).After-settle-place)
+returns-clause-same g c = same_after_turn _ _ _ _ _ (turn g c)
 
 pub returns-clause-begun : goal.returns-clause-begun
-returns-clause-begun g c = (c.begin-reply.new.self.book, turn g (goal.at.returns-clause-begun g c).After-settle-place, c.begin-reply.ensures.charters)
+returns-clause-begun g c = (c.begin-reply.new.self.book, turn g c, c.begin-reply.ensures.charters)

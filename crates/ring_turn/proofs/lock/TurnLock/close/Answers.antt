@@ -6,18 +6,22 @@ use Rattle.ring_turn.proofs.lock.TurnLock.close.Goals as goal
 pub loop-seat-init : goal.loop-seat-init
 loop-seat-init g c = none_joined _ _ c.self.inside.board.shared.table_id c.self.inside.maker.table_id c.self.inside.maker.me c.self.view_is c.self.invariant
 
+pub put_back-requires-clause-here : goal.put_back-requires-clause-here
+put_back-requires-clause-here g c =
+    ap (λ seat. seat.lock) c.seat.view_is ∙ next_of_lock _ _ _ _ _ _ _ _ c.requires c.loop-seat.invariant c.in-Some.ensures.items ∙ sym (ap (λ lock. lock.id) c.self.view_is)
+
 pub join_seat-requires : goal.join_seat-requires
 join_seat-requires g c = (
   c.loop-seat.invariant.here,
-  ap (λ seat. seat.lock) c.seat.view_is ∙ next_of_lock _ _ _ _ _ _ _ _ c.requires c.loop-seat.invariant c.in-Some.ensures.items ∙ sym (ap (λ lock. lock.id) c.self.view_is),
-  c.seat.invariant.empty,
+  c.put_back.ensures.here ∙ ap (λ seat. seat.lock) c.seat.view_is ∙ next_of_lock _ _ _ _ _ _ _ _ c.requires c.loop-seat.invariant c.in-Some.ensures.items ∙ sym (ap (λ lock. lock.id) c.self.view_is),
+  c.put_back.ensures.idle.empty,
   omega (arith, c.self.invariant.words),
-  joins_seat _ _ _ c.loop-seat.maker.me c.seat.inside.place.me c.loop-seat.invariant.makes c.seat.invariant,
+  joins_seat _ _ c.loop-seat.maker.me c.put_back.new.place.me c.loop-seat.invariant.makes c.put_back.ensures.idle,
 )
 
 pub loop-seat-preserved : goal.loop-seat-preserved
 loop-seat-preserved g c =
-    one_joined _ _ _ _ _ _ _ _ c.seat.inside.place.table_id c.seat.inside.left _ _ c.seat.inside.place.me c.loop-seat.invariant c.in-Some.ensures.items c.seat.view_is c.join_seat.ensures.0 c.join_seat.ensures.2
+    one_joined _ _ _ _ _ _ _ _ c.put_back.new.place.table_id c.seat.inside.left _ _ c.put_back.new.place.me c.loop-seat.invariant c.in-Some.ensures.items (c.put_back.ensures.same c.seat.inside.left ∙ c.seat.view_is) c.join_seat.ensures.0 c.join_seat.ensures.2
 
 pub close_with-closed-requires : goal.close_with-closed-requires
 close_with-closed-requires g c = c.loop-seat.invariant.here

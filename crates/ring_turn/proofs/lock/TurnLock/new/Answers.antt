@@ -1,6 +1,6 @@
 use Rattle.std.proofs.Common.{◌≡◌, ap, ◌∙◌, rules, arith}
 use Rattle.ring_turn.specs.Seats.{fresh_seats}
-use Rattle.ring_turn.proofs.Opening.{fresh_seats_more, made_next, made_seat, maker_ready, makes_next, newcomer_idle}
+use Rattle.ring_turn.proofs.Opening.{fresh_seats_more, made_next, made_seat, maker_ready, makes_next, newcomer_seated}
 use Rattle.ring_turn.proofs.lock.TurnLock.new.Goals as goal
 
 pub split_seat-place-requires : goal.split_seat-place-requires
@@ -11,7 +11,7 @@ split_seat-place-requires g c = (
 )
 
 pub invariant_of-push_reserved : goal.invariant_of-push_reserved
-invariant_of-push_reserved g c = newcomer_idle _ _ _ _ (made_seat _ _ _ _ _ _ c.loop.invariant.knows c.split_seat-place.ensures.4)
+invariant_of-push_reserved g c = newcomer_seated _ _ _ _ (made_seat _ _ _ _ _ _ c.loop.invariant.knows c.split_seat-place.ensures.4)
 
 pub loop-preserved : goal.loop-preserved
 loop-preserved g c = record {
