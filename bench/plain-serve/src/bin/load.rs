@@ -5,18 +5,15 @@
 //! be the leader of the group that is made first, or `echo`, where it has to be the line itself. One line
 //! is printed: the number of replies, and the seconds that they took.
 
-use std::io::{self, Read, Write};
-use std::net::{Ipv4Addr, TcpStream};
+#[path = "../client.rs"]
+mod client;
+
+use client::{Client, Groups, LEADER, MEMBERS};
+use std::io;
 use std::process::ExitCode;
 use std::sync::Barrier;
 use std::thread;
 use std::time::{Duration, Instant};
-
-/// The members of the group are 1 to this number, joined in rising order, so that it leads.
-const MEMBERS: u32 = 16;
-
-/// How long the election may take.
-const PATIENCE: Duration = Duration::from_secs(10);
 
 #[derive(Clone, Copy, PartialEq, Eq)]
 enum Wanted {
@@ -50,34 +47,10 @@ impl Load {
         })
     }
 
-    fn connect(&self) -> io::Result<TcpStream> {
-        let stream = TcpStream::connect((Ipv4Addr::LOCALHOST, self.port))?;
-        stream.set_nodelay(true)?;
-        Ok(stream)
-    }
-
     /// Makes the group, and waits until each member knows that the last one leads.
     fn prepare(&self) -> io::Result<()> {
-        let mut stream = self.connect()?;
-        let mut lines = String::from("create a chang\n");
-        for member in 1..=MEMBERS {
-            lines.push_str(&format!("join a {member}\n"));
-        }
-        lines.push_str("start a\n");
-        let mut replies = "ok\n".repeat(1 + MEMBERS as usize);
-        replies.push_str("term 1\n");
-        expect(&mut stream, lines.as_bytes(), replies.as_bytes())?;
-        let began = Instant::now();
-        for member in 1..=MEMBERS {
-            let line = format!("who a {member}\n");
-            while expect(&mut stream, line.as_bytes(), LEADER).is_err() {
-                if began.elapsed() > PATIENCE {
-                    return Err(io::Error::other("the term wasn't decided"));
-                }
-                stream = self.connect()?;
-            }
-        }
-        Ok(())
+        let mut client = Client::connect(self.port)?;
+        Groups::make(&mut client, &[String::from("a")])?.decide(&mut client)
     }
 
     /// The lines that a connection writes at once, and their replies.
@@ -97,14 +70,14 @@ impl Load {
 
     /// One connection, from the moment when all are there; the answer is how many replies it got.
     fn ask(&self, connection: usize, begin: &Barrier) -> io::Result<usize> {
-        let connected = self.connect();
+        let connected = Client::connect(self.port);
         begin.wait();
-        let mut stream = connected?;
+        let mut client = connected?;
         let (lines, replies) = self.batch(connection);
         let began = Instant::now();
         let mut count = 0;
         while began.elapsed() < self.time {
-            expect(&mut stream, &lines, &replies)?;
+            client.expect(&lines, &replies)?;
             count += self.depth;
         }
         Ok(count)
@@ -130,20 +103,6 @@ impl Load {
             Ok((count, began.elapsed().as_secs_f64()))
         })
     }
-}
-
-/// The reply of every member once the term is decided.
-const LEADER: &[u8] = b"leader 1 16\n";
-
-/// Writes lines, and reads their replies, which have to be these.
-fn expect(stream: &mut TcpStream, lines: &[u8], replies: &[u8]) -> io::Result<()> {
-    stream.write_all(lines)?;
-    let mut got = vec![0; replies.len()];
-    stream.read_exact(&mut got)?;
-    if got == replies {
-        return Ok(());
-    }
-    Err(io::Error::other("another reply than was wanted"))
 }
 
 fn main() -> ExitCode {
