@@ -35,6 +35,16 @@ trait Shared: Drop {
         requires { (number : ℕ) × sits self.now number seat.old }
         ensures { (number : ℕ) → sits self.now number seat.old → sits self.now number seat.new };
 
+    // Has the seat keep the table until it rests.
+    fn keep(&self, seat: &mut Self::Seat)
+        requires { (number : ℕ) × sits self.now number seat.old }
+        ensures { seat.new ≡ seat.old };
+
+    // Has the seat keep the table no more.
+    fn rest(&self, seat: &mut Self::Seat)
+        requires { (number : ℕ) × sits self.now number seat.old }
+        ensures { seat.new ≡ seat.old };
+
     // The table, when all is done. None where memory is refused.
     fn end(self, alloc: Global, seats: (Self::Seat, Self::Seat, Self::Seat)) -> Option<Table<Any>>
         requires three { is_for_three self }
@@ -59,6 +69,20 @@ impl Shared for TurnLock<Any> {
         ensures { (number : ℕ) → (seat.old.lock ≡ self.now.id) × (seat.old.number ≡ number) → (seat.new.lock ≡ self.now.id) × (seat.new.number ≡ number) }
     {
         self.call(rt, seat, session, command)
+    }
+
+    fn keep(&self, seat: &mut Seat<Any>)
+        requires { (number : ℕ) × (seat.old.lock ≡ self.now.id) × (seat.old.number ≡ number) }
+        ensures { seat.new ≡ seat.old }
+    {
+        TurnLock::keep(self, seat);
+    }
+
+    fn rest(&self, seat: &mut Seat<Any>)
+        requires { (number : ℕ) × (seat.old.lock ≡ self.now.id) × (seat.old.number ≡ number) }
+        ensures { seat.new ≡ seat.old }
+    {
+        TurnLock::rest(self, seat);
     }
 
     fn end(self, alloc: Global, seats: (Seat<Any>, Seat<Any>, Seat<Any>)) -> Option<Table<Any>>
@@ -96,7 +120,32 @@ fn join_one<R: Wait, S: Shared>(
     }
 }
 
-// Has a hundred identities from a number on join: the seat, and the places of the calls.
+// Has ten identities from a number on join while the seat keeps the table, and adds the places of the calls: whether
+// each was placed.
+fn join_ten<R: Wait, S: Shared>(
+    rt: &R,
+    table: &S,
+    seat: &mut S::Seat,
+    session: u32,
+    from: u32,
+    places: &mut Vec<usize>,
+) -> bool
+    requires { (number : ℕ) × S.sits table.now number seat.old }
+    ensures { (number : ℕ) → S.sits table.now number seat.old → S.sits table.now number seat.new }
+{
+    table.keep(seat);
+    let mut all = true;
+    for number in from..from.saturating_add(10) {
+        all &= match join_one(rt, table, seat, session, number) {
+            Some(place) => places.push(place).is_ok(),
+            None => false,
+        };
+    }
+    table.rest(seat);
+    all
+}
+
+// Has a hundred identities from a number on join, ten after ten: the seat, and the places of the calls.
 fn join_hundred<R: Wait, S: Shared>(
     rt: &R,
     alloc: Global,
@@ -109,13 +158,11 @@ fn join_hundred<R: Wait, S: Shared>(
 {
     let mut seat = seat;
     let mut places = Vec::new(alloc);
-    for number in from..from.saturating_add(100) {
-        let Some(place) = join_one(rt, table, &mut seat, from, number) else {
+    for ten in 0..10_u32 {
+        let number = from.saturating_add(ten * 10);
+        if !join_ten(rt, table, &mut seat, from, number, &mut places) {
             return (seat, None);
-        };
-        let Ok(()) = places.push(place) else {
-            return (seat, None);
-        };
+        }
     }
     (seat, Some(places))
 }
@@ -135,15 +182,16 @@ fn is_join(entry: Option<&Entry<Any>>, from: u32, number: u32) -> bool {
     *session == from && node.get() == number && matches!(reply.as_kept(), Kept::Done)
 }
 
-// Whether there are a hundred places, which rise, and each has its call.
+// Whether there are a hundred places, which rise, ten and ten of them without a gap, and each has its call.
 fn are_placed(table: &Table<Any>, places: &Option<Vec<usize>>, from: u32) -> bool {
     let Some(places) = places else {
         return false;
     };
-    let (mut last, mut number) = (0, from);
+    let (mut last, mut number) = (0_usize, from);
     for place in places {
         let entry = table.history().get(place.saturating_sub(1));
-        if *place <= last || !is_join(entry, from, number) {
+        let follows = *place == last.saturating_add(1) || number % 10 == 1 && *place > last;
+        if !follows || !is_join(entry, from, number) {
             return false;
         }
         last = *place;
@@ -153,7 +201,8 @@ fn are_placed(table: &Table<Any>, places: &Option<Vec<usize>>, from: u32) -> boo
 }
 
 // Two threads with a seat each, in which a hundred identities join each: whether all were placed, each call
-// stands at the place that was told, and there are no other entries.
+// stands at the place that was told, those that a seat made while it kept the table one behind another, and there
+// are no other entries.
 fn two_threads<R, S>(
     rt: &R,
     alloc: Global,
