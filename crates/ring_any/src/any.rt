@@ -12,9 +12,6 @@ use ring_lelann::{LeLann, LeLannState};
 use ring_peterson::{Peterson, PetersonState};
 use std::alloc::Global;
 
-#[cfg(test)]
-mod tests;
-
 /// One of the ring elections, each with its own guarantees (Lynch, Distributed Algorithms, 3 and
 /// 15.1).
 #[derive(Clone, Copy, Debug, PartialEq, Eq)]

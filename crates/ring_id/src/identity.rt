@@ -204,33 +204,3 @@ pub fn same_ids(a: &[NodeId], b: &[NodeId]) -> bool
     }
     same
 }
-
-#[cfg(test)]
-mod tests {
-    use super::*;
-    use std::test::Fail;
-
-    #[test]
-    fn identities_are_in_the_order_of_weights_and_then_of_numbers(
-        rt: HostRuntime,
-    ) -> Result<(), Fail> {
-        let light = NodeId::new(4294967295).ok_or("no identity is 0")?;
-        let heavy = NodeId::weighted(1, 9).ok_or("no identity is 0")?;
-        let next = NodeId::weighted(2, 9).ok_or("no identity is 0")?;
-        assert!(rt; light < heavy);
-        assert!(rt; heavy < next);
-        assert!(rt; is_greater(heavy, light));
-        assert!(rt; !is_greater(heavy, next));
-        assert!(rt; !is_greater(heavy, heavy));
-        assert!(rt; heavy != NodeId::new(1).ok_or("no identity is 0")?);
-        assert_eq!(rt; NodeId::weighted(0, 9), None);
-        assert_eq!(rt; heavy.weight(), 9);
-        assert_eq!(rt; Some(heavy.number()), NodeNo::new(1));
-        assert_eq!(rt; heavy.number().get(), heavy.get());
-        assert_eq!(rt; light.weight(), 0);
-        assert_eq!(rt; NodeNo::new(0), None);
-        assert!(rt; same_ids(&[light, heavy], &[light, heavy]));
-        assert!(rt; !same_ids(&[light], &[heavy]));
-        Ok(())
-    }
-}
