@@ -80,7 +80,7 @@ module _ {E : Type 0} where
       let v : Doing E = me.0 in
       let old : List (Entry E) = beyond (known v) table.history in
       let more : beyond (known v) new.history ≡ old ++ entry ∷ [] =
-          new_is me new (open_more me table new (entry ∷ []) ready added) ∙ ap (λ (l : List (Entry E)). l ++ entry ∷ []) (sym (new_is me table ready)) in
+      new_is me new (open_more me table new (entry ∷ []) ready added) ∙ ap (λ (l : List (Entry E)). l ++ entry ∷ []) (sym (new_is me table ready)) in
       ap (λ (l : List (Entry E)). seat_of id left (gained l v)) more
       ∙ (λ i. record (seat_of id left v) {
         seen = (ap (λ (l : List (ℕ × Entry E)). v.seen ++ l) (turns_by-push v.number old entry) ∙ sym (append_assoc v.seen (turns_by v.number old) ((v.number, entry) ∷ []))) i;
@@ -103,7 +103,7 @@ module _ {E : Type 0} where
       let same : w ≡ seat_of id (left - 1) (with_hand (Some new) now.0) = ap (λ (i : TableId). seat_of i (left - 1) (with_hand after then.0)) here ∙ parted.same id (left - 1) in
       let is : w ≡ record v { left = left - 1; seen = (v.seen ++ reached.between) ++ (v.number, entry) ∷ []; mine = v.mine ++ entry ∷ [] } = turned_is id at (left - 1) hand after me now then table new entry reached added parted here in
       let whole : new.history ≡ v.opening ++ entries w.seen =
-          shows_whole now new ready ∙ ap (λ (u : SeatView E). u.opening ++ entries u.seen) (sym same) ∙ ap (λ (u : SeatView E). u.opening ++ entries w.seen) is in
+      shows_whole now new ready ∙ ap (λ (u : SeatView E). u.opening ++ entries u.seen) (sym same) ∙ ap (λ (u : SeatView E). u.opening ++ entries w.seen) is in
       let long : length new.history ≡ length (v.opening ++ entries w.seen) = ap length whole in
       record {
         some_left = some;

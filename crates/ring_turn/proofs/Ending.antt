@@ -121,7 +121,7 @@ module _ {E : Type 0} where
         base = λ makes. base_longer L.crew L.turned v.number new place j u living.seated living.apart (fits.base makes);
       } in stays in
       let history : table.history ≡ L.turned.opening ++ entries (log ++ more) =
-          added ∙ append_assoc v.opening (entries v.seen) new ∙ (λ i. living.opened i ++ (entries (desk.whole i) ++ new)) ∙ ap (λ (l : List (Entry E)). L.turned.opening ++ l) (sym (entries-more log v.number new)) in (
+      added ∙ append_assoc v.opening (entries v.seen) new ∙ (λ i. living.opened i ++ (entries (desk.whole i) ++ new)) ∙ ap (λ (l : List (Entry E)). L.turned.opening ++ l) (sym (entries-more log v.number new)) in (
         w,
         gives,
         tt,
@@ -147,7 +147,12 @@ module _ {E : Type 0} where
       → Allows Keeps slots place me 1 (λ n. (n + 1) % 2 ^ 64) (Serves (step slots 1 1 0 none) me)
   serves slots place ticket me table new stage hand added s h one at range =
       let t = serves_with slots place ticket me table new stage hand added s h one at range in
-      let is_new : new ≡ beyond (known me.0) table.history = sym (beyond_more (known me.0) new) ∙ ap (beyond (known me.0)) (sym added) in
-      (t.0, t.1, t.2, t.3, λ other is.
-        let same : table ≡ other = ap (λ (l : List (ℕ × Desk E)). table_of_hand l table) (sym hand ∙ is) in
-        t.4 ∙ ap (λ (l : List (Entry E)). (served (gained l me.0), rest me.1)) is_new ∙ ap (λ (u : TableView E). (gave_back u me.0, rest me.1)) same)
+      let is_new : new ≡ beyond (known me.0) table.history = sym (beyond_more (known me.0) new) ∙ ap (beyond (known me.0)) (sym added) in (
+        t.0,
+        t.1,
+        t.2,
+        t.3,
+        λ other is.
+            let same : table ≡ other = ap (λ (l : List (ℕ × Desk E)). table_of_hand l table) (sym hand ∙ is) in
+            t.4 ∙ ap (λ (l : List (Entry E)). (served (gained l me.0), rest me.1)) is_new ∙ ap (λ (u : TableView E). (gave_back u me.0, rest me.1)) same,
+      )

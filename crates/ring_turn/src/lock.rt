@@ -16,13 +16,14 @@ use std::marker::Model;
 use std::snapshot::Snapshot;
 use std::sync::Mutex;
 
-/// A table that many threads call, each call in a turn of its own.
+/// A table that many threads call in turns.
 ///
 /// It is a ticket lock (Mellor-Crummey and Scott, "Algorithms for scalable synchronization on
 /// shared-memory multiprocessors", 1991): a call draws a ticket, waits until that ticket is served, takes
-/// the table from its desk, performs the call, puts the table back and serves the next ticket. Callers
-/// queue at a plain lock before, so that the thread whose ticket is next is a running one. Contracts see
-/// which lock it is, how many seats it has, and the history that it was opened with.
+/// the table from its desk, performs the call, puts the table back and serves the next ticket. Through a
+/// seat that keeps the table several calls are made before it is put back. Callers queue at a plain lock
+/// before, so that the thread whose ticket is next is a running one. Contracts see which lock it is, how
+/// many seats it has, and the history that it was opened with.
 #[derive(Drop)]
 pub struct TurnLock<E: RingElection> {
     pub(crate) alloc: Global,
