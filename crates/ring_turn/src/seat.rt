@@ -22,8 +22,8 @@ pub struct Seat<E: RingElection> {
 }
 
 impl<E: RingElection> Model for Seat<E> {
-    ghost use Rattle.ring_turn.specs.Seats.{SeatView, seat_of};
-    ghost use Rattle.ring_turn.specs.private.Seats.{IsSeated, with_hand};
+    ghost use Rattle.ring_turn.specs.Seats.{SeatView, seat_of, with_hand};
+    ghost use Rattle.ring_turn.specs.private.Seats.{IsSeated};
 
     ghost Value = { SeatView E };
 

@@ -1,9 +1,9 @@
 //! One turn of a seat: it draws a ticket, waits and takes the table, and ends the turn with the entries that
 //! were added to it.
 ghost use Rattle.std.specs.Prelude.{◌≡◌, ◌<◌, ℕ, true, []};
-ghost use Rattle.ring_turn.specs.Seats.{seat_of};
+ghost use Rattle.ring_turn.specs.Seats.{seat_of, with_hand};
 ghost use Rattle.ring_turn.specs.declared.view.Stage.TheVariants as stage;
-ghost use Rattle.ring_turn.specs.private.Seats.{IsHanded, IsIdle, IsOpen, Parts, Reaches, with_hand};
+ghost use Rattle.ring_turn.specs.private.Seats.{IsHanded, IsIdle, IsOpen, Parts, Reaches};
 ghost use Rattle.ring_turn.specs.private.Steps.{Entered, HasTurn, gave_back};
 
 use crate::held::HeldTable;

@@ -1,4 +1,4 @@
-use Rattle.std.proofs.Common.{[], ◌∷◌, ◌++◌, length, ap, ◌∙◌}
+use Rattle.std.proofs.Common.{[], ◌∷◌, ◌++◌, ap, ◌∙◌}
 use Rattle.std.specs.Prelude.{Some}
 use Rattle.ring_turn.proofs.Crewing.{begins_with}
 use Rattle.ring_turn.proofs.lock.open.Goals as goal

@@ -1,10 +1,9 @@
-use Rattle.std.proofs.Common.{◌-◌, ◌<◌, true≢false, ap, refl, sym, ◌∙◌, subst, inl, arith}
+use Rattle.std.proofs.Common.{◌-◌, ◌<◌, true≢false, ap, refl, sym, ◌∙◌, inl, arith}
 use Rattle.ring_table.specs.declared.entry.Entry.TheVariants.{Call}
 use Rattle.ring_table.proofs.Outcomes.{was_called, was_starved}
 use Rattle.ring_turn.specs.Calls.{Passes, Turns}
-use Rattle.ring_turn.specs.Seats.{seat_of}
-use Rattle.ring_turn.specs.private.Seats.{IsHanded, IsSeated, with_hand}
-use Rattle.ring_turn.proofs.Calling.{open_after_call, passed_seat, same_after_pass, same_after_turn, seated_after, turned_seat}
+use Rattle.ring_turn.specs.Seats.{seat_of, with_hand}
+use Rattle.ring_turn.proofs.Calling.{open_after_call, passed_seat, same_after_pass, same_after_turn, turned_seat}
 use Rattle.ring_turn.proofs.lock.TurnLock.call.Given.{Over}
 use Rattle.ring_turn.proofs.lock.TurnLock.call.Goals as goal
 use Rattle.ring_turn.proofs.lock.TurnLock.call.Goals.{Else-is_starved, Joined-reply}

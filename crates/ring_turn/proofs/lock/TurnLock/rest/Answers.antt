@@ -1,6 +1,5 @@
 use Rattle.std.proofs.Common.{ap, ◌∙◌}
-use Rattle.ring_turn.specs.Seats.{seat_of}
-use Rattle.ring_turn.specs.private.Seats.{with_hand}
+use Rattle.ring_turn.specs.Seats.{seat_of, with_hand}
 use Rattle.ring_turn.proofs.lock.TurnLock.rest.Goals as goal
 
 pub returns : goal.returns
