@@ -39,7 +39,7 @@ returns-then-is_starved-clause-begun g c = (
 )
 
 pub returns-clause-same : goal.returns-clause-same
-returns-clause-same g c = same_after_turn _ _ _ _ _ (turn g c)
+returns-clause-same g c = same_after_turn _ _ _ _ _ (turn g (goal.at.returns-clause-same g c).Else-is_starved)
 
 pub returns-clause-begun : goal.returns-clause-begun
-returns-clause-begun g c = (c.begin-reply.new.self.book, turn g c, c.begin-reply.ensures.charters)
+returns-clause-begun g c = (c.begin-reply.new.self.book, turn g (goal.at.returns-clause-begun g c).Else-is_starved, c.begin-reply.ensures.charters)

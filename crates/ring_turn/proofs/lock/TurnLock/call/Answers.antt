@@ -34,7 +34,7 @@ pub returns-then-is_starved-clause-call : goal.returns-then-is_starved-clause-ca
 returns-then-is_starved-clause-call g c = inl (refl, pass g c)
 
 pub returns-clause-same : goal.returns-clause-same
-returns-clause-same g c = same_after_turn _ _ _ _ _ (turn g c)
+returns-clause-same g c = same_after_turn _ _ _ _ _ (turn g (goal.at.returns-clause-same g c).Else-is_starved)
 
 pub returns-clause-call : goal.returns-clause-call
-returns-clause-call g c = (c.call-reply.new.self.book, turn g c)
+returns-clause-call g c = (c.call-reply.new.self.book, turn g (goal.at.returns-clause-call g c).Else-is_starved)
