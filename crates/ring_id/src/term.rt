@@ -6,7 +6,8 @@ use std::marker::Model;
 /// The number of a term of a group: from 1 to 1000, in the order in which terms were started.
 #[derive(Clone, Copy, Debug, PartialEq, Eq, PartialOrd, Ord, Hash)]
 pub struct TermNo {
-    number: u16,
+    // as wide as the number of a node: a reply of a term and its leader is then copied in whole words
+    number: u32,
 }
 
 impl Model for TermNo {
@@ -34,7 +35,9 @@ impl TermNo {
         if number == 0 || number > TermNo::MOST {
             return None;
         }
-        Some(TermNo { number })
+        Some(TermNo {
+            number: number as u32,
+        })
     }
 
     /// The number of this term, from 1 to 1000.
@@ -42,6 +45,6 @@ impl TermNo {
         ensures value { result ≡ self }
         ensures range { IsTerm result }
     {
-        self.number
+        self.number as u16
     }
 }

@@ -15,7 +15,8 @@ use std::sync::{Arc, Wait};
 
 impl<E: RingElection> TurnLock<E> {
     /// Has the seat, which is one of this lock, keep the table from its next call on until it rests: that call
-    /// begins a turn, those after it find the table in it, and those through other seats wait.
+    /// begins a turn, those after it find the table in it, and those through other seats wait. Tests say so,
+    /// and no clause.
     ///
     /// Nothing else changes. Who calls through a seat that keeps the table must not wait for calls through
     /// other seats before it rests.
