@@ -4,6 +4,7 @@
 //! right neighbour at the next position and its left neighbour at the one before, cyclically.
 #![tactic(auto)]
 
+mod guesses;
 mod order;
 mod roster;
 

@@ -1,4 +1,4 @@
-ghost use Rattle.std.specs.Prelude.{◌≡◌, ◌≢◌, ℕ, ◌<◌, ◌≤◌, IfOk, IfSome, IfNone, length};
+ghost use Rattle.std.specs.Prelude.{◌≡◌, ◌≢◌, ◌↔◌, ℕ, ◌<◌, ◌≤◌, IsTrue, IfOk, IfSome, IfNone, length};
 ghost use Rattle.ring_roster.specs.private.Order.{IsOrder, number_at};
 
 use ring_id::{NoMemory, NodeId, NodeNo};
@@ -29,6 +29,16 @@ pub(crate) fn position_in(members: &[NodeId], order: &[u8], node: NodeNo) -> Opt
     match order.binary_search_by_key(&node.get(), |position| number_at(members, *position)) {
         Ok(place) => Some(order[place]),
         Err(_) => None,
+    }
+}
+
+/// Whether the member at this position has this number.
+pub(crate) fn stands_at(members: &[NodeId], position: u8, node: NodeNo) -> bool
+    ensures { IsTrue result ↔ ((position < length members.now) × (number_at members.now position ≡ node)) }
+{
+    match members.get(position as usize) {
+        Some(member) => member.number() == node,
+        None => false,
     }
 }
 

@@ -3,7 +3,8 @@ ghost use Rattle.std.specs.List.{list_any};
 ghost use Rattle.ring_id.specs.Refusals.{IsRefusal};
 ghost use Rattle.ring_roster.specs.Ring.{IsRing, has_number, has_repeat, neighbour, position_of, ring_refusal};
 
-use crate::order::{order_of, position_in};
+use crate::guesses::Guesses;
+use crate::order::{order_of, position_in, stands_at};
 use ring_id::{NoMemory, NodeId, NodeNo, Refusal, Side, same_ids};
 use std::alloc::Global;
 use std::marker::Model;
@@ -16,8 +17,9 @@ use std::marker::Model;
 #[derive(Debug, Drop)]
 pub struct Roster {
     members: Vec<NodeId>,
-    // the positions in the order of numbers, in which `position` looks
+    // the positions in the order of numbers, in which `position` looks where the guess is wrong
     order: Vec<u8>,
+    guesses: Guesses,
 }
 
 impl Model for Roster {
@@ -66,10 +68,15 @@ impl Roster {
         ensures { IfOk result (λ ring. ring ≡ members.now) }
     {
         let order = order_of(alloc, members)?;
+        let guesses = Guesses::new(alloc, members)?;
         let Ok(members) = Vec::from_slice(alloc, members) else {
             return Err(NoMemory);
         };
-        Ok(Roster { members, order })
+        Ok(Roster {
+            members,
+            order,
+            guesses,
+        })
     }
 
     /// The number of members, from 1 to 256.
@@ -92,6 +99,10 @@ impl Roster {
     pub fn position(&self, node: NodeNo) -> Option<usize>
         ensures { result ≡ position_of node self.now }
     {
+        let guess = self.guesses.of(node);
+        if stands_at(&self.members, guess, node) {
+            return Some(guess as usize);
+        }
         match position_in(&self.members, &self.order, node) {
             Some(position) => Some(position as usize),
             None => None,
