@@ -4,10 +4,12 @@
 //! get, and what it then changes, is said where the groups are.
 #![tactic(auto)]
 
+mod count;
 mod event;
 mod lists;
 mod reply;
 
+pub use count::Count;
 pub use event::{Command, Event};
 pub use lists::{GroupList, MemberList, TermList};
 pub use reply::Reply;

@@ -1,3 +1,4 @@
+use crate::count::Count;
 use crate::lists::{GroupList, MemberList, TermList};
 use ring_id::{NodeId, Refusal, TermNo};
 
@@ -23,11 +24,11 @@ pub enum Reply {
     /// Nothing was in flight on that link, or it is cut.
     Idle,
     /// So many packets are in flight or stuck.
-    Pending(u128),
+    Pending(Count),
     /// So many deliveries were made and so many packets remain; whether a delivery was refused memory.
     Drained {
         done: u32,
-        left: u128,
+        left: Count,
         starved: bool,
     },
     /// Refused, and nothing has changed.

@@ -40,12 +40,12 @@ fn put_words<W: Sink>(reply: &Reply, out: &mut W) -> Result<(), SinkFailed>
         Reply::Groups(names) => put_groups(names.as_slice(), out),
         Reply::Moved => out.put(b"moved"),
         Reply::Idle => out.put(b"idle"),
-        Reply::Pending(left) => put_number(b"pending ", *left, out),
+        Reply::Pending(left) => put_number(b"pending ", left.get(), out),
         Reply::Drained {
             done,
             left,
             starved,
-        } => put_drained(u128::from(*done), *left, *starved, out),
+        } => put_drained(u128::from(*done), left.get(), *starved, out),
         Reply::Refused(refusal) => put_both(b"no ", refusal.word(), out),
     }
 }

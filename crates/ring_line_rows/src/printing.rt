@@ -1,6 +1,6 @@
 use ring_grammar::{Sink, SinkFailed, print_reply};
 use ring_id::Refusal;
-use ring_mux::Reply;
+use ring_mux::{Count, Reply};
 use std::alloc::Global;
 
 // A list of bytes that takes so many pieces and no more.
@@ -47,7 +47,7 @@ fn is_printed(alloc: Global, reply: &Reply, text: &[u8]) -> bool {
 fn starved(done: u32, left: u128) -> Reply {
     Reply::Drained {
         done,
-        left,
+        left: Count::new(left),
         starved: true,
     }
 }
@@ -56,7 +56,7 @@ fn starved(done: u32, left: u128) -> Reply {
 fn replies_that_no_schedule_gets(rt: HostRuntime) {
     let alloc = rt.alloc();
     let text = b"pending 340282366920938463463374607431768211455\n";
-    assert!(rt; is_printed(alloc, &Reply::Pending(u128::MAX), text));
+    assert!(rt; is_printed(alloc, &Reply::Pending(Count::new(u128::MAX)), text));
     let text = b"drained 0 left 3 no-memory\n";
     assert!(rt; is_printed(alloc, &starved(0, 3), text));
     let text = b"no no-memory\n";

@@ -11,4 +11,4 @@ mod deliveries;
 mod mux;
 
 pub use mux::Mux;
-pub use ring_events::{Command, Event, Reply};
+pub use ring_events::{Command, Count, Event, Reply};

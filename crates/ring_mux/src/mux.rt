@@ -12,7 +12,7 @@ ghost use Rattle.ring_mux.specs.WorldSteps.{CommandOfWorlds, LeavesQuiet, RunOfW
 use crate::carried::Carried;
 use crate::deliveries::{carry, carry_many};
 use ring_election::RingElection;
-use ring_events::{Command, Event, Reply};
+use ring_events::{Command, Count, Event, Reply};
 use ring_id::{GroupName, NoMemory, NodeNo, Refusal, Side};
 use ring_terms::{Book, Standing};
 use ring_world::World;
@@ -191,7 +191,7 @@ impl<E: RingElection> Mux<E> {
         let (done, starved) = carry_many(&mut self.book, world, count);
         Reply::Drained {
             done,
-            left: world.pending(),
+            left: Count::new(world.pending()),
             starved,
         }
     }
@@ -236,7 +236,7 @@ impl<E: RingElection> Mux<E> {
         ensures worlds { StepOfWorlds E.table E.is_two_way E.is_greatest self.now (Event.Pending group) result self.now }
     {
         match self.pending(group) {
-            Ok(pending) => Reply::Pending(pending),
+            Ok(pending) => Reply::Pending(Count::new(pending)),
             Err(refusal) => Reply::Refused(refusal),
         }
     }

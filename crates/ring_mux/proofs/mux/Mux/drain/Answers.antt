@@ -40,14 +40,14 @@ returns-clause-object g c =
       c.in-Ok.ensures.0,
       rw (← c.self.view_is) (record {
         done = c.carry_many-done.result.0;
-        left = c.pending.result;
+        left = c.new.result;
         starved = c.carry_many-done.result.1;
         reply_is = refl;
         within = made.0.within;
         moves = made.0.object;
-        stopped = λ h. let stopped = made.0.stopped h in (stopped.0, rw c.pending.ensures.value (some_pending g.E.RingElection.table c.carry_many-done.new.world (stopped.1 c.carry_many-done.new.world found)));
-        known = none_known g.E.RingElection.table g.E.RingElection.fits g.E.RingElection.winner g.met.E.RingElection.deciding (λ a. (g.met.E.RingElection.lawful a).start_undecided) _ _ made.1 c.args.group c.pending.result made.0.runs
-            (λ w at. c.pending.ensures.value ∙ ap (pending_of g.E.RingElection.table) (same_found _ _ _ found at));
+        stopped = λ h. let stopped = made.0.stopped h in (stopped.0, rw (c.new.ensures, c.pending.ensures.value) (some_pending g.E.RingElection.table c.carry_many-done.new.world (stopped.1 c.carry_many-done.new.world found)));
+        known = none_known g.E.RingElection.table g.E.RingElection.fits g.E.RingElection.winner g.met.E.RingElection.deciding (λ a. (g.met.E.RingElection.lawful a).start_undecided) _ _ made.1 c.args.group c.new.result made.0.runs
+            (λ w at. c.new.ensures ∙ c.pending.ensures.value ∙ ap (pending_of g.E.RingElection.table) (same_found _ _ _ found at));
       }),
     )
 
@@ -60,7 +60,7 @@ returns-clause-worlds g c =
     let found = written_found c.args.group worlds c.in-Some.world c.carry_many-done.new.world read.1 in
     let view = view_written c.self.inside.book c.carry_many-done.new.book (names_kept c.args.group _ c.self.inside.book c.carry_many-done.new.book made.0.object) c.self.inside.worlds.items c.args.group c.in-Ok.place at.0 c.in-Some.world
     c.carry_many-done.new.world read.0 in
-    rw (← c.self.view_is, view) (made.0, record { world = c.carry_many-done.new.world; found = found; counted = c.pending.ensures.value })
+    rw (← c.self.view_is, view) (made.0, record { world = c.carry_many-done.new.world; found = found; counted = c.new.ensures ∙ c.pending.ensures.value })
 
 pub returns-clause-bounded : goal.returns-clause-bounded
 returns-clause-bounded g c =
@@ -72,7 +72,7 @@ returns-clause-bounded g c =
     c.carry_many-done.new.world read.0 in
     rw (← c.self.view_is, view)
     (leaves_quiet g.E.RingElection.table c.args.group g.E.RingElection.fits g.E.RingElection.winner g.E.RingElection.bound g.met.E.RingElection.bounded g.E.RingElection.is_greatest c.args.count
-    c.carry_many-done.result.0 c.pending.result c.carry_many-done.result.1 _ _ c.self.invariant.held.sound made.1.sound made.0)
+    c.carry_many-done.result.0 c.new.result c.carry_many-done.result.1 _ _ c.self.invariant.held.sound made.1.sound made.0)
 
 pub returns-clause-informed : goal.returns-clause-informed
 returns-clause-informed g c = (invariant_of-self-2 g c).held.held
