@@ -1,6 +1,7 @@
--- The links into one position more are marked and counted.
-use Rattle.std.proofs.Common.{arith, add-one, ◌∙◌}
+-- The links into one position more are marked and counted, and at the end those into all.
+use Rattle.std.proofs.Common.{◌≡◌, arith, add-one, ◌∙◌}
 use Rattle.ring_id.specs.declared.side.Side.TheVariants.{Left, Right}
+use Rattle.ring_world.specs.Worlds.{size_of}
 use Rattle.ring_world.specs.private.Tallies.{IsMarked}
 use Rattle.ring_world.proofs.Cuts.{pending_stands}
 use Rattle.ring_world.proofs.Links.{each_side_below}
@@ -22,4 +23,13 @@ loop-position-preserved g c =
       beyond = λ place past. right.beyond place past ∙ left.beyond place past ∙ before.beyond place past;
       counted = rw add-one (omega (arith, left_stands, right_stands, before.counted, c.waiting-left.ensures.value, c.waiting-right.ensures.value));
       few = omega (arith, before.few, c.waiting-left.type_inv, c.waiting-right.type_inv);
+    }
+
+pub invariant_of-result : goal.invariant_of-result
+invariant_of-result g c =
+    let all : c.loop-position.position ≡ size_of c.in_ok-circle.circle = omega (arith, c.size-position-end.ensures.value) in
+    record {
+      sound = c.size-position-end.ensures.sound;
+      counted = rw all at c.loop-position.invariant.counted;
+      marked = record { each = rw all at c.loop-position.invariant.marked; beyond = c.loop-position.invariant.beyond };
     }
