@@ -5,9 +5,9 @@ use std::alloc::Global;
 
 /// Where a member may stand, by the last bits of its number.
 ///
-/// A guess may be wrong: of several members with the same last bits it is the last one's position. Nothing is
-/// claimed of guesses, and who looks up a member compares its number. There are more of them than members, so
-/// that of numbers in a row each is guessed right.
+/// A guess may be wrong: of several members with the same last bits it is the last one's position. No clause
+/// speaks of guesses, and who looks up a member compares its number. There are at least twice as many as
+/// members, since more would be wrong among fewer.
 #[derive(Debug, Drop)]
 pub(crate) struct Guesses {
     positions: Vec<u8>,
