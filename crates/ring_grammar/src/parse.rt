@@ -19,6 +19,7 @@ const LONGEST: usize = 128;
 /// Words are separated by one space, numbers have no leading zero and no sign, and a line of more
 /// than 128 bytes spells no event. A weight, behind a slash, stands in `join` alone, and a weight of
 /// 0 isn't written. Takes no memory.
+#[inline(always)]
 pub fn parse_event(line: &[u8]) -> Option<Event<Any>>
     ensures some { IfSome result (Spells line.now) }
     ensures none { IfNone result ((event : Event Any) → ¬ (Spells line.now event)) }

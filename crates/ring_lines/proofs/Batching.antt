@@ -1,18 +1,15 @@
 -- Lines that are answered together: what they ask, and the run of their answers.
-use Rattle.std.proofs.Common.{◌≡◌, ◌+◌, ◌<◌, ℕ, false, List, [], ◌∷◌, ◌++◌, length, take, drop, refl, ap, sym, ◌∙◌, subst, arith, length-append, length-drop, append-nil, append_assoc}
+use Rattle.std.proofs.Common.{◌≡◌, ◌+◌, ◌<◌, ℕ, List, [], ◌∷◌, ◌++◌, length, take, drop, refl, ap, sym, ◌∙◌, subst, arith, length-append, length-drop, append-nil, append_assoc}
 use Rattle.std.specs.List.{AllZip}
 use Rattle.ring_lines.specs.Buffer.{BufferView}
-use Rattle.ring_lines.specs.Reader.{BeginsText, CutsLines, ShowsLine, answer_told}
+use Rattle.ring_lines.specs.Reader.{BeginsText, CutsLines, ShowsLine}
 use Rattle.ring_lines.specs.private.Batches.{AnswersAll, JoinsHeld}
-use Rattle.ring_lines.specs.private.Filling.{TakesHeld, answer_of}
-use Rattle.ring_lines.specs.declared.answers.Found.{Found}
-use Rattle.ring_lines.specs.declared.answers.Found.TheVariants as found
+use Rattle.ring_lines.specs.private.Filling.{HoldsLine}
 use Rattle.ring_lines.specs.declared.answers.Next.{Next}
 use Rattle.ring_lines.specs.declared.answers.Next.TheVariants as next
 use Rattle.ring_lines.specs.declared.answers.Phase.{Phase}
 use Rattle.ring_lines.specs.declared.answers.Phase.TheVariants as phase
 use Rattle.ring_lines.proofs.Beginning.{begins_line, begins_then}
-use Rattle.ring_lines.proofs.Gathered.{shows_line}
 use Rattle.ring_lines.proofs.Rounds.{run_then}
 
 module _ {A B : Type 0} (R : A → B → Type 0) where
@@ -83,41 +80,18 @@ module _ {K : Type 0} (asks : List ℕ → K → Type 0) (old : BufferView) (bef
   }
 
   -- one line that was held was read, and this is what it asks
-  pub joins_more : (mid : BufferView) (asked : List K) (said : Next) (new : BufferView) (question : K) → JoinsHeld asks old before mid asked → (t : TakesHeld mid said new) → asks (take t.len mid.held) question → JoinsHeld asks old before new (asked ++ question ∷ [])
-  joins_more mid asked said new question j t one =
-      let line = take t.len mid.held in
-      let opened : old.phase ≡ phase.Open = sym j.phase ∙ t.opened in
+  pub joins_more : (mid : BufferView) (asked : List K) (line : List ℕ) (new : BufferView) (question : K) → JoinsHeld asks old before mid asked → HoldsLine mid line → new ≡ record mid { held = drop (length line + 1) mid.held } → asks line question → JoinsHeld asks old before new (asked ++ question ∷ [])
+  joins_more mid asked line new question j holds rest one =
+      let opened : old.phase ≡ phase.Open = sym j.phase ∙ holds.opened in
+      let left = drop (length line + 1) mid.held in
+      let first : BeginsText mid.held (take (length line) mid.held ∷ []) left = subst (λ (held : List ℕ). BeginsText held (take (length line) mid.held ∷ []) left) (sym holds.cut.cut) (begins_line (take (length line) mid.held) left holds.cut.uncut) in
       record {
         given = j.given ++ line ∷ [];
-        phase = rw t.rest j.phase;
-        reads = rw t.rest j.reads;
+        phase = rw rest j.phase;
+        reads = rw rest j.reads;
         cuts = λ text lines cuts.
             let begins : BeginsText text (lines ++ j.given) mid.held = subst (λ (p : Phase). CutsLines p text (lines ++ j.given) mid.held) opened (j.cuts text lines cuts) in
-            rw (opened, t.rest, ← append_assoc) (begins_then text (lines ++ j.given) mid.held (line ∷ []) _ begins (subst (λ (held : List ℕ). BeginsText held (line ∷ []) (drop (t.len + 1) mid.held)) (sym t.cut.cut) (begins_line line (drop (t.len + 1) mid.held) t.cut.uncut)));
-        fewer = rw t.rest (omega (arith, j.fewer, t.cut.inside, length-append j.given (line ∷ []), length-drop (t.len + 1) mid.held));
+            rw (opened, rest, ← append_assoc) (begins_then text (lines ++ j.given) mid.held (line ∷ []) left begins (subst (λ (l : List ℕ). BeginsText mid.held (l ∷ []) left) (sym holds.bytes) first));
+        fewer = rw rest (omega (arith, j.fewer, holds.cut.inside, length-append j.given (line ∷ []), length-drop (length line + 1) mid.held));
         asked = λ come all. rw (← append_assoc) (zip_push asks (come ++ j.given) asked line question (j.asked come all) one);
       }
-
--- a line that was held is the one that was told
-pub held_line : (held line : List ℕ) → next.Line line ≡ answer_of false held → line ≡ held
-held_line held line is =
-    let shows : ShowsLine (next.Line line) (held ∷ []) phase.Open = subst (λ (n : Next). ShowsLine n (held ∷ []) phase.Open) (sym is) (shows_line false [] held phase.Open refl tt) in
-    let same : held ∷ [] ≡ line ∷ [] = shows.0 in
-    cc
-
--- or it has more than 128 bytes, where none was told
-pub held_long : (held line : List ℕ) (which : Found) → (which ≡ found.Line → ⊥) → answer_told which line ≡ answer_of false held → 128 < length held
-held_long held line found.Line other is = absurd (other refl)
-held_long held line found.Long other is =
-    let shows : ShowsLine next.Long (held ∷ []) phase.Open = subst (λ (n : Next). ShowsLine n (held ∷ []) phase.Open) (sym is) (shows_line false [] held phase.Open refl tt) in
-    let same : held ∷ [] ≡ shows.0 ∷ [] = shows.1 in
-    let is_held : shows.0 ≡ held = cc in
-    subst (λ (l : List ℕ). 128 < length l) is_held shows.2
-held_long held line found.End other is =
-    let shows : ShowsLine next.End (held ∷ []) phase.Open = subst (λ (n : Next). ShowsLine n (held ∷ []) phase.Open) (sym is) (shows_line false [] held phase.Open refl tt) in
-    let none : held ∷ [] ≡ [] = shows.0 in
-    cc
-held_long held line (found.Fault fault) other is =
-    let shows : ShowsLine (next.Fault fault) (held ∷ []) phase.Open = subst (λ (n : Next). ShowsLine n (held ∷ []) phase.Open) (sym is) (shows_line false [] held phase.Open refl tt) in
-    let none : held ∷ [] ≡ [] = shows.0 in
-    cc

@@ -116,7 +116,7 @@ pub fn answer_lines<A: Answerer, R: Intake, W: Outlet>(
             Found::Fault(fault) => return close(&mut page, writer, Err(fault)),
         };
         batch.begin(asked);
-        batch.read_held(answerer, &mut lines, &mut line);
+        batch.read_held(answerer, &mut lines);
         batch.answer(answerer, state, alloc);
         let Ok(()) = pass_on(batch.given(), &mut page, writer) else {
             return Err(LineFault::Write);

@@ -3,7 +3,6 @@ ghost use Rattle.std.specs.Prelude.{◌≡◌, ◌≤◌, ◌∷◌, [], length,
 ghost use Rattle.ring_lines.specs.private.Batches.{AnswersAll, JoinsHeld};
 
 use crate::answering::{Answerer, Queued};
-use crate::answers::{Found, Line};
 use crate::buffer::LineBuffer;
 use std::alloc::{AllocError, Global};
 use std::marker::Model;
@@ -47,17 +46,15 @@ impl<A: Answerer> Batch<A> {
     }
 
     /// Reads whole lines that are held, as many as the batch has room for. Takes no memory.
-    pub(crate) fn read_held(&mut self, answerer: &A, lines: &mut LineBuffer, line: &mut Line)
+    pub(crate) fn read_held(&mut self, answerer: &A, lines: &mut LineBuffer)
         ensures { JoinsHeld A.asks lines.old self.old.asked lines.new self.new.asked }
     {
         while self.asked.len() < MOST {
-            let Some(found) = lines.take_held(line) else {
+            let Some(line) = lines.held_line() else {
                 return;
             };
-            let asked = match found {
-                Found::Line => answerer.read(line.bytes()),
-                _ => answerer.read_long(),
-            };
+            let (len, asked) = (line.len(), answerer.read(line));
+            lines.drop_line(len);
             self.asked.push_reserved(asked);
         }
     }

@@ -6,8 +6,8 @@ use std::alloc::Global;
 /// Where a member may stand, by the last bits of its number.
 ///
 /// A guess may be wrong: of several members with the same last bits it is the last one's position. No clause
-/// speaks of guesses, and who looks up a member compares its number. There are at least twice as many as
-/// members, since more would be wrong among fewer.
+/// speaks of guesses, and who looks up a member compares its number. There are at least four times as many
+/// as members, since more would be wrong among fewer.
 #[derive(Debug, Drop)]
 pub(crate) struct Guesses {
     positions: Vec<u8>,
@@ -18,7 +18,7 @@ impl Guesses {
     pub(crate) fn new(alloc: Global, members: &[NodeId]) -> Result<Guesses, NoMemory>
         requires { length members.now ≤ 256 }
     {
-        let count = (2 * members.len()).next_power_of_two();
+        let count = (4 * members.len()).next_power_of_two();
         let mut guesses = Guesses {
             positions: Vec::from_elem(alloc, 0, count)?,
         };

@@ -141,6 +141,7 @@ impl<A: Access<Any> + Drop> Front<A> {
     }
 
     /// The access's answer to a command of a session. What waits for the workers is tried first.
+    #[inline(always)]
     pub(crate) fn answer<R: Wait>(
         &self,
         rt: &R,

@@ -45,6 +45,7 @@ impl<E: RingElection> TurnLock<E> {
     /// with it. `Unplaced` adds no entry: by `NoMemory` where the table was refused memory, which uses a
     /// turn, and by `SeatSpent` where the seat has no turn left, and nothing changes. Waits for its turn;
     /// that the turn comes isn't claimed.
+    #[inline(always)]
     pub fn call<R: Wait>(
         &self,
         rt: &R,

@@ -37,6 +37,7 @@ impl<E: RingElection> Access<E> for TurnLock<E> {
         TurnLock::rest(self, seat);
     }
 
+    #[inline(always)]
     fn call<R: Wait>(&self, rt: &R, seat: &mut Seat<E>, session: u32, command: Command<E>) -> Answer
         requires { seat.old.lock ≡ self.now.id }
         ensures seat { seat.new.lock ≡ self.now.id }

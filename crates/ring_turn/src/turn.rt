@@ -56,6 +56,7 @@ impl<E: RingElection> TurnLock<E> {
     }
 
     // The table: what the seat keeps in its hand, or by a turn that begins here.
+    #[inline(always)]
     pub(crate) fn reach<R: Wait>(
         &self,
         rt: &R,

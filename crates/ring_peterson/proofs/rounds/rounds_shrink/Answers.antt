@@ -1,7 +1,7 @@
 -- The rounds of a ring shrink to one, which the messages of its links follow.
 use Rattle.std.specs.Prelude.{length}
 use Rattle.std.proofs.Common.{◌∙◌, ap, arith}
-use Rattle.ring_peterson.specs.Rounds.{Round, first_round, last_round}
+use Rattle.ring_peterson.specs.Rounds.{Round, first_round}
 use Rattle.ring_peterson.specs.laws.FirstRound.{numbered_rises}
 use Rattle.ring_peterson.specs.laws.Lawful.{ring_last}
 use Rattle.ring_peterson.specs.laws.Literal.{messages_by_rounds, rounds_halve}
