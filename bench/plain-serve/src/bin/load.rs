@@ -5,21 +5,18 @@
 //! be the leader of the group that is made first, or `echo`, where it has to be the line itself. One line
 //! is printed: the number of replies, and the seconds that they took.
 
+#[path = "../asking.rs"]
+mod asking;
 #[path = "../client.rs"]
 mod client;
 
-use client::{Client, Groups, LEADER, MEMBERS};
+use asking::Wanted;
+use client::Client;
 use std::io;
 use std::process::ExitCode;
 use std::sync::Barrier;
 use std::thread;
 use std::time::{Duration, Instant};
-
-#[derive(Clone, Copy, PartialEq, Eq)]
-enum Wanted {
-    Leader,
-    Echo,
-}
 
 struct Load {
     port: u16,
@@ -39,33 +36,8 @@ impl Load {
             connections: connections.parse().ok()?,
             depth: depth.parse().ok()?,
             time: Duration::try_from_secs_f64(seconds.parse().ok()?).ok()?,
-            wanted: match wanted.as_str() {
-                "leader" => Wanted::Leader,
-                "echo" => Wanted::Echo,
-                _ => return None,
-            },
+            wanted: Wanted::from_word(wanted)?,
         })
-    }
-
-    /// Makes the group, and waits until each member knows that the last one leads.
-    fn prepare(&self) -> io::Result<()> {
-        let mut client = Client::connect(self.port)?;
-        Groups::make(&mut client, &[String::from("a")])?.decide(&mut client)
-    }
-
-    /// The lines that a connection writes at once, and their replies.
-    fn batch(&self, connection: usize) -> (Vec<u8>, Vec<u8>) {
-        let (mut lines, mut replies) = (Vec::new(), Vec::new());
-        for place in 0..self.depth {
-            let member = (connection + 7 * place) as u32 % MEMBERS + 1;
-            let line = format!("who a {member}\n");
-            lines.extend(line.as_bytes());
-            replies.extend(match self.wanted {
-                Wanted::Leader => LEADER,
-                Wanted::Echo => line.as_bytes(),
-            });
-        }
-        (lines, replies)
     }
 
     /// One connection, from the moment when all are there; the answer is how many replies it got.
@@ -73,7 +45,7 @@ impl Load {
         let connected = Client::connect(self.port);
         begin.wait();
         let mut client = connected?;
-        let (lines, replies) = self.batch(connection);
+        let (lines, replies) = self.wanted.batch(self.depth, connection);
         let began = Instant::now();
         let mut count = 0;
         while began.elapsed() < self.time {
@@ -85,9 +57,7 @@ impl Load {
 
     /// All connections at once; the answer is how many replies they got, and the seconds that passed.
     fn run(&self) -> io::Result<(usize, f64)> {
-        if self.wanted == Wanted::Leader {
-            self.prepare()?;
-        }
+        self.wanted.prepare(self.port)?;
         let begin = Barrier::new(self.connections + 1);
         thread::scope(|scope| {
             let begin = &begin;
