@@ -1,4 +1,5 @@
 use ring_any::Any;
+use ring_any_traffic::AnyTraffic;
 use ring_grammar::{
     SinkFailed, parse_event, print_groups, print_members, print_reply, print_terms,
 };
@@ -68,7 +69,7 @@ fn put(reply: &Reply, text: &mut Vec<u8>) -> Result<(), SinkFailed> {
 
 // What a mux answers to these events in one list, as a text of lines; none where memory is refused.
 fn answers(alloc: Global, events: &[Event<Any>]) -> Option<Vec<u8>> {
-    let mut mux = Mux::new(alloc).ok()?;
+    let mut mux: Mux<Any, AnyTraffic> = Mux::new(alloc).ok()?;
     let replies = mux.run(alloc, events).ok()?;
     let mut text = Vec::new(alloc);
     for reply in &replies {

@@ -6,12 +6,12 @@ use crate::carried::Carried;
 use ring_election::RingElection;
 use ring_id::Side;
 use ring_terms::Book;
-use ring_world::{Delivery, World};
+use ring_world::{Delivery, Traffic, World};
 
 /// A delivery on the link into a position of a group's world, and what it tells noted in the book.
-pub fn carry<E: RingElection>(
+pub fn carry<E: RingElection, T: Traffic<E>>(
     book: &mut Book<E>,
-    world: &mut World<E>,
+    world: &mut World<E, T>,
     position: usize,
     side: Side,
 ) -> Carried
@@ -32,9 +32,9 @@ pub fn carry<E: RingElection>(
 
 /// At most so many deliveries in a group's world, each at the link that is ready first: how many were
 /// made, and whether one was refused memory.
-pub fn carry_many<E: RingElection>(
+pub fn carry_many<E: RingElection, T: Traffic<E>>(
     book: &mut Book<E>,
-    world: &mut World<E>,
+    world: &mut World<E, T>,
     count: u32,
 ) -> (u32, bool)
     ensures { MakesAmong E.table E.fits E.winner E.is_greatest count book.old world.old result.0 result.1 book.new world.new }

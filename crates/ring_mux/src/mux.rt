@@ -15,20 +15,21 @@ use ring_election::RingElection;
 use ring_events::{Command, Count, Event, Reply};
 use ring_id::{GroupName, NoMemory, NodeNo, Refusal, Side};
 use ring_terms::{Book, Standing};
-use ring_world::World;
+use ring_world::{TalliedCircle, Traffic, World};
 use std::alloc::Global;
 use std::marker::Model;
 
 /// Many groups at once: a book, and the world of the last term of each group at the group's place.
 ///
-/// Contracts see a mux as the election object and the worlds under the names of their groups.
+/// How its worlds keep what is in flight is `T`. Contracts see a mux as the election object and the worlds
+/// under the names of their groups.
 #[derive(Drop)]
-pub struct Mux<E: RingElection> {
+pub struct Mux<E: RingElection, T: Traffic<E> = TalliedCircle<E>> {
     book: Book<E>,
-    worlds: Vec<Option<World<E>>>,
+    worlds: Vec<Option<World<E, T>>>,
 }
 
-impl<E: RingElection> Model for Mux<E> {
+impl<E: RingElection, T: Traffic<E>> Model for Mux<E, T> {
     ghost use Rattle.ring_terms.specs.Object.{names};
     ghost use Rattle.ring_mux.specs.Views.{Held, placed};
     ghost use Rattle.ring_mux.specs.private.Views.{IsKeptAt};
@@ -40,9 +41,9 @@ impl<E: RingElection> Model for Mux<E> {
     ghost invariant = { λ a. IsKeptAt E.table E.fits E.winner a.book a.worlds.items };
 }
 
-impl<E: RingElection> Mux<E> {
+impl<E: RingElection, T: Traffic<E>> Mux<E, T> {
     /// A mux without groups. Takes no memory today.
-    pub fn new(alloc: Global) -> Result<Mux<E>, NoMemory>
+    pub fn new(alloc: Global) -> Result<Mux<E, T>, NoMemory>
         ensures free { IsOk result }
         ensures empty { IfOk result (λ mux. mux ≡ record { object = []; worlds = [] }) }
     {

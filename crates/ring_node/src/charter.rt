@@ -40,6 +40,19 @@ impl<E: RingElection> Charter<E> {
         Ok(shared)
     }
 
+    /// The charter of the same term and ring, which this algorithm decides. Refused for want of memory
+    /// alone.
+    pub fn under<F: RingElection>(
+        &self,
+        alloc: Global,
+        algorithm: F,
+    ) -> Result<Arc<Charter<F>>, NoMemory>
+        ensures { IfOk result (λ c. c.value ≡ record { group = self.now.group; term = self.now.term; algorithm = algorithm; roster = self.now.roster }) }
+    {
+        let roster = self.roster.copied(alloc)?;
+        Charter::new(alloc, self.group, self.term, algorithm, roster)
+    }
+
     /// The group of this term. Takes no memory, like the other readers.
     pub fn group(&self) -> GroupName
         ensures { result ≡ self.now.group }

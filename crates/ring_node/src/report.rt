@@ -32,7 +32,8 @@ impl<E: RingElection> Model for Report<E> {
 
 impl<E: RingElection> Report<E> {
     /// The report that the member at this position of the charter's ring knows this leader, its winner.
-    pub(crate) fn new(
+    /// Takes no memory.
+    pub fn new(
         charter: Arc<Charter<E>>,
         position: usize,
         member: NodeId,

@@ -13,7 +13,7 @@ use std::marker::Model;
 /// of one number are refused, whatever their weights.
 ///
 /// Contracts see a roster as the list of its identities (Lynch, Distributed Algorithms, 3.1).
-/// None of the calls but `from_members` and `of_ring` takes memory.
+/// None of the calls but `from_members`, `of_ring` and `copied` takes memory.
 #[derive(Debug, Drop)]
 pub struct Roster {
     members: Vec<NodeId>,
@@ -77,6 +77,13 @@ impl Roster {
             order,
             guesses,
         })
+    }
+
+    /// The same ring once more. Refused for want of memory alone.
+    pub fn copied(&self, alloc: Global) -> Result<Roster, NoMemory>
+        ensures { IfOk result (λ ring. ring ≡ self.now) }
+    {
+        Roster::of_ring(alloc, &self.members)
     }
 
     /// The number of members, from 1 to 256.

@@ -1,6 +1,7 @@
 ghost use Rattle.ring_schedule.specs.Replay.{Replays};
 
 use ring_any::Any;
+use ring_any_traffic::AnyTraffic;
 use ring_events::{Event, Reply};
 use ring_id::Refusal;
 use ring_lines::{Answerer, Intake, LineFault, Outlet, Queued, answer_lines, parse_event};
@@ -16,7 +17,7 @@ impl Answerer for Replayer {
     ghost use Rattle.ring_schedule.specs.Replay.{RepliesTo};
     ghost use Rattle.ring_schedule.specs.private.Asking.{AsksEvent};
 
-    type State = Mux<Any>;
+    type State = Mux<Any, AnyTraffic>;
 
     type Asked = Option<Event<Any>>;
 
@@ -38,7 +39,7 @@ impl Answerer for Replayer {
 
     fn answer<'a>(
         &'a self,
-        state: &mut Mux<Any>,
+        state: &mut Mux<Any, AnyTraffic>,
         alloc: Global,
         _queued: &mut Queued<'a>,
         asked: Option<Event<Any>>,
@@ -49,7 +50,7 @@ impl Answerer for Replayer {
         }
     }
 
-    fn rest(&self, _state: &mut Mux<Any>) {}
+    fn rest(&self, _state: &mut Mux<Any, AnyTraffic>) {}
 }
 
 /// Answers a schedule: each line of the reader by one line to the writer, from no groups at all.

@@ -1,9 +1,10 @@
 -- Links that are cut: what is in flight and what is stuck on a link is together what stands there, and a
 -- cut changes no journal.
-use Rattle.std.proofs.Common.{◌≡◌, ◌≢◌, ◌+◌, ◌*◌, ◌<◌, ◌≤◌, ◌==◌, ℕ, zero, suc, Bool, true, false, cond, nat_lt, List, [], ◌∷◌, length, replicate, Some, slice_get, slice_set, get_or, refl, sym, ap, ap₂, ◌∙◌, arith, get_or-set_other, get_or-set_same}
+use Rattle.std.proofs.Common.{◌≡◌, ◌≢◌, ◌+◌, ◌*◌, ◌<◌, ◌≤◌, ◌==◌, ℕ, zero, suc, Bool, true, false, cond, nat_lt, List, [], ◌∷◌, length, replicate, Some, Result, Ok, Err, slice_get, slice_set, get_or, refl, sym, ap, ap₂, ◌∙◌, arith, get_or-set_other, get_or-set_same}
 use Rattle.std.proofs.Math.ListN.{length-set}
 use Rattle.std.specs.Prelude.{not}
 use Rattle.std.proofs.lemmas.Bool.Decides.{nat_tests}
+use Rattle.ring_id.specs.declared.refusal.Refusal.{Refusal}
 use Rattle.ring_id.specs.declared.side.Side.{Side}
 use Rattle.ring_id.specs.declared.side.Side.TheVariants.{Left, Right}
 use Rattle.ring_election.specs.Tables.{Table}
@@ -13,7 +14,7 @@ use Rattle.ring_node.specs.Nodes.{Seated}
 use Rattle.ring_world.specs.private.LinkSets.{bit_of, bits_from}
 use Rattle.ring_world.specs.Quiet.{IsEmptied, IsQuiet}
 use Rattle.ring_world.specs.private.Tallies.{some_or_none}
-use Rattle.ring_world.specs.Worlds.{IsSoundWorld, IsUncut, Running, after_cut, is_cut, link_place, on_link, pending_below, pending_on, size_of}
+use Rattle.ring_world.specs.Worlds.{Cuts, IsSoundWorld, IsUncut, Running, after_cut, is_cut, link_place, on_link, pending_below, pending_on, size_of}
 use Rattle.ring_world.specs.private.Worlds.{IsWorld, journals_of}
 
 -- ---- Links and their bits
@@ -156,6 +157,11 @@ module _ {E M : Type 0} (world : Running E M) (i : ℕ) (side : Side) where
   -- a link that is cut once more changes nothing
   pub cut_again : is_cut world i side ≡ true → after_cut world i side ≡ world
   cut_again cut = ap (λ (flags : List Bool). record world { cut = flags }) (put_again world.cut (link_place i side) cut)
+
+  -- and whatever `cut` answers, the world is as it was
+  pub cuts_again : is_cut world i side ≡ true → (two_way : Bool) (result : Result (Unit {0}) Refusal) (new : Running E M) → Cuts two_way world i side result new → new ≡ world
+  cuts_again cut two_way (Ok done) new cuts = cuts.1 ∙ cut_again cut
+  cuts_again cut two_way (Err refusal) new cuts = cuts.1
 
 module _ {E S M : Type 0} (t : E → Table S M) (world : Running E M) (i : ℕ) (side : Side) where
   -- as many packets are in flight or stuck as before

@@ -12,7 +12,7 @@ use Rattle.ring_election.specs.Families.{Fitting}
 use Rattle.ring_node.specs.declared.charter.Charter.{Charter}
 use Rattle.ring_node.specs.declared.packet.Packet.{Packet}
 use Rattle.ring_node.specs.Journals.{news}
-use Rattle.ring_node.specs.Nodes.{IsFaithful, Seated, known_of, member_of, news_of, receiving, report_of, sent_of, taken_of, told_of}
+use Rattle.ring_node.specs.Nodes.{IsFaithful, Seated, member_of, news_of, receiving, sent_of, taken_of}
 use Rattle.ring_node.proofs.Receipts.{packets_after-snoc, taken_from-snoc}
 use Rattle.ring_world.specs.Worlds.{IsSoundLinks, IsSoundWorld, Running, after_receipt, on_link, node_at, nodes_from, sent_into, size_of, taken_at}
 use Rattle.ring_world.specs.private.Worlds.{IsWorld, journals_of}
@@ -158,20 +158,10 @@ world_after {E} {S} {M} t fits winner charter nodes cut world i within side p fr
       sound = rw (journals_of-set nodes i gained) (sound_after t old i inside side p fits winner world.sound front (rw is at faithful));
     })
 
--- where nothing is news nothing is told
-pub nothing_told : {E S M : Type 0} (t : E → Table S M) (old new : Seated E M) → news_of t old new ≡ None → told_of t old new ≡ None
-nothing_told t old new h = ap (option_map (λ (leader : ℕ). record { charter = old.charter; member = member_of old; leader = leader })) h
-
 -- what is news is known afterwards
-news-known : (before after : Option ℕ) (v : ℕ) → news before after ≡ Some v → after ≡ Some v
+pub news-known : (before after : Option ℕ) (v : ℕ) → news before after ≡ Some v → after ≡ Some v
 news-known None after v h = h
 news-known (Some w) after v h = cc
-
--- a node that first knows the leader by a receipt reports what that receipt tells
-pub report_of_receipt : {E S M : Type 0} (t : E → Table S M) (node : Seated E M) (side : Side) (p : Packet M) (v : ℕ) → news_of t node (receiving node side p) ≡ Some v
-    → report_of t (receiving node side p) ≡ told_of t node (receiving node side p)
-report_of_receipt t node side p v h =
-    ap (option_map (λ (leader : ℕ). record { charter = node.charter; member = member_of node; leader = leader })) (news-known (known_of t node) (known_of t (receiving node side p)) v h ∙ sym h)
 
 module _ {E S M : Type 0} (t : E → Table S M) (fits : E → Fitting M) (winner : E → List ℕ → ℕ) (charter : Charter E) (nodes : List (Seated E M)) (cut : List Bool)
     (world : IsWorld t fits winner charter nodes cut) (i : ℕ) (inside : i < length charter.roster) where
@@ -189,26 +179,13 @@ module _ {E S M : Type 0} (t : E → Table S M) (fits : E → Fitting M) (winner
   view_after side p node is =
       rw is (ap (λ (l : List (List (Side × Packet M))). record { charter = charter; journals = l; cut = cut }) (journals_of-set nodes i _))
 
-  -- what that receipt tells
-  pub told_after : (side : Side) (p : Packet M) (node : Seated E M) → node ≡ receiving (node_at (record { charter = charter; journals = journals_of nodes; cut = cut }) i) side p
-      → told_of t (node_at (record { charter = charter; journals = journals_of nodes; cut = cut }) i) (node_at (record { charter = charter; journals = journals_of (slice_set nodes i node); cut = cut }) i)
-      ≡ told_of t (node_at (record { charter = charter; journals = journals_of nodes; cut = cut }) i) (receiving (node_at (record { charter = charter; journals = journals_of nodes; cut = cut }) i) side p)
-  told_after side p node is =
+  -- what that receipt brings
+  pub news_after : (side : Side) (p : Packet M) (node : Seated E M) → node ≡ receiving (node_at (record { charter = charter; journals = journals_of nodes; cut = cut }) i) side p
+      → news_of t (node_at (record { charter = charter; journals = journals_of nodes; cut = cut }) i) (receiving (node_at (record { charter = charter; journals = journals_of nodes; cut = cut }) i) side p)
+      ≡ news_of t (node_at (record { charter = charter; journals = journals_of nodes; cut = cut }) i) (node_at (record { charter = charter; journals = journals_of (slice_set nodes i node); cut = cut }) i)
+  news_after side p node is =
       let old : Running E M = record { charter = charter; journals = journals_of nodes; cut = cut } in
       let within : i < length (journals_of nodes) = rw length-journals_of place_within in
-      ap (λ (now : Running E M). told_of t (node_at old i) (node_at now i)) (view_after side p node is)
-      ∙ ap (λ (now : Seated E M). told_of t (node_at old i) now) (receiver_after t old i within side p)
-
-  -- where the receipt brings no news, nothing is told
-  pub silent_after : (side : Side) (p : Packet M) (node : Seated E M) → node ≡ receiving (node_at (record { charter = charter; journals = journals_of nodes; cut = cut }) i) side p
-      → news_of t (node_at (record { charter = charter; journals = journals_of nodes; cut = cut }) i) (receiving (node_at (record { charter = charter; journals = journals_of nodes; cut = cut }) i) side p) ≡ None
-      → None ≡ told_of t (node_at (record { charter = charter; journals = journals_of nodes; cut = cut }) i) (node_at (record { charter = charter; journals = journals_of (slice_set nodes i node); cut = cut }) i)
-  silent_after side p node is none = sym (told_after side p node is ∙ nothing_told t (node_at (record { charter = charter; journals = journals_of nodes; cut = cut }) i) (receiving (node_at (record { charter = charter; journals = journals_of nodes; cut = cut }) i) side p) none)
-
-  -- where it brings news, the node's report is told
-  pub report_after : (side : Side) (p : Packet M) (node : Seated E M) → node ≡ receiving (node_at (record { charter = charter; journals = journals_of nodes; cut = cut }) i) side p
-      → (v : ℕ) → news_of t (node_at (record { charter = charter; journals = journals_of nodes; cut = cut }) i) (receiving (node_at (record { charter = charter; journals = journals_of nodes; cut = cut }) i) side p) ≡ Some v
-      → report_of t (receiving (node_at (record { charter = charter; journals = journals_of nodes; cut = cut }) i) side p)
-      ≡ told_of t (node_at (record { charter = charter; journals = journals_of nodes; cut = cut }) i) (node_at (record { charter = charter; journals = journals_of (slice_set nodes i node); cut = cut }) i)
-  report_after side p node is v some =
-      report_of_receipt t (node_at (record { charter = charter; journals = journals_of nodes; cut = cut }) i) side p v some ∙ sym (told_after side p node is)
+      sym
+      (ap (λ (now : Running E M). news_of t (node_at old i) (node_at now i)) (view_after side p node is)
+      ∙ ap (λ (now : Seated E M). news_of t (node_at old i) now) (receiver_after t old i within side p))

@@ -8,4 +8,5 @@ pub mod Placing
 pub mod Quiet
 pub mod Settlements
 pub mod Tallies
+pub mod Telling
 pub mod Work

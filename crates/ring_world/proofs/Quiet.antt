@@ -1,6 +1,7 @@
 -- Quiet means known: where each position has taken all that was sent to it, some position has decided,
 -- and its announcement has gone all the way round.
-use Rattle.std.proofs.Common.{◌≡◌, ◌<◌, ◌≤◌, ℕ, zero, suc, List, [], ◌++◌, length, Some, None, get_or, refl, sym, ap, ◌∙◌, subst, arith}
+use Rattle.std.proofs.Common.{◌≡◌, ◌<◌, ◌≤◌, ℕ, zero, suc, List, [], ◌++◌, length, Option, Some, None, get_or, refl, sym, ap, ◌∙◌, subst, arith}
+use Rattle.std.specs.Prelude.{IfNone}
 use Rattle.std.proofs.lemmas.List.{append-nil}
 use Rattle.std.proofs.lemmas.Option.{get_or_from_slice_get, slice_get_within}
 use Rattle.ring_id.specs.declared.side.Side.{Side}
@@ -21,7 +22,7 @@ use Rattle.ring_world.specs.declared.sort.Sort.{Sort}
 use Rattle.ring_world.specs.declared.sort.Sort.TheVariants.{Message, Announcement}
 use Rattle.ring_world.specs.Quiet.{AllKnow, IsEmptied, IsQuiet}
 use Rattle.ring_world.specs.Sorts.{of_sort}
-use Rattle.ring_world.specs.Worlds.{IsSoundWorld, IsUncut, Running, on_link, pending_below, pending_of, size_of, taken_at}
+use Rattle.ring_world.specs.Worlds.{IsReady, IsSoundWorld, IsUncut, Running, on_link, pending_below, pending_of, size_of, taken_at}
 use Rattle.ring_world.proofs.Announcements.{algos_of-of_sort, announced_right, decided_knows, taken_from-algo_part, unknown_took_none}
 use Rattle.ring_world.proofs.Cuts.{pending_stands, quiet_emptied}
 use Rattle.ring_world.proofs.Links.{each_side_below, no_length}
@@ -98,6 +99,12 @@ module _ {E S M : Type 0} (t : E → Table S M) (fits : E → Fitting M) (winner
   pub quiet_knows : Deciding (t world.charter.algorithm) (fits world.charter.algorithm) → ((me : ℕ) → (t world.charter.algorithm).decided ((t world.charter.algorithm).first me) ≡ None)
       → IsSoundWorld t fits winner world → IsUncut world → IsQuiet t world → AllKnow t winner world
   quiet_knows deciding undecided sound uncut quiet = emptied_knows deciding undecided sound (quiet_emptied t world uncut quiet)
+
+  -- and so it is where no link is ready
+  pub ready_knows : Deciding (t world.charter.algorithm) (fits world.charter.algorithm) → ((me : ℕ) → (t world.charter.algorithm).decided ((t world.charter.algorithm).first me) ≡ None)
+      → IsSoundWorld t fits winner world → (found : Option (ℕ × Side)) → IsReady t world found → IfNone found (IsUncut world → AllKnow t winner world)
+  ready_knows deciding undecided sound None idle = λ uncut. quiet_knows deciding undecided sound uncut (record { idle = idle })
+  ready_knows deciding undecided sound (Some link) first = tt
 
 module _ {E S M : Type 0} (t : E → Table S M) (world : Running E M) where
   -- where no packet is in flight or stuck into the positions below n, nothing is on their links

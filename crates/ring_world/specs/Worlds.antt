@@ -13,10 +13,12 @@ use Rattle.ring_node.specs.declared.charter.Charter.{Charter}
 use Rattle.ring_node.specs.declared.packet.Packet.{Packet}
 use Rattle.ring_node.specs.declared.packet.Packet.TheVariants.{Algo, Leader}
 use Rattle.ring_node.specs.Links.{link_refusal}
-use Rattle.ring_node.specs.Nodes.{IsFaithful, Seated, receiving, sent_of, taken_of, told_of}
+use Rattle.ring_node.specs.Nodes.{IsFaithful, Seated, news_of, receiving, sent_of, taken_of, told_of}
 use Rattle.ring_node.specs.Reports.{Told}
 use Rattle.ring_world.specs.declared.delivery.Delivery.{Delivery}
 use Rattle.ring_world.specs.declared.delivery.Delivery.TheVariants.{Moved, Idle, Refused}
+use Rattle.ring_world.specs.declared.passage.Passage.{Passage}
+use Rattle.ring_world.specs.declared.passage.Passage.TheVariants as passage
 
 -- The place of a link in the order of links. A link is named by its receiver, that position and the side
 -- from which it takes: the position counts first, and left comes before right.
@@ -159,6 +161,22 @@ module _ {E S M : Type 0} (t : E → Table S M) where
   Delivers two_way old i side (Moved report) new = (link_refusal two_way side ≡ None) × HasMoved old i side report new
   Delivers two_way old i side Idle new = (link_refusal two_way side ≡ None) × (in_flight old i side ≡ []) × (new ≡ old)
   Delivers two_way old i side (Refused refusal) new = IsRefusal (link_refusal two_way side) (nat_lt 0 (length (in_flight old i side))) refusal × (new ≡ old)
+
+  -- the first packet in flight on a link is taken, no other journal changes, and the leader is news to the
+  -- receiver
+  pub record HasPassed (old : Running E M) (i : ℕ) (side : Side) (leader : Option ℕ) (new : Running E M) : Type 0 where
+    pub packet : Packet M
+    pub rest : List (Packet M)
+    pub front : in_flight old i side ≡ packet ∷ rest
+    pub journals : new ≡ after_receipt old i side packet
+    pub leader_is : leader ≡ news_of t (node_at old i) (node_at new i)
+
+  -- What `pass` answers, and the traffic after it. A packet moves only where news of it may be told; where it
+  -- may not, want of memory is answered.
+  abbrev pub Passes : Bool → Bool → Running E M → ℕ → Side → Passage → Running E M → Type 0
+  Passes two_way may_tell old i side (passage.Moved leader) new = (link_refusal two_way side ≡ None) × (may_tell ≡ true) × HasPassed old i side leader new
+  Passes two_way may_tell old i side passage.Idle new = (link_refusal two_way side ≡ None) × (in_flight old i side ≡ []) × (new ≡ old)
+  Passes two_way may_tell old i side (passage.Refused refusal) new = IsRefusal (link_refusal two_way side) (nat_lt 0 (length (in_flight old i side))) refusal × (new ≡ old)
 
   -- a link comes before another: its receiver's position is less, or it is the left link of the same
   abbrev pub IsBefore : ℕ → Side → ℕ → Side → Type 0

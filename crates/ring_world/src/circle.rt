@@ -2,15 +2,14 @@ ghost use Rattle.std.specs.Prelude.{◌≡◌, ◌+◌, ◌<◌, ◌≤◌, ◌=
 ghost use Rattle.ring_id.specs.declared.side.Side.TheVariants.{Right};
 ghost use Rattle.ring_id.specs.Sides.{other, same_side};
 ghost use Rattle.ring_roster.specs.Ring.{neighbour};
-ghost use Rattle.ring_node.specs.Nodes.{IsComing, sent_of, told_of};
+ghost use Rattle.ring_node.specs.Nodes.{IsComing, news_of, sent_of};
 ghost use Rattle.ring_world.specs.private.Tallies.{HasMarked, HasMarkedSent};
 ghost use Rattle.ring_world.specs.Worlds.{IsSoundWorld, after_cut, after_receipt, is_cut, no_cuts, node_at, nodes_of, on_link};
 
 use crate::link_set::{LinkSet, place_of};
-use crate::owners::Owners;
 use ring_election::RingElection;
-use ring_id::{NoMemory, Side};
-use ring_node::{Charter, Node, Packet, Report};
+use ring_id::{NoMemory, NodeId, Side};
+use ring_node::{Charter, Node, Packet};
 use std::alloc::Global;
 use std::marker::Model;
 use std::sync::Arc;
@@ -20,7 +19,7 @@ use std::sync::Arc;
 /// What is in flight between them, and what is stuck, follows from what each has sent and taken.
 #[derive(Drop)]
 pub struct Circle<E: RingElection> {
-    owners: Owners<E>,
+    charter: Arc<Charter<E>>,
     nodes: Vec<Node<E>>,
     cut: LinkSet,
 }
@@ -33,9 +32,9 @@ impl<E: RingElection> Model for Circle<E> {
 
     ghost Value = { Running E E.Msg };
 
-    ghost view = { λ a. record { charter = a.owners.charter.value; journals = journals_of a.nodes.items; cut = bits_from a.cut.words 0 (2 * length a.owners.charter.value.roster) } };
+    ghost view = { λ a. record { charter = a.charter.value; journals = journals_of a.nodes.items; cut = bits_from a.cut.words 0 (2 * length a.charter.value.roster) } };
 
-    ghost invariant = { λ a. IsWorld E.table E.fits E.winner a.owners.charter.value a.nodes.items (bits_from a.cut.words 0 (2 * length a.owners.charter.value.roster)) };
+    ghost invariant = { λ a. IsWorld E.table E.fits E.winner a.charter.value a.nodes.items (bits_from a.cut.words 0 (2 * length a.charter.value.roster)) };
 }
 
 impl<E: RingElection> Circle<E> {
@@ -54,7 +53,7 @@ impl<E: RingElection> Circle<E> {
             nodes.push_reserved(Node::seat(alloc, copy, position)?);
         }
         Ok(Circle {
-            owners: Owners::of(charter),
+            charter,
             nodes,
             cut: LinkSet::empty(),
         })
@@ -65,7 +64,7 @@ impl<E: RingElection> Circle<E> {
         ensures value { result.now.value ≡ self.now.charter }
         ensures sound { IsSoundWorld E.table E.fits E.winner self.now }
     {
-        &self.owners.charter
+        &self.charter
     }
 
     /// The node of each position, in order.
@@ -133,27 +132,25 @@ impl<E: RingElection> Circle<E> {
         self.cut.has(place_of(position, side))
     }
 
-    /// Gives the first packet that stands on a link to its receiver.
+    /// Gives the first packet that stands on a link to its receiver: the leader, exactly where this receipt
+    /// is the first by which the receiver knows it.
     pub fn hand_over(
         &mut self,
         position: usize,
         side: Side,
         packet: Packet<E::Msg>,
-    ) -> Result<Option<Report<E>>, NoMemory>
+    ) -> Result<Option<NodeId>, NoMemory>
         requires inside { position < length self.old.charter.roster }
         requires front { slice_get (on_link E.table self.old position side) 0 ≡ Some packet }
         requires proper { IsComing E.fits E.winner (node_at self.old position) side packet }
         ensures journals { OnOk result (self.new ≡ after_receipt self.old position side packet) }
-        ensures report { IfOk result (λ report. report ≡ told_of E.table (node_at self.old position) (node_at self.new position)) }
+        ensures news { IfOk result (λ leader. leader ≡ news_of E.table (node_at self.old position) (node_at self.new position)) }
         ensures err { OnErr result (self.new ≡ self.old) }
         ensures sound { IsSoundWorld E.table E.fits E.winner self.new }
     {
-        self.owners.find()?;
         let node = &mut self.nodes[position];
-        let Some(_) = node.accept(side, packet)? else {
-            return Ok(None);
-        };
-        Ok(node.report(self.owners.take()))
+        let leader = node.accept(side, packet)?;
+        Ok(leader)
     }
 
     /// The first packet that stands on a link, which is proper there, and whether it is the last.

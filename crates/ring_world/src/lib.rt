@@ -18,11 +18,17 @@ mod circle;
 mod delivery;
 mod link_set;
 mod owners;
+mod passage;
 mod places;
 mod settlement;
 mod sort;
+mod tallied_circle;
+mod traffic;
 mod world;
 
 pub use delivery::Delivery;
+pub use passage::Passage;
 pub use settlement::{Settlement, settle};
+pub use tallied_circle::TalliedCircle;
+pub use traffic::Traffic;
 pub use world::World;

@@ -14,7 +14,7 @@ use Rattle.ring_any.specs.laws.Lowered.{OwnMessages, fit-lowered, length-lowered
 use Rattle.ring_any.specs.Variants.{Variant, lift_fits, lift_table, of_both, put_sends}
 
 -- what a function gives of a value that is there comes of that value
-option_map-some : {A B : Type 0} (f : A → B) (o : Option A) (b : B) → option_map f o ≡ Some b → (a : A) × (o ≡ Some a) × (b ≡ f a)
+pub option_map-some : {A B : Type 0} (f : A → B) (o : Option A) (b : B) → option_map f o ≡ Some b → (a : A) × (o ≡ Some a) × (b ≡ f a)
 option_map-some f None b is = cc
 option_map-some f (Some a) b is = (a, refl, cc)
 

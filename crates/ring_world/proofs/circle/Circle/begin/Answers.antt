@@ -31,14 +31,12 @@ invariant_of-result g c =
     let len = rw (c.roster.ensures, c.deref.ensures) at c.len-size.ensures.value in
     let ring = rw (c.roster.ensures, c.deref.ensures) at c.len-size.ensures.ring in
     let size : c.loop-position.position ≡ length c.args.charter.value.roster = omega (arith, len, c.loop-position-test.false, c.loop-position.auto.position-end) in
-    rw c.of.ensures
     (started_world _ _ _ c.args.charter.value ring (rw size at c.loop-position.invariant.faithful) _ (length-bits_from _ 0 _) c.loop-position.nodes.items (rw size at c.loop-position.invariant.nodes))
 
 pub returns : goal.returns
 returns g c =
     let len = rw (c.roster.ensures, c.deref.ensures) at c.len-size.ensures.value in
     let size : c.loop-position.position ≡ length c.args.charter.value.roster = omega (arith, len, c.loop-position-test.false, c.loop-position.auto.position-end) in
-    rw c.of.ensures
     (ap₂ (λ (l : List (List (Side × Packet g.row.E-Msg.Denot))) (flags : List Bool). record { charter = c.args.charter.value; journals = l; cut = flags })
     (started_journals c.args.charter.value (length c.args.charter.value.roster) c.loop-position.nodes.items (rw size at c.loop-position.invariant.nodes))
     (no_bits _ 0 (2 * length c.args.charter.value.roster) c.empty.ensures))

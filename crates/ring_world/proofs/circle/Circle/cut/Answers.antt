@@ -15,14 +15,14 @@ place_of-requires g c =
 pub invariant_of-self : goal.invariant_of-self
 invariant_of-self g c =
     let place : c.place_of.result ≡ link_place c.args.position c.args.side = c.place_of.ensures.value in
-    let put = link_put c.self.inside.cut.words c.put.new.self.words (length c.self.inside.owners.charter.value.roster) c.args.position c.args.side (ap (bit_of c.put.new.self.words) (sym place) ∙ c.put.ensures.here) (rw place at c.put.ensures.others) in
+    let put = link_put c.self.inside.cut.words c.put.new.self.words (length c.self.inside.charter.value.roster) c.args.position c.args.side (ap (bit_of c.put.new.self.words) (sym place) ∙ c.put.ensures.here) (rw place at c.put.ensures.others) in
     rw put (world_cut _ _ _ _ _ _ c.args.position c.args.side c.self.invariant)
 
 pub returns-clause-cut : goal.returns-clause-cut
 returns-clause-cut g c =
     let place : c.place_of.result ≡ link_place c.args.position c.args.side = c.place_of.ensures.value in
-    let put = link_put c.self.inside.cut.words c.put.new.self.words (length c.self.inside.owners.charter.value.roster) c.args.position c.args.side (ap (bit_of c.put.new.self.words) (sym place) ∙ c.put.ensures.here) (rw place at c.put.ensures.others) in
-    rw (← c.self.view_is) (ap (λ (flags : List Bool). record { charter = c.self.inside.owners.charter.value; journals = journals_of c.self.inside.nodes.items; cut = flags }) put)
+    let put = link_put c.self.inside.cut.words c.put.new.self.words (length c.self.inside.charter.value.roster) c.args.position c.args.side (ap (bit_of c.put.new.self.words) (sym place) ∙ c.put.ensures.here) (rw place at c.put.ensures.others) in
+    rw (← c.self.view_is) (ap (λ (flags : List Bool). record { charter = c.self.inside.charter.value; journals = journals_of c.self.inside.nodes.items; cut = flags }) put)
 
 pub returns-clause-sound : goal.returns-clause-sound
 returns-clause-sound g c = (invariant_of-self g c).sound

@@ -13,9 +13,9 @@ place_of-requires g c =
 
 pub returns : goal.returns
 returns g c =
-    let inside : c.args.position < length c.self.inside.owners.charter.value.roster = rw (← c.self.view_is) at c.requires in
+    let inside : c.args.position < length c.self.inside.charter.value.roster = rw (← c.self.view_is) at c.requires in
     let place : c.place_of.result ≡ link_place c.args.position c.args.side = c.place_of.ensures.value in
     rw (← c.self.view_is)
     (c.has.ensures
     ∙ ap (λ (n : ℕ). bit_of c.self.inside.cut.words n == 1) place
-    ∙ sym (bit_says c.self.inside.cut.words (length c.self.inside.owners.charter.value.roster) c.args.position c.args.side inside))
+    ∙ sym (bit_says c.self.inside.cut.words (length c.self.inside.charter.value.roster) c.args.position c.args.side inside))

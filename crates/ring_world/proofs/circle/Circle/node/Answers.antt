@@ -16,4 +16,4 @@ returns-clause-node g c =
     let within = rw (← c.self.view_is) at c.requires in
     let inside : c.args.position < length nodes.items = omega (arith, within, c.self.invariant.sound.count, length-journals_of nodes.items) in
     rw (← c.self.view_is)
-    (c.index.ensures ∙ node_of_world c.self.inside.owners.charter.value nodes.items (bits_from c.self.inside.cut.words 0 (2 * length c.self.inside.owners.charter.value.roster)) c.self.invariant.nodes_are c.args.position c.index.result.now inside)
+    (c.index.ensures ∙ node_of_world c.self.inside.charter.value nodes.items (bits_from c.self.inside.cut.words 0 (2 * length c.self.inside.charter.value.roster)) c.self.invariant.nodes_are c.args.position c.index.result.now inside)

@@ -7,7 +7,8 @@ pub returns-clause-emptied : goal.returns-clause-emptied
 returns-clause-emptied g c =
     let kept = rw c.self.view_is at c.self.invariant in
     let world = c.args.self.now in
-    (λ none. none_pending_emptied g.E.RingElection.table world (sym kept.counted ∙ none), λ emptied. kept.counted ∙ emptied_none_pending g.E.RingElection.table world emptied)
+    let counted = rw c.self.view_is at c.pending.ensures in
+    (λ none. none_pending_emptied g.E.RingElection.table world (sym counted ∙ none), λ emptied. counted ∙ emptied_none_pending g.E.RingElection.table world emptied)
 
 pub returns-clause-quiet : goal.returns-clause-quiet
 returns-clause-quiet g c = λ none.

@@ -3,7 +3,7 @@ use Rattle.ring_id.specs.declared.side.Side.{Side}
 use Rattle.ring_world.specs.private.LinkSets.{bit_of}
 use Rattle.ring_world.specs.private.Tallies.{IsMarked}
 use Rattle.ring_world.specs.Worlds.{pending_below, size_of}
-use Rattle.ring_world.proofs.world.World.begin.Given as goal
+use Rattle.ring_world.proofs.tallied_circle.TalliedCircleTraffic.begin.Given as goal
 
 -- the links into the positions that were passed are marked, and what is in flight there is counted;
 -- each link adds less than 2 ^ 64

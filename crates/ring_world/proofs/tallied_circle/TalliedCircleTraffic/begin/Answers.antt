@@ -5,7 +5,7 @@ use Rattle.ring_world.specs.Worlds.{size_of}
 use Rattle.ring_world.specs.private.Tallies.{IsMarked}
 use Rattle.ring_world.proofs.Cuts.{pending_stands}
 use Rattle.ring_world.proofs.Links.{each_side_below}
-use Rattle.ring_world.proofs.world.World.begin.Goals as goal
+use Rattle.ring_world.proofs.tallied_circle.TalliedCircleTraffic.begin.Goals as goal
 
 pub loop-position-preserved : goal.loop-position-preserved
 loop-position-preserved g c =

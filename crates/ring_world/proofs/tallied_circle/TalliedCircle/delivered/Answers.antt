@@ -1,10 +1,9 @@
--- A node's receipts came from one side or the other; all together they are bounded.
+-- A node's receipts came from one side or the other.
 use Rattle.std.proofs.Common.{◌≡◌, take, ap, ◌∙◌, arith}
 use Rattle.std.proofs.lemmas.List.{take_all}
 use Rattle.ring_world.specs.Worlds.{node_at, receipts_in}
 use Rattle.ring_world.proofs.Links.{length-both_sides, receipts_in-take}
-use Rattle.ring_world.proofs.Work.{announcements_bounded, work_bounded}
-use Rattle.ring_world.proofs.world.World.delivered.Goals as goal
+use Rattle.ring_world.proofs.tallied_circle.TalliedCircle.delivered.Goals as goal
 
 pub loop-position-preserved : goal.loop-position-preserved
 loop-position-preserved g c =
@@ -18,22 +17,9 @@ loop-position-preserved g c =
       few = omega (arith, c.taken.type_inv, c.taken-in-loop-position.type_inv);
     }
 
-pub returns-clause-value : goal.returns-clause-value
-returns-clause-value g c =
+pub returns : goal.returns
+returns g c =
     let size = rw c.self.view_is at c.size-position-end.ensures in
     let journals = c.args.self.now.journals in
     let all : take c.loop-position.position journals ≡ journals = take_all c.loop-position.position journals (omega (arith, size.sound.count, size.value)) in
     c.loop-position.invariant.counted ∙ ap receipts_in all
-
-pub returns-clause-bounded : goal.returns-clause-bounded
-returns-clause-bounded g c =
-    let size = rw c.self.view_is at c.size-position-end.ensures in
-    let world = c.args.self.now in
-    rw (returns-clause-value g c)
-    (work_bounded g.E.RingElection.table g.E.RingElection.fits g.E.RingElection.winner world size.sound g.E.RingElection.bound
-    (g.met.E.RingElection.bounded world.charter.algorithm))
-
-pub returns-clause-announced : goal.returns-clause-announced
-returns-clause-announced g c =
-    let size = rw c.self.view_is at c.size-position-end.ensures in
-    announcements_bounded g.E.RingElection.table g.E.RingElection.fits g.E.RingElection.winner c.args.self.now size.sound

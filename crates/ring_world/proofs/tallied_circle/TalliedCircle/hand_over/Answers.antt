@@ -6,7 +6,7 @@ use Rattle.ring_world.specs.private.Tallies.{HasLeft}
 use Rattle.ring_world.specs.Worlds.{is_cut, on_link}
 use Rattle.ring_world.proofs.Cuts.{front_stands, front_uncut, mark_standing}
 use Rattle.ring_world.proofs.Tallies.{some_length, count_after, count_few, sent_grown, sent_waits, tally_after}
-use Rattle.ring_world.proofs.world.World.hand_over.Goals as goal
+use Rattle.ring_world.proofs.tallied_circle.TalliedCircle.hand_over.Goals as goal
 
 pub leave-requires-clause-there : goal.leave-requires-clause-there
 leave-requires-clause-there g c =
@@ -21,38 +21,38 @@ pub mark_sent-left-requires-clause-waits : goal.mark_sent-left-requires-clause-w
 mark_sent-left-requires-clause-waits g c =
     let inside = rw (← c.self.view_is) at c.requires.inside in
     let front = front_stands (is_cut c.self.inside.circle c.args.position c.args.side) (on_link g.E.RingElection.table c.self.inside.circle c.args.position c.args.side) c.args.packet (rw (← c.self.view_is) at c.requires.front) in
-    sent_waits _ _ _ _ _ _ c.self.invariant c.args.position inside c.args.side c.args.packet front _ c.in_ok-report.ensures.journals Left _ c.sent-left_before.ensures
+    sent_waits _ _ _ _ _ _ c.self.invariant c.args.position inside c.args.side c.args.packet front _ c.in_ok-leader.ensures.journals Left _ c.sent-left_before.ensures
 
 pub mark_sent-left-requires-clause-grown : goal.mark_sent-left-requires-clause-grown
 mark_sent-left-requires-clause-grown g c =
     let inside = rw (← c.self.view_is) at c.requires.inside in
     let front = front_stands (is_cut c.self.inside.circle c.args.position c.args.side) (on_link g.E.RingElection.table c.self.inside.circle c.args.position c.args.side) c.args.packet (rw (← c.self.view_is) at c.requires.front) in
-    sent_grown _ _ _ _ _ _ c.self.invariant c.args.position inside c.args.side c.args.packet front _ c.in_ok-report.ensures.journals Left _ c.sent-left_before.ensures
+    sent_grown _ _ _ _ _ _ c.self.invariant c.args.position inside c.args.side c.args.packet front _ c.in_ok-leader.ensures.journals Left _ c.sent-left_before.ensures
 
 pub mark_sent-right-requires-clause-waits : goal.mark_sent-right-requires-clause-waits
 mark_sent-right-requires-clause-waits g c =
     let inside = rw (← c.self.view_is) at c.requires.inside in
     let front = front_stands (is_cut c.self.inside.circle c.args.position c.args.side) (on_link g.E.RingElection.table c.self.inside.circle c.args.position c.args.side) c.args.packet (rw (← c.self.view_is) at c.requires.front) in
-    sent_waits _ _ _ _ _ _ c.self.invariant c.args.position inside c.args.side c.args.packet front _ c.in_ok-report.ensures.journals Right _ c.sent-right_before.ensures
+    sent_waits _ _ _ _ _ _ c.self.invariant c.args.position inside c.args.side c.args.packet front _ c.in_ok-leader.ensures.journals Right _ c.sent-right_before.ensures
 
 pub mark_sent-right-requires-clause-grown : goal.mark_sent-right-requires-clause-grown
 mark_sent-right-requires-clause-grown g c =
     let inside = rw (← c.self.view_is) at c.requires.inside in
     let front = front_stands (is_cut c.self.inside.circle c.args.position c.args.side) (on_link g.E.RingElection.table c.self.inside.circle c.args.position c.args.side) c.args.packet (rw (← c.self.view_is) at c.requires.front) in
-    sent_grown _ _ _ _ _ _ c.self.invariant c.args.position inside c.args.side c.args.packet front _ c.in_ok-report.ensures.journals Right _ c.sent-right_before.ensures
+    sent_grown _ _ _ _ _ _ c.self.invariant c.args.position inside c.args.side c.args.packet front _ c.in_ok-leader.ensures.journals Right _ c.sent-right_before.ensures
 
 pub after_one-self-inside-requires-clause-few : goal.after_one-self-inside-requires-clause-few
 after_one-self-inside-requires-clause-few g c =
     let inside = rw (← c.self.view_is) at c.requires.inside in
     let front = front_stands (is_cut c.self.inside.circle c.args.position c.args.side) (on_link g.E.RingElection.table c.self.inside.circle c.args.position c.args.side) c.args.packet (rw (← c.self.view_is) at c.requires.front) in
-    let few = count_few _ _ _ _ _ _ c.self.invariant c.args.position inside c.args.side c.args.packet front _ c.in_ok-report.ensures.journals in
+    let few = count_few _ _ _ _ _ _ c.self.invariant c.args.position inside c.args.side c.args.packet front _ c.in_ok-leader.ensures.journals in
     omega (arith, few, c.mark_sent-left.type_inv, c.mark_sent-right.type_inv)
 
 pub after_one-self-inside-requires-clause-some : goal.after_one-self-inside-requires-clause-some
 after_one-self-inside-requires-clause-some g c =
     let inside = rw (← c.self.view_is) at c.requires.inside in
     let front = front_stands (is_cut c.self.inside.circle c.args.position c.args.side) (on_link g.E.RingElection.table c.self.inside.circle c.args.position c.args.side) c.args.packet (rw (← c.self.view_is) at c.requires.front) in
-    let whole = count_after _ _ _ _ _ _ c.self.invariant c.args.position inside c.args.side c.args.packet front _ c.in_ok-report.ensures.journals _ _ _ _
+    let whole = count_after _ _ _ _ _ _ c.self.invariant c.args.position inside c.args.side c.args.packet front _ c.in_ok-leader.ensures.journals _ _ _ _
     c.sent-left_before.ensures c.sent-right_before.ensures c.mark_sent-left.ensures.more c.mark_sent-right.ensures.more in
     omega (arith, whole)
 
@@ -69,6 +69,6 @@ invariant_of-self-2 g c =
       others = rw c.place_of.ensures.value at c.leave.ensures.others;
     } in
     rw c.after_one-self-inside.ensures
-    (tally_after _ _ _ _ _ _ c.self.invariant c.args.position inside c.args.side c.args.packet front _ c.in_ok-report.ensures.journals _ _ _ _
+    (tally_after _ _ _ _ _ _ c.self.invariant c.args.position inside c.args.side c.args.packet front _ c.in_ok-leader.ensures.journals _ _ _ _
     c.sent-left_before.ensures c.sent-right_before.ensures c.mark_sent-left.ensures.more c.mark_sent-right.ensures.more
-    c.in_ok-report.ensures.sound uncut _ _ _ left c.mark_sent-left.ensures.marked c.mark_sent-right.ensures.marked)
+    c.in_ok-leader.ensures.sound uncut _ _ _ left c.mark_sent-left.ensures.marked c.mark_sent-right.ensures.marked)

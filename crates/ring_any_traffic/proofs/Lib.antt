@@ -1,0 +1,4 @@
+pub mod EachKind
+pub mod Passing
+pub mod Placing
+pub mod Putting

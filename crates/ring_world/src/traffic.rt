@@ -1,0 +1,49 @@
+ghost use Rattle.std.specs.Prelude.{◌≡◌, ◌<◌, [], IfOk, length, replicate};
+ghost use Rattle.ring_world.specs.Worlds.{Cuts, IsReady, IsSoundWorld, Passes, no_cuts, pending_of};
+
+use crate::passage::Passage;
+use ring_election::RingElection;
+use ring_id::{NoMemory, Refusal, Side};
+use ring_node::Charter;
+use std::alloc::Global;
+use std::sync::Arc;
+
+/// The nodes of a term and the packets between them, however they are kept.
+///
+/// It is seen as its charter, the journals of its nodes and which links are cut, which say what is in
+/// flight. A world tells of it by reports; here the leader alone is told.
+pub trait Traffic<E: RingElection>: Sized + Drop {
+    ghost use Rattle.ring_world.specs.Worlds.{Running};
+
+    // its charter, the journals of its nodes, and which links are cut
+    ghost running: { Self → Running E E.Msg };
+
+    /// The nodes of this charter, which have started, and no link is cut. Refused for want of memory alone.
+    fn begin(alloc: Global, charter: Arc<Charter<E>>) -> Result<Self, NoMemory>
+        ensures started { IfOk result (λ made. running made ≡ record { charter = charter.value; journals = replicate (length charter.value.roster) []; cut = no_cuts (length charter.value.roster) }) }
+        ensures sound { IfOk result (λ made. IsSoundWorld E.table E.fits E.winner (running made)) };
+
+    /// Cuts the link into a position from a side. Refused `OneWay` where the algorithm sends nothing that
+    /// arrives from there; nothing has changed then. Takes no memory.
+    fn cut(&mut self, position: usize, side: Side) -> Result<(), Refusal>
+        requires { position < length (running self.old).charter.roster }
+        ensures cuts { Cuts (E.is_two_way (running self.old).charter.algorithm) (running self.old) position side result (running self.new) }
+        ensures sound { IsSoundWorld E.table E.fits E.winner (running self.new) };
+
+    /// Passes the front packet of the link into a position from a side to its receiver: the leader, exactly
+    /// where the receiver now knows it first. Refused `OneWay` where the algorithm sends nothing that
+    /// arrives from there; `Idle` where nothing is in flight on the link; refused `NoMemory` where a growth
+    /// was, or where news of a leader may not be told. Nothing has changed then.
+    fn pass(&mut self, position: usize, side: Side, may_tell: bool) -> Passage
+        requires { position < length (running self.old).charter.roster }
+        ensures passes { Passes E.table (E.is_two_way (running self.old).charter.algorithm) may_tell (running self.old) position side result (running self.new) }
+        ensures sound { IsSoundWorld E.table E.fits E.winner (running self.new) };
+
+    /// How many packets are in flight or stuck. Takes no memory, like the next.
+    fn pending(&self) -> u128
+        ensures { result ≡ pending_of E.table (running self.now) };
+
+    /// The first link with something in flight.
+    fn ready(&self) -> Option<(usize, Side)>
+        ensures { IsReady E.table (running self.now) result };
+}
