@@ -19,19 +19,18 @@ use Rattle.ring_any.specs.declared.any.Any.TheVariants.{LeLann, Chang, Hirschber
 use Rattle.ring_any.specs.Kinds.{chang_messages, chang_states, hirschberg_messages, hirschberg_states, lelann_messages, lelann_states, peterson_messages, peterson_states}
 use Rattle.ring_any.specs.Variants.{Variant}
 use Rattle.ring_world.specs.Worlds.{IsSoundWorld, Running, no_cuts}
-use Rattle.ring_any_traffic.specs.Under.{running_under}
+use Rattle.ring_any_traffic.specs.Under.{charter_under, running_under}
 use Rattle.ring_any_traffic.proofs.Passing.{begun_under, sound_under}
 use Rattle.ring_any_traffic.proofs.Placing.{IsKindOf}
 
 -- traffic that began under the charter of an algorithm is traffic that began under its kind's
 pub begun_as : {E F WM M : Type 0} (messages : Variant WM M) (kind : F) (algorithm : E) (charter : Charter F) → charter.algorithm ≡ kind
-    → (own : Charter E) → own ≡ record { group = charter.group; term = charter.term; algorithm = algorithm; roster = charter.roster }
-    → (running : Running E M) → running ≡ record { charter = own; journals = replicate (length own.roster) []; cut = no_cuts (length own.roster) }
+    → (running : Running E M) → running ≡ record { charter = charter_under algorithm charter; journals = replicate (length charter.roster) []; cut = no_cuts (length charter.roster) }
     → running_under kind messages running ≡ record { charter = charter; journals = replicate (length charter.roster) []; cut = no_cuts (length charter.roster) }
-begun_as {E} {F} {WM} {M} messages kind algorithm charter is own own_is running begun =
-    rw (begun, own_is)
-    (begun_under messages kind (record { group = charter.group; term = charter.term; algorithm = algorithm; roster = charter.roster })
-    ∙ ap (λ (k : F). record { charter = record { group = charter.group; term = charter.term; algorithm = k; roster = charter.roster }; journals = replicate (length charter.roster) []; cut = no_cuts (length charter.roster) }) (sym is))
+begun_as {E} {F} {WM} {M} messages kind algorithm charter is running begun =
+    rw begun
+    (begun_under messages kind (charter_under algorithm charter)
+    ∙ ap (λ (k : F). record { charter = charter_under k charter; journals = replicate (length charter.roster) []; cut = no_cuts (length charter.roster) }) (sym is))
 
 -- LeLann's
 pub lelann_kind : IsKindOf lelann_states lelann_messages (λ (_ : lelann.LeLann). lelann_table) any_table LeLann

@@ -1,9 +1,11 @@
 ghost use Rattle.std.specs.Prelude.{◌≡◌, [], IfOk, length, replicate};
 ghost use Rattle.ring_any.specs.Any.{any_fits, any_table, any_winner};
+ghost use Rattle.ring_any_traffic.specs.Under.{charter_under};
 ghost use Rattle.ring_world.specs.Worlds.{IsSoundWorld, no_cuts};
 
 use ring_any::{Any, AnyMsg};
 use ring_chang::Chang;
+use ring_election::RingElection;
 use ring_hirschberg::Hirschberg;
 use ring_id::{NoMemory, Refusal, Side};
 use ring_lelann::LeLann;
@@ -51,15 +53,10 @@ impl Traffic<Any> for AnyTraffic {
         ensures sound { IfOk result (λ made. IsSoundWorld any_table any_fits any_winner made) }
     {
         let kind = match charter.algorithm() {
-            Any::LeLann => Kind::LeLann(Traffic::begin(alloc, charter.under(alloc, LeLann)?)?),
-            Any::Chang => Kind::Chang(Traffic::begin(alloc, charter.under(alloc, Chang)?)?),
-            Any::Hirschberg => {
-                Kind::Hirschberg(Traffic::begin(alloc, charter.under(alloc, Hirschberg)?)?)
-            }
-            Any::Peterson => Kind::Peterson(Traffic::begin(
-                alloc,
-                charter.under(alloc, Peterson)?,
-            )?),
+            Any::LeLann => Kind::LeLann(circle_under(alloc, &charter, LeLann)?),
+            Any::Chang => Kind::Chang(circle_under(alloc, &charter, Chang)?),
+            Any::Hirschberg => Kind::Hirschberg(circle_under(alloc, &charter, Hirschberg)?),
+            Any::Peterson => Kind::Peterson(circle_under(alloc, &charter, Peterson)?),
         };
         Ok(AnyTraffic { kind })
     }
@@ -99,4 +96,17 @@ impl Traffic<Any> for AnyTraffic {
             Kind::Peterson(circle) => circle.ready(),
         }
     }
+}
+
+/// The circle of a term's nodes, which have started, as this algorithm keeps them.
+fn circle_under<E: RingElection>(
+    alloc: Global,
+    charter: &Charter<Any>,
+    algorithm: E,
+) -> Result<TalliedCircle<E>, NoMemory>
+    ensures started { IfOk result (λ made. made ≡ record { charter = charter_under algorithm charter.now; journals = replicate (length charter.now.roster) []; cut = no_cuts (length charter.now.roster) }) }
+    ensures sound { IfOk result (λ made. IsSoundWorld E.table E.fits E.winner made) }
+{
+    let own = charter.under(alloc, algorithm)?;
+    TalliedCircle::begin(alloc, own)
 }

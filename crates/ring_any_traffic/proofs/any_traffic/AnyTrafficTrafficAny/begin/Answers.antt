@@ -4,30 +4,30 @@ use Rattle.ring_any.specs.declared.any.Any.TheVariants.{LeLann, Chang, Hirschber
 use Rattle.ring_any.specs.Kinds.{chang_messages, hirschberg_messages, lelann_messages, peterson_messages}
 use Rattle.ring_any_traffic.proofs.EachKind.{begun_as, chang_sound, hirschberg_sound, lelann_sound, peterson_sound}
 use Rattle.ring_any_traffic.proofs.any_traffic.AnyTrafficTrafficAny.begin.Goals as goal
-use Rattle.ring_any_traffic.proofs.any_traffic.AnyTrafficTrafficAny.begin.Goals.{in-LeLann+in_ok-under-in-LeLann+in_ok-begin-in-LeLann, in-Chang+in_ok-under-in-Chang+in_ok-begin-in-Chang, in-Hirschberg+in_ok-under-in-Hirschberg+in_ok-begin-in-Hirschberg, in-Peterson+in_ok-under-in-Peterson+in_ok-begin-in-Peterson}
+use Rattle.ring_any_traffic.proofs.any_traffic.AnyTrafficTrafficAny.begin.Goals.{in-LeLann+in_ok-circle_under-in-LeLann, in-Chang+in_ok-circle_under-in-Chang, in-Hirschberg+in_ok-circle_under-in-Hirschberg, in-Peterson+in_ok-circle_under-in-Peterson}
 
 pub returns-clause-started : goal.returns-clause-started
 returns-clause-started c =
     elim c.match-algorithm.branch [
-      | in-LeLann+in_ok-under-in-LeLann+in_ok-begin-in-LeLann w ↦
+      | in-LeLann+in_ok-circle_under-in-LeLann w ↦
           rw w.kind-is
-          (begun_as lelann_messages LeLann _ c.args.charter.value (sym (c.algorithm.ensures ∙ ap (λ charter. charter.algorithm) c.deref.ensures) ∙ w.in-LeLann.is) _ (rw w.deref-in-LeLann.ensures at w.in_ok-under-in-LeLann.ensures) _ w.in_ok-begin-in-LeLann.ensures.started)
-      | in-Chang+in_ok-under-in-Chang+in_ok-begin-in-Chang w ↦
+          (begun_as lelann_messages LeLann _ c.args.charter.value (sym (c.algorithm.ensures ∙ ap (λ charter. charter.algorithm) c.deref.ensures) ∙ w.in-LeLann.is) _ (rw w.deref-in-LeLann.ensures at w.in_ok-circle_under-in-LeLann.ensures.started))
+      | in-Chang+in_ok-circle_under-in-Chang w ↦
           rw w.kind-is
-          (begun_as chang_messages Chang _ c.args.charter.value (sym (c.algorithm.ensures ∙ ap (λ charter. charter.algorithm) c.deref.ensures) ∙ w.in-Chang.is) _ (rw w.deref-in-Chang.ensures at w.in_ok-under-in-Chang.ensures) _ w.in_ok-begin-in-Chang.ensures.started)
-      | in-Hirschberg+in_ok-under-in-Hirschberg+in_ok-begin-in-Hirschberg w ↦
+          (begun_as chang_messages Chang _ c.args.charter.value (sym (c.algorithm.ensures ∙ ap (λ charter. charter.algorithm) c.deref.ensures) ∙ w.in-Chang.is) _ (rw w.deref-in-Chang.ensures at w.in_ok-circle_under-in-Chang.ensures.started))
+      | in-Hirschberg+in_ok-circle_under-in-Hirschberg w ↦
           rw w.kind-is
-          (begun_as hirschberg_messages Hirschberg _ c.args.charter.value (sym (c.algorithm.ensures ∙ ap (λ charter. charter.algorithm) c.deref.ensures) ∙ w.in-Hirschberg.is) _ (rw w.deref-in-Hirschberg.ensures at w.in_ok-under-in-Hirschberg.ensures) _ w.in_ok-begin-in-Hirschberg.ensures.started)
-      | in-Peterson+in_ok-under-in-Peterson+in_ok-begin-in-Peterson w ↦
+          (begun_as hirschberg_messages Hirschberg _ c.args.charter.value (sym (c.algorithm.ensures ∙ ap (λ charter. charter.algorithm) c.deref.ensures) ∙ w.in-Hirschberg.is) _ (rw w.deref-in-Hirschberg.ensures at w.in_ok-circle_under-in-Hirschberg.ensures.started))
+      | in-Peterson+in_ok-circle_under-in-Peterson w ↦
           rw w.kind-is
-          (begun_as peterson_messages Peterson _ c.args.charter.value (sym (c.algorithm.ensures ∙ ap (λ charter. charter.algorithm) c.deref.ensures) ∙ w.in-Peterson.is) _ (rw w.deref-in-Peterson.ensures at w.in_ok-under-in-Peterson.ensures) _ w.in_ok-begin-in-Peterson.ensures.started)
+          (begun_as peterson_messages Peterson _ c.args.charter.value (sym (c.algorithm.ensures ∙ ap (λ charter. charter.algorithm) c.deref.ensures) ∙ w.in-Peterson.is) _ (rw w.deref-in-Peterson.ensures at w.in_ok-circle_under-in-Peterson.ensures.started))
     ]
 
 pub returns-clause-sound : goal.returns-clause-sound
 returns-clause-sound c =
     elim c.match-algorithm.branch [
-      | in-LeLann+in_ok-under-in-LeLann+in_ok-begin-in-LeLann w ↦ rw w.kind-is (lelann_sound _ w.in_ok-begin-in-LeLann.ensures.sound)
-      | in-Chang+in_ok-under-in-Chang+in_ok-begin-in-Chang w ↦ rw w.kind-is (chang_sound _ w.in_ok-begin-in-Chang.ensures.sound)
-      | in-Hirschberg+in_ok-under-in-Hirschberg+in_ok-begin-in-Hirschberg w ↦ rw w.kind-is (hirschberg_sound _ w.in_ok-begin-in-Hirschberg.ensures.sound)
-      | in-Peterson+in_ok-under-in-Peterson+in_ok-begin-in-Peterson w ↦ rw w.kind-is (peterson_sound _ w.in_ok-begin-in-Peterson.ensures.sound)
+      | in-LeLann+in_ok-circle_under-in-LeLann w ↦ rw w.kind-is (lelann_sound _ w.in_ok-circle_under-in-LeLann.ensures.sound)
+      | in-Chang+in_ok-circle_under-in-Chang w ↦ rw w.kind-is (chang_sound _ w.in_ok-circle_under-in-Chang.ensures.sound)
+      | in-Hirschberg+in_ok-circle_under-in-Hirschberg w ↦ rw w.kind-is (hirschberg_sound _ w.in_ok-circle_under-in-Hirschberg.ensures.sound)
+      | in-Peterson+in_ok-circle_under-in-Peterson w ↦ rw w.kind-is (peterson_sound _ w.in_ok-circle_under-in-Peterson.ensures.sound)
     ]
