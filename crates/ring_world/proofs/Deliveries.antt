@@ -1,6 +1,6 @@
 -- A delivery keeps a world sound: the receiver's journal gains the front packet of its link, what it
 -- sends because of it comes last on its links, and nothing else changes.
-use Rattle.std.proofs.Common.{◌≡◌, ◌≢◌, ◌+◌, ◌<◌, ℕ, Bool, true, false, cond, List, [], ◌∷◌, ◌++◌, length, drop, Option, Some, None, option_map, slice_get, slice_set, get_or, refl, sym, ap, ◌∙◌, append_assoc, arith, inl, inr, get_or-set_other, get_or-set_same}
+use Rattle.std.proofs.Common.{◌≡◌, ◌≢◌, ◌+◌, ◌<◌, ℕ, Bool, true, false, cond, List, [], ◌∷◌, ◌++◌, length, drop, Some, slice_get, slice_set, get_or, refl, sym, ap, ◌∙◌, append_assoc, arith, inl, inr, get_or-set_other, get_or-set_same}
 use Rattle.std.proofs.lemmas.List.{append-nil}
 use Rattle.std.proofs.Math.ListN.{length-set}
 use Rattle.ring_id.specs.declared.side.Side.{Side}
@@ -11,7 +11,6 @@ use Rattle.ring_election.specs.Tables.{Table}
 use Rattle.ring_election.specs.Families.{Fitting}
 use Rattle.ring_node.specs.declared.charter.Charter.{Charter}
 use Rattle.ring_node.specs.declared.packet.Packet.{Packet}
-use Rattle.ring_node.specs.Journals.{news}
 use Rattle.ring_node.specs.Nodes.{IsFaithful, Seated, member_of, news_of, receiving, sent_of, taken_of}
 use Rattle.ring_node.proofs.Receipts.{packets_after-snoc, taken_from-snoc}
 use Rattle.ring_world.specs.Worlds.{IsSoundLinks, IsSoundWorld, Running, after_receipt, on_link, node_at, nodes_from, sent_into, size_of, taken_at}
@@ -157,11 +156,6 @@ world_after {E} {S} {M} t fits winner charter nodes cut world i within side p fr
           ∙ ap (λ (l : List (List (Side × Packet M))). nodes_from charter 0 l) (sym (journals_of-set nodes i gained));
       sound = rw (journals_of-set nodes i gained) (sound_after t old i inside side p fits winner world.sound front (rw is at faithful));
     })
-
--- what is news is known afterwards
-pub news-known : (before after : Option ℕ) (v : ℕ) → news before after ≡ Some v → after ≡ Some v
-news-known None after v h = h
-news-known (Some w) after v h = cc
 
 module _ {E S M : Type 0} (t : E → Table S M) (fits : E → Fitting M) (winner : E → List ℕ → ℕ) (charter : Charter E) (nodes : List (Seated E M)) (cut : List Bool)
     (world : IsWorld t fits winner charter nodes cut) (i : ℕ) (inside : i < length charter.roster) where

@@ -8,5 +8,4 @@ pub mod Placing
 pub mod Quiet
 pub mod Settlements
 pub mod Tallies
-pub mod Telling
 pub mod Work
