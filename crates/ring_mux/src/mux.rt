@@ -18,6 +18,7 @@ use ring_terms::{Book, Standing};
 use ring_world::{TalliedCircle, Traffic, World};
 use std::alloc::Global;
 use std::marker::Model;
+use std::sync::Arc;
 
 /// Many groups at once: a book, and the world of the last term of each group at the group's place.
 ///
@@ -142,19 +143,21 @@ impl<E: RingElection, T: Traffic<E>> Mux<E, T> {
             Ok(charter) => charter,
             Err(refusal) => return Reply::Refused(refusal),
         };
-        let Ok(world) = World::begin(alloc, charter) else {
+        let Ok(copy) = Arc::try_clone(&charter) else {
+            return Reply::Refused(Refusal::NoMemory);
+        };
+        let Ok(world) = World::begin(alloc, copy) else {
             return Reply::Refused(Refusal::NoMemory);
         };
         if make_place(&mut self.worlds, place).is_err() {
             return Reply::Refused(Refusal::NoMemory);
         }
-        match self.book.start(alloc, group) {
-            Ok(charter) => {
-                self.worlds[place] = Some(world);
-                Reply::Term(charter.term())
-            }
-            Err(refusal) => Reply::Refused(refusal),
-        }
+        let term = charter.term();
+        let Ok(()) = self.book.start_planned(alloc, charter) else {
+            return Reply::Refused(Refusal::NoMemory);
+        };
+        self.worlds[place] = Some(world);
+        Reply::Term(term)
     }
 
     /// How many packets are in flight or stuck in a group's running term; where there are none the term is

@@ -1,6 +1,6 @@
 -- What a book shows of a group that was looked up, and what it keeps after a write or an insert.
 use Rattle.std.proofs.Common.{◌≡◌, ◌<◌, ◌≤◌, ℕ, Bool, true, false, List, [], ◌∷◌, ◌++◌, length, Option, None, Some, refl, sym, ◌∙◌, ap, subst, arith, inl, inr}
-use Rattle.std.specs.Prelude.{Result, Ok, Err, is_some, nat_le, position, slice_get}
+use Rattle.std.specs.Prelude.{Result, Ok, Err, OnErr, OnOk, is_some, nat_le, position, slice_get}
 use Rattle.std.specs.Map.{keys_of, lookup, set_value}
 use Rattle.std.specs.List.{IsDistinct}
 use Rattle.std.specs.Option.{option_map}
@@ -9,7 +9,7 @@ use Rattle.std.proofs.lemmas.Cmp.{nat_list_eq_equiv}
 use Rattle.std.proofs.lemmas.Bool.Decides.{nat_tests}
 use Rattle.std.proofs.lemmas.List.{length-map, length_push, map-append}
 use Rattle.std.proofs.lemmas.Map.Steps.{set_value_same}
-use Rattle.std.proofs.lemmas.Option.{none-some, slice_get-map}
+use Rattle.std.proofs.lemmas.Option.{none-some, same_Some, slice_get-map}
 use Rattle.std.proofs.lemmas.Slice.Eq.{bytes_eq-Decides}
 use Rattle.ring_id.specs.declared.refusal.Refusal.{Refusal}
 use Rattle.ring_id.specs.declared.refusal.Refusal.TheVariants as refused
@@ -39,6 +39,16 @@ pub missing_in : {E : Type 0} (entries : List (List ℕ × Group E)) (object : O
     None ≡ lookup (bytes_eq name) entries → find name object ≡ None
 missing_in {E} entries object is name at =
     subst (λ (o : Object E). find name o ≡ None) is (lookup-map (bytes_eq name) (group_view {E = E}) entries ∙ ap (option_map (group_view {E = E})) (sym at))
+
+-- what is so of the group of this name is so of what the one that was looked up shows
+pub of_shown : {E : Type 0} (entries : List (List ℕ × Group E)) (object : Object E) → object_view entries ≡ object → (name : List ℕ) (g : Group E) → Some g ≡ lookup (bytes_eq name) entries →
+    (Says : GroupView E → Type 0) → OfGroup name Says object → Says (group_view g)
+of_shown entries object is name g at Says of = subst Says (same_Some of.group (group_view g) (sym of.found ∙ found_in entries object is name g at)) of.says
+
+-- and it is not looked for in vain
+pub of_there : {E : Type 0} (entries : List (List ℕ × Group E)) (object : Object E) → object_view entries ≡ object → (name : List ℕ) → None ≡ lookup (bytes_eq name) entries →
+    (Says : GroupView E → Type 0) → OfGroup name Says object → ⊥
+of_there entries object is name at Says of = none-some of.group (sym (missing_in entries object is name at) ∙ of.found)
 
 -- where no group has this name, that is the first refusal
 pub no_group : {E : Type 0} (object : Object E) (name : List ℕ) (first : GroupView E → Option Refusal) (grows : Bool) → find name object ≡ None → IsRefusal (in_group name first object) grows refused.NoGroup
@@ -79,6 +89,16 @@ module _ {E : Type 0} (entries : List (List ℕ × Group E)) (object : Object E)
   group_answers first grows (Ok a) Does answers =
       (rw found answers.0, record { before = group_view g; after = group_view h; found = found; does = answers.1; rest = shown_after })
   group_answers first grows (Err refusal) Does answers = (same_after answers.0, rw found answers.1)
+
+  -- and what is done to it without a refusal is done to the object
+  pub group_done : {A B : Type 0} (answer : Result A B) (Does : GroupView E → GroupView E → Type 0) → OnOk answer (Does (group_view g) (group_view h)) → OnOk answer (InGroup name Does object (object_view after))
+  group_done (Ok a) Does does = record { before = group_view g; after = group_view h; found = found; does = does; rest = shown_after }
+  group_done (Err b) Does does = does
+
+  -- and where a refusal changes nothing of it, the object stays
+  pub group_stays : {A B : Type 0} (answer : Result A B) → OnErr answer (group_view h ≡ group_view g) → OnErr answer (object_view after ≡ object)
+  group_stays (Ok a) same = same
+  group_stays (Err b) same = same_after same
 
   -- and so it is with a report
   pub group_notes : (greatest : E → Bool) (report : Told E) (noting : Noting) → NotesGroup greatest name report (group_view g) noting (group_view h) → NotesOf greatest name report object noting (object_view after)

@@ -1,4 +1,4 @@
-ghost use Rattle.std.specs.Prelude.{◌≡◌, [], length, None, Some, true, false};
+ghost use Rattle.std.specs.Prelude.{◌≡◌, [], length, None, OnErr, OnOk, Some, true, false};
 ghost use Rattle.ring_terms.specs.Object.{InGroup, OfGroup, leaders, names, place_of};
 ghost use Rattle.ring_terms.specs.Charters.{next_charter, running_charter};
 ghost use Rattle.ring_terms.specs.Commands.{create_refusal, in_group, join_refusal, leave_refusal, never_refused, running_refusal, start_refusal, who_refusal, Answers, Creates, Joins, Leaves, Shows, StartsWith};
@@ -11,7 +11,7 @@ use crate::standing::{Noting, Standing};
 use indexmap::IndexMap;
 use ring_election::RingElection;
 use ring_events::{GroupList, MemberList, TermList};
-use ring_id::{GroupName, NodeId, NodeNo, Refusal};
+use ring_id::{GroupName, NoMemory, NodeId, NodeNo, Refusal};
 use ring_node::{Charter, Report};
 use std::alloc::Global;
 use std::marker::Model;
@@ -127,6 +127,21 @@ impl<E: RingElection> Book<E> {
             return Err(Refusal::NoGroup);
         };
         found.start(alloc)
+    }
+
+    /// Starts the term of a charter that `plan` gave, where nothing was done to its group since: its ring
+    /// is the charter's, with no leader and nobody informed. Refused for want of memory alone; nothing has
+    /// changed then.
+    pub fn start_planned(&mut self, alloc: Global, charter: Arc<Charter<E>>) -> Result<(), NoMemory>
+        requires planned { OfGroup charter.value.group (λ g. (start_refusal g ≡ None)
+            × (charter.value ≡ next_charter charter.value.group g)) self.old }
+        ensures started { OnOk result (InGroup charter.value.group (StartsWith charter.value.group charter.value) self.old self.new) }
+        ensures err { OnErr result (self.new ≡ self.old) }
+    {
+        let Some(found) = self.groups.get_mut(&charter.group()) else {
+            unreachable!()
+        };
+        found.start_planned(alloc, charter)
     }
 
     /// What the last term says to a member: its leader where that member is informed, else undecided.

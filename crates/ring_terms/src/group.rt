@@ -1,4 +1,4 @@
-ghost use Rattle.std.specs.Prelude.{◌≡◌, ◌+◌, ◌<◌, ◌≤◌, Some, filter, length, map, not, true, false};
+ghost use Rattle.std.specs.Prelude.{◌≡◌, ◌+◌, ◌<◌, ◌≤◌, None, OnErr, OnOk, Some, filter, length, map, not, true, false};
 ghost use Rattle.std.specs.List.{list_any};
 ghost use Rattle.ring_roster.specs.Ring.{is_numbered};
 ghost use Rattle.ring_terms.specs.Object.{new_group, leaders};
@@ -10,7 +10,7 @@ use crate::standing::{Noting, Standing};
 use crate::term::Term;
 use ring_election::RingElection;
 use ring_events::{MemberList, TermList};
-use ring_id::{GroupName, NodeId, NodeNo, Refusal, TermNo};
+use ring_id::{GroupName, NoMemory, NodeId, NodeNo, Refusal, TermNo};
 use ring_node::{Charter, Report};
 use ring_roster::Roster;
 use std::alloc::Global;
@@ -140,13 +140,31 @@ impl<E: RingElection> Group<E> {
         let Ok(copy) = Arc::try_clone(&charter) else {
             return Err(Refusal::NoMemory);
         };
-        let Ok(term) = Term::begin(alloc, copy) else {
-            return Err(Refusal::NoMemory);
-        };
-        let Ok(()) = self.terms.push(term) else {
+        let Ok(()) = self.start_planned(alloc, copy) else {
             return Err(Refusal::NoMemory);
         };
         Ok(charter)
+    }
+
+    /// Starts the term of this charter, which `plan` gave. Refused for want of memory alone; nothing
+    /// has changed then.
+    pub(crate) fn start_planned(
+        &mut self,
+        alloc: Global,
+        charter: Arc<Charter<E>>,
+    ) -> Result<(), NoMemory>
+        requires kept { IsGroupOf E.winner self.old.name self.old }
+        requires allowed { start_refusal (group_view self.old) ≡ None }
+        requires planned { charter.value ≡ next_charter self.old.name (group_view self.old) }
+        ensures started { OnOk result (StartsWith self.old.name charter.value (group_view self.old) (group_view self.new)) }
+        ensures err { OnErr result (group_view self.new ≡ group_view self.old) }
+        ensures kept { IsGroupOf E.winner self.old.name self.new }
+    {
+        let term = Term::begin(alloc, charter)?;
+        let Ok(()) = self.terms.push(term) else {
+            return Err(NoMemory);
+        };
+        Ok(())
     }
 
     /// What the last term says to the member with this number.
