@@ -7,25 +7,18 @@ use std::alloc::Global;
 ///
 /// A guess may be wrong: of several members with the same last bits it is the last one's position. No clause
 /// speaks of guesses, and who looks up a member compares its number. There are at least four times as many
-/// as members, since more would be wrong among fewer; and there are none for so few members that a search
-/// takes no longer.
+/// as members, since more would be wrong among fewer.
 #[derive(Debug, Drop)]
 pub(crate) struct Guesses {
     positions: Vec<u8>,
 }
-
-/// The most members that are found without guesses.
-const FEW: usize = 8;
 
 impl Guesses {
     /// The guesses for these members.
     pub(crate) fn new(alloc: Global, members: &[NodeId]) -> Result<Guesses, NoMemory>
         requires { length members.now ≤ 256 }
     {
-        let count = match members.len() {
-            0..=FEW => 0,
-            many => (4 * many).next_power_of_two(),
-        };
+        let count = (4 * members.len()).next_power_of_two();
         let mut guesses = Guesses {
             positions: Vec::from_elem(alloc, 0, count)?,
         };
@@ -38,6 +31,14 @@ impl Guesses {
         Ok(guesses)
     }
 
+    /// The same guesses once more.
+    pub(crate) fn copied(&self, alloc: Global) -> Result<Guesses, NoMemory> {
+        let Ok(positions) = Vec::from_slice(alloc, &self.positions) else {
+            return Err(NoMemory);
+        };
+        Ok(Guesses { positions })
+    }
+
     /// The guess for a number.
     pub(crate) fn of(&self, node: NodeNo) -> u8 {
         match self.positions.get(self.place(node)) {
@@ -46,7 +47,7 @@ impl Guesses {
         }
     }
 
-    // Where the guess for a number stands. How many there are is a power of two, or none: then no place is one.
+    // Where the guess for a number stands: how many there are is a power of two.
     fn place(&self, node: NodeNo) -> usize {
         node.get() as usize & self.positions.len().wrapping_sub(1)
     }

@@ -5,6 +5,7 @@
 #![tactic(auto)]
 
 mod guesses;
+mod index;
 mod order;
 mod roster;
 

@@ -3,8 +3,7 @@ ghost use Rattle.std.specs.List.{list_any};
 ghost use Rattle.ring_id.specs.Refusals.{IsRefusal};
 ghost use Rattle.ring_roster.specs.Ring.{IsRing, has_number, has_repeat, neighbour, position_of, ring_refusal};
 
-use crate::guesses::Guesses;
-use crate::order::{order_of, position_in, stands_at};
+use crate::index::Index;
 use ring_id::{NoMemory, NodeId, NodeNo, Refusal, Side, same_ids};
 use std::alloc::Global;
 use std::marker::Model;
@@ -17,21 +16,19 @@ use std::marker::Model;
 #[derive(Debug, Drop)]
 pub struct Roster {
     members: Vec<NodeId>,
-    // the positions in the order of numbers, in which `position` looks where the guess is wrong
-    order: Vec<u8>,
-    guesses: Guesses,
+    index: Index,
 }
 
 impl Model for Roster {
     ghost use Rattle.std.specs.Prelude.{List, ℕ};
-    ghost use Rattle.ring_roster.specs.private.Order.{IsOrder};
+    ghost use Rattle.ring_roster.specs.private.Index.{IsIndexOf};
     ghost use Rattle.ring_roster.specs.Ring.{IsRing};
 
     ghost Value = { List ℕ };
 
     ghost view = { λ a. a.members.items };
 
-    ghost invariant = { λ a. IsRing a.members.items × IsOrder a.members.items a.order.items };
+    ghost invariant = { λ a. IsRing a.members.items × IsIndexOf a.members.items a.index };
 }
 
 impl Roster {
@@ -67,23 +64,22 @@ impl Roster {
         requires { IsRing members.now }
         ensures { IfOk result (λ ring. ring ≡ members.now) }
     {
-        let order = order_of(alloc, members)?;
-        let guesses = Guesses::new(alloc, members)?;
+        let index = Index::new(alloc, members)?;
         let Ok(members) = Vec::from_slice(alloc, members) else {
             return Err(NoMemory);
         };
-        Ok(Roster {
-            members,
-            order,
-            guesses,
-        })
+        Ok(Roster { members, index })
     }
 
     /// The same ring once more. Refused for want of memory alone.
     pub fn copied(&self, alloc: Global) -> Result<Roster, NoMemory>
         ensures { IfOk result (λ ring. ring ≡ self.now) }
     {
-        Roster::of_ring(alloc, &self.members)
+        let index = self.index.copied(alloc)?;
+        let Ok(members) = Vec::from_slice(alloc, &self.members) else {
+            return Err(NoMemory);
+        };
+        Ok(Roster { members, index })
     }
 
     /// The number of members, from 1 to 256.
@@ -106,14 +102,7 @@ impl Roster {
     pub fn position(&self, node: NodeNo) -> Option<usize>
         ensures { result ≡ position_of node self.now }
     {
-        let guess = self.guesses.of(node);
-        if stands_at(&self.members, guess, node) {
-            return Some(guess as usize);
-        }
-        match position_in(&self.members, &self.order, node) {
-            Some(position) => Some(position as usize),
-            None => None,
-        }
+        self.index.find(&self.members, node)
     }
 
     /// The position next to this one at that side. In a ring of one it is the node itself; in a

@@ -1,0 +1,17 @@
+-- A guess that is right, a place in the order, and a place that is looked at have the number.
+use Rattle.std.proofs.Common.{sym}
+use Rattle.ring_roster.proofs.Orders.{position_absent, position_found}
+use Rattle.ring_roster.proofs.index.Index.find.Goals as goal
+
+pub returns-then-stands_at : goal.returns-then-stands_at
+returns-then-stands_at c =
+    let there = c.stands_at.ensures.0 c.if-stands_at.true in
+    sym (position_found c.args.members.now c.args.node c.of-guess.result c.requires.ring.distinct there.0 there.1)
+
+pub returns-in-Some : goal.returns-in-Some
+returns-in-Some c =
+    let there = c.in-Some.ensures.some in
+    sym (position_found c.args.members.now c.args.node c.in-Some.position c.requires.ring.distinct there.0 there.1)
+
+pub returns-in-None : goal.returns-in-None
+returns-in-None c = sym (position_absent c.args.members.now c.args.node c.in-None.ensures.none)

@@ -1,0 +1,68 @@
+ghost use Rattle.std.specs.Prelude.{◌≡◌, ◌≤◌, ℕ, IfOk, List, length};
+ghost use Rattle.ring_roster.specs.Ring.{IsRing, position_of};
+ghost use Rattle.ring_roster.specs.private.Index.{IsIndexOf};
+
+use crate::guesses::Guesses;
+use crate::order::{order_of, position_in, stands_at};
+use ring_id::{NoMemory, NodeId, NodeNo};
+use std::alloc::Global;
+
+/// By what the members of a ring are found.
+#[derive(Debug, Drop)]
+pub(crate) enum Index {
+    /// Nothing: they are so few that all are looked at.
+    Few,
+    /// The positions in the order of numbers, in which is looked where the guess is wrong.
+    Many { order: Vec<u8>, guesses: Guesses },
+}
+
+/// The most members that are found by nothing.
+const FEW: usize = 8;
+
+impl Index {
+    /// The index of these members.
+    pub(crate) fn new(alloc: Global, members: &[NodeId]) -> Result<Index, NoMemory>
+        requires { length members.now ≤ 256 }
+        ensures { IfOk result (λ index. IsIndexOf members.now index) }
+    {
+        if members.len() <= FEW {
+            return Ok(Index::Few);
+        }
+        let order = order_of(alloc, members)?;
+        let guesses = Guesses::new(alloc, members)?;
+        Ok(Index::Many { order, guesses })
+    }
+
+    /// The same index once more.
+    pub(crate) fn copied(&self, alloc: Global) -> Result<Index, NoMemory>
+        ensures { IfOk result (λ index. (ring : List ℕ) → IsIndexOf ring self.now → IsIndexOf ring index) }
+    {
+        let Index::Many { order, guesses } = self else {
+            return Ok(Index::Few);
+        };
+        let Ok(order) = Vec::from_slice(alloc, order) else {
+            return Err(NoMemory);
+        };
+        let guesses = guesses.copied(alloc)?;
+        Ok(Index::Many { order, guesses })
+    }
+
+    /// The position of the member with this number; none where there is no such member.
+    pub(crate) fn find(&self, members: &[NodeId], node: NodeNo) -> Option<usize>
+        requires ring { IsRing members.now }
+        requires index { IsIndexOf members.now self.now }
+        ensures { result ≡ position_of node members.now }
+    {
+        let Index::Many { order, guesses } = self else {
+            return members.iter().position(|member| member.number() == node);
+        };
+        let guess = guesses.of(node);
+        if stands_at(members, guess, node) {
+            return Some(guess as usize);
+        }
+        match position_in(members, order, node) {
+            Some(position) => Some(position as usize),
+            None => None,
+        }
+    }
+}
