@@ -135,8 +135,8 @@ def copy_of(crate, to):
 
 
 def check(crate, folder, *words):
-    """Checks a copy of a crate over the libraries of this tree: the status, and what was said."""
-    ran = subprocess.run([kit() / "bin/rattle", "check", *words_of(crate), *words], cwd=folder,
+    """Checks a copy of a crate over the libraries of this tree: the status, and what was said. What else runs goes first."""
+    ran = subprocess.run(["nice", kit() / "bin/rattle", "check", *words_of(crate), *words], cwd=folder,
                          stdin=subprocess.DEVNULL, stdout=subprocess.PIPE, stderr=subprocess.STDOUT,
                          text=True, errors="replace", check=False)
     return ran.returncode, ran.stdout
