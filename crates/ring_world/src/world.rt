@@ -1,7 +1,7 @@
 ghost use Rattle.std.specs.Prelude.{◌≡◌, ◌<◌, ◌≤◌, ◌↔◌, true, [], IfNone, IfOk, IsSome, length, replicate, slice_index};
 ghost use Rattle.ring_node.specs.Reports.{IsTruthful};
 ghost use Rattle.ring_world.specs.Quiet.{AllKnow, IsEmptied};
-ghost use Rattle.ring_world.specs.Worlds.{Cuts, Delivers, IsReady, IsSoundWorld, IsUncut, announcements_of, delivered_of, is_cut, most_deliveries, no_cuts, nodes_of, pending_of};
+ghost use Rattle.ring_world.specs.Worlds.{Cuts, Delivers, IsReady, IsSoundWorld, IsUncut, Passes, announcements_of, delivered_of, is_cut, most_deliveries, no_cuts, nodes_of, pending_of};
 
 use crate::delivery::Delivery;
 use crate::owners::Owners;
@@ -90,6 +90,18 @@ impl<E: RingElection, T: Traffic<E>> World<E, T> {
             Passage::Idle => Delivery::Idle,
             Passage::Refused(refusal) => Delivery::Refused(refusal),
         }
+    }
+
+    /// Delivers the front packet of the link into a position from a side, as `deliver` does, and tells the
+    /// leader alone, exactly where the receiver now knows it first. No owner of the charter is found for a
+    /// report, so memory is refused only to the receiver.
+    pub fn pass(&mut self, position: usize, side: Side) -> Passage
+        requires { position < length self.old.charter.roster }
+        ensures passes { Passes E.table (E.is_two_way self.old.charter.algorithm) true self.old position side result self.new }
+        ensures sound { IsSoundWorld E.table E.fits E.winner self.new }
+        ensures bounded { delivered_of self.new ≤ most_deliveries E.bound self.new }
+    {
+        self.traffic.pass(position, side, true)
     }
 
     /// How many packets were sent and not yet taken, be they in flight or stuck on links that are cut.
