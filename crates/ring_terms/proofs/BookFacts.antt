@@ -1,16 +1,18 @@
 -- What a book shows of a group that was looked up, and what it keeps after a write or an insert.
-use Rattle.std.proofs.Common.{◌≡◌, ◌<◌, ◌≤◌, ℕ, Bool, true, false, List, [], ◌∷◌, ◌++◌, length, Option, None, Some, refl, sym, ◌∙◌, ap, subst, arith, inl, inr}
+use Rattle.std.proofs.Common.{◌≡◌, ◌<◌, ◌≤◌, ℕ, Bool, true, false, cond, List, [], ◌∷◌, ◌++◌, length, Option, None, Some, refl, sym, ◌∙◌, ap, subst, arith, inl, inr}
 use Rattle.std.specs.Prelude.{Result, Ok, Err, OnErr, OnOk, is_some, nat_le, position, slice_get}
-use Rattle.std.specs.Map.{keys_of, lookup, set_value}
+use Rattle.std.specs.Map.{keys_of, lookup, set_value, values_of}
 use Rattle.std.specs.List.{IsDistinct}
 use Rattle.std.specs.Option.{option_map}
 use Rattle.std.specs.Str.{bytes_eq}
 use Rattle.std.proofs.lemmas.Cmp.{nat_list_eq_equiv}
 use Rattle.std.proofs.lemmas.Bool.Decides.{nat_tests}
 use Rattle.std.proofs.lemmas.List.{length-map, length_push, map-append}
+use Rattle.std.proofs.lemmas.Map.{length-set_value, lookup-set_value}
 use Rattle.std.proofs.lemmas.Map.Steps.{set_value_same}
 use Rattle.std.proofs.lemmas.Option.{none-some, same_Some, slice_get-map}
 use Rattle.std.proofs.lemmas.Slice.Eq.{bytes_eq-Decides}
+use Rattle.indexmap.proofs.MapLemmas.{Found-position}
 use Rattle.ring_id.specs.declared.refusal.Refusal.{Refusal}
 use Rattle.ring_id.specs.declared.refusal.Refusal.TheVariants as refused
 use Rattle.ring_id.specs.Refusals.{IsRefusal}
@@ -25,7 +27,7 @@ use Rattle.ring_terms.specs.Charters.{running_in}
 use Rattle.ring_terms.specs.Commands.{create_refusal, in_group, Answers, Shows}
 use Rattle.ring_terms.specs.Kept.{IsGroupKept, IsKept, IsTermKept}
 use Rattle.ring_terms.specs.Notes.{NotesOf}
-use Rattle.ring_terms.specs.Object.{GroupView, InGroup, Object, OfGroup, find, names, with_group}
+use Rattle.ring_terms.specs.Object.{GroupView, InGroup, Object, OfGroup, find, names, place_of, with_group}
 use Rattle.ring_terms.proofs.Entries.{is_some-map, keys-map, lookup-map, lookup-push, option_map-some, position-apart, set_value-map, slice_get-seen}
 
 -- a group that was looked up is found in what the book shows
@@ -57,6 +59,16 @@ no_group object name first grows missing = rw missing refl
 -- the names that a book shows are the keys of its entries
 pub names_in : {E : Type 0} (entries : List (List ℕ × Group E)) (object : Object E) → object_view entries ≡ object → names object ≡ keys_of entries
 names_in {E} entries object is = ap names (sym is) ∙ keys-map (group_view {E = E}) entries
+
+-- a group that has a place has that of its entry
+pub place_in : {E : Type 0} (entries : List (List ℕ × Group E)) (object : Object E) → object_view entries ≡ object → (name : List ℕ) (place : ℕ) → place_of name object ≡ Some place →
+    position (bytes_eq name) (keys_of entries) ≡ Some place
+place_in entries object is name place placed = ap (position (bytes_eq name)) (sym (names_in entries object is)) ∙ placed
+
+-- and the entry at that place is the one that is looked up
+pub at_place : {E : Type 0} (entries : List (List ℕ × Group E)) (object : Object E) → object_view entries ≡ object → (name : List ℕ) (place : ℕ) → place_of name object ≡ Some place →
+    lookup (bytes_eq name) entries ≡ slice_get (values_of entries) place
+at_place entries object is name place placed = (Found-position (bytes_eq name) entries place (place_in entries object is name place placed)).value
 
 -- what a group shows is what the book shows of the group of that name
 pub group_shows : {E A : Type 0} (object : Object E) (name : List ℕ) (group : GroupView E) → find name object ≡ Some group →
@@ -124,6 +136,18 @@ module _ {E : Type 0} (winner : E → List ℕ → ℕ) (entries : List (List �
       | inl before ↦ kept.each other u before
       | inr last ↦ subst (λ v. IsGroupOf winner other v) last.1 (subst (λ n. IsGroupOf winner n h) (sym (one_name other name last.0)) of)
     ];
+  }
+
+  -- and after one that was there was written
+  pub kept_after_write : (g : Group E) → Some g ≡ lookup (bytes_eq name) entries → IsBook winner (set_value (bytes_eq name) entries h)
+  kept_after_write g at = record {
+    few = rw length-set_value kept.few;
+    each = λ other u is.
+        let found = sym (lookup-set_value nat_list_eq_equiv (bytes_eq name) (nat_list_eq_equiv.congr name) other h entries (ap is_some (sym at))) ∙ is in
+        elim (bytes_eq name other) as (λ b. bytes_eq name other ≡ b → cond b (Some h) (lookup (bytes_eq other) entries) ≡ Some u → IsGroupOf winner other u) [
+          | true ↦ λ same here. subst (λ v. IsGroupOf winner other v) (same_Some h u here) (subst (λ n. IsGroupOf winner n h) (one_name name other same) of)
+          | false ↦ λ _ there. kept.each other u there
+        ] refl found;
   }
 
 -- create, where a group has this name

@@ -7,9 +7,11 @@ use Rattle.std.specs.Option.{option_map}
 use Rattle.std.specs.Cmp.{IsEquivalence}
 use Rattle.std.specs.List.{position_or_len, IsDistinct}
 use Rattle.std.proofs.lemmas.Bool.Decides.{nat_tests}
+use Rattle.std.proofs.lemmas.List.Quantifiers.{position-Some}
 use Rattle.std.proofs.lemmas.List.Sums.{position_or_len_is}
 use Rattle.std.proofs.lemmas.Map.Keys.{apart_from_distinct}
 use Rattle.std.proofs.lemmas.Option.{get_or_from_slice_get, none-some, same_Some, slice_get_within, some_pair_parts}
+use Rattle.indexmap.specs.IndexMap.{set_value_at}
 
 module _ {K X Y : Type 0} (f : X → Y) where
   -- the keys are seen as they are
@@ -74,3 +76,17 @@ module _ {K X : Type 0} (test : K → Bool) where
         | true ↦ λ h. inl h
         | false ↦ λ h. lookup-push es k v w h
       ]
+
+  -- a write at the place of the first key that passes is a write of its value
+  set_value-first : (d : K) (es : List (K × X)) (i : ℕ) (w : X) → i < length (keys_of es) → test (get_or (keys_of es) i d) ≡ true → ((k : ℕ) → k < i → test (get_or (keys_of es) k d) ≡ false) →
+      set_value_at es i w ≡ set_value test es w
+  set_value-first d [] i w inside here before = refl
+  set_value-first d (e ∷ es) zero w inside here before = rw here refl
+  set_value-first d (e ∷ es) (suc i) w inside here before =
+      let first : test e.0 ≡ false = before 0 (omega arith) in
+      rw first (ap (λ (rest : List (K × X)). e ∷ rest) (set_value-first d es i w (omega (arith, inside)) here (λ k below. before (suc k) (omega (arith, below)))))
+
+  pub set_value-placed : (d : K) (es : List (K × X)) (place : ℕ) (w : X) → position test (keys_of es) ≡ Some place → set_value_at es place w ≡ set_value test es w
+  set_value-placed d es place w placed =
+      let first = position-Some test (keys_of es) place d placed in
+      set_value-first d es place w first.0 first.1 first.2

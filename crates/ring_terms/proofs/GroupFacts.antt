@@ -1,12 +1,13 @@
 -- What a group keeps of its terms from one call to the next, and what its last term shows.
 use Rattle.std.proofs.Common.{inl, inr, ◌≡◌, ◌+◌, ◌-◌, ◌<◌, ℕ, Bool, false, true, List, [], ◌∷◌, ◌++◌, length, map, Option, None, Some, refl, sym, ◌∙◌, ap, subst, arith, slice_index_or, slice_set}
 use Rattle.std.specs.Prelude.{slice_get, Result, Ok, Err}
-use Rattle.std.proofs.lemmas.List.{length-map, length-replicate, map-set}
+use Rattle.std.proofs.lemmas.List.{length-map, length-replicate, length-set, map-set}
 use Rattle.std.proofs.lemmas.Bool.{false≢true}
 use Rattle.std.proofs.lemmas.Bool.Decides.{nat_tests}
 use Rattle.std.proofs.lemmas.Option.{none-some, same_Some, slice_get-map, slice_get_read, slice_get_within}
 use Rattle.ring_id.specs.declared.refusal.Refusal.{Refusal}
 use Rattle.ring_roster.specs.Ring.{IsRing}
+use Rattle.ring_node.specs.declared.charter.Charter.{Charter}
 use Rattle.ring_node.specs.Reports.{Told}
 use Rattle.ring_terms.specs.declared.group.Group.{Group}
 use Rattle.ring_terms.specs.declared.standing.Noting.{Noting}
@@ -20,6 +21,7 @@ use Rattle.ring_terms.specs.Commands.{member_refusal, start_refusal, who_refusal
 use Rattle.ring_terms.specs.Kept.{IsTermKept}
 use Rattle.ring_terms.specs.Object.{GroupView, TermView, last_term, leaders, new_term, with_last}
 use Rattle.ring_terms.specs.Standings.{Tells, TellsIn}
+use Rattle.ring_terms.proofs.Entries.{option_map-some}
 use Rattle.ring_terms.proofs.Places.{slice_get-push, slice_get-replicate, slice_get-set, slice_set-same}
 
 -- a term that starts on a ring keeps what terms keep
@@ -30,6 +32,12 @@ new_term_kept winner ring is_ring = record {
   wins = λ leader h. absurd (none-some leader h);
   led = λ position h. absurd (false≢true (sym (slice_get-replicate (length ring) position false true h)));
 }
+
+-- a group with a running charter has a term
+pub some_term : {E : Type 0} (name : List ℕ) (g : Group E) (charter : Charter E) → running_charter name (group_view g) ≡ Some charter → 0 < length g.terms.items
+some_term {E} name g charter running =
+    let last = option_map-some _ (last_term (group_view g)) charter running in
+    omega (arith, slice_get_within (group_view g).terms (length (group_view g).terms - 1) last.0 last.1, length-map g.terms.items (term_view {E = E}))
 
 -- a last element as it is read by its index
 pub last_read : {X : Type 0} (xs : List X) (n : ℕ) (x : X) → n ≡ length xs → 0 < n → x ≡ slice_index_or xs (n - 1) x → slice_get xs (length xs - 1) ≡ Some x
@@ -141,12 +149,23 @@ module _ {E : Type 0} (winner : E → List ℕ → ℕ) (name : List ℕ) (g : G
           (λ is. n.0 (same_Some _ _ (sym last_chartered ∙ is)), ap (λ ts. record (group_view g) { terms = ts }) (unchanged n.1))
 
       -- and the group's terms are its own after it
-      pub last_kept : (greatest : E → Bool) (report : Told E) (noting : Noting) → NotesTerm greatest report t noting u → IsSound winner u →
+      terms_kept : (greatest : E → Bool) (report : Told E) (noting : Noting) → NotesTerm greatest report t noting u → IsSound winner u →
           (n : ℕ) (v : Term E) → slice_get items n ≡ Some v → IsTermOf winner name g.algorithm (n + 1) v
-      last_kept greatest report noting notes sound n v h =
+      terms_kept greatest report noting notes sound n v h =
           let within = slice_get_within g.terms.items (length g.terms.items - 1) t at in
           let stays : u.charter.value ≡ t.charter.value = charter_stays greatest report t noting u notes in
           let numbered : length g.terms.items ≡ length g.terms.items - 1 + 1 = omega arith in
           let chartered = subst (λ ch. ch ≡ record { group = name; term = length g.terms.items; algorithm = g.algorithm; roster = ch.roster }) (sym stays) last_of.chartered in
           let of : IsTermOf winner name g.algorithm (length g.terms.items) u = record { chartered = chartered; kept = sound } in
           each_after_set (length g.terms.items - 1) u (subst (λ m. IsTermOf winner name g.algorithm m u) numbered of) n v (subst (λ (l : List (Term E)). slice_get l n ≡ Some v) written h)
+
+      -- so a group with these terms, and else as it was, keeps what groups keep
+      pub last_kept : (after : Group E) → after.name ≡ name → after.algorithm ≡ g.algorithm → after.members.items ≡ g.members.items → after.terms.items ≡ items →
+          (greatest : E → Bool) (report : Told E) (noting : Noting) → NotesTerm greatest report t noting u → IsSound winner u → IsGroupOf winner name after
+      last_kept after named algorithm members terms greatest report noting notes sound = record {
+        named = named;
+        few = rw members kept.few;
+        distinct = rw members kept.distinct;
+        short = rw (terms, written, length-set) kept.short;
+        each = λ n v h. rw algorithm (terms_kept greatest report noting notes sound n v (ap (λ (l : List (Term E)). slice_get l n) (sym terms) ∙ h));
+      }

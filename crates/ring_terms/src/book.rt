@@ -1,6 +1,6 @@
-ghost use Rattle.std.specs.Prelude.{◌≡◌, [], length, None, OnErr, OnOk, Some, true, false};
+ghost use Rattle.std.specs.Prelude.{◌≡◌, ◌<◌, [], length, None, OnErr, OnOk, Some, slice_index, true, false};
 ghost use Rattle.ring_terms.specs.Object.{InGroup, OfGroup, leaders, names, place_of};
-ghost use Rattle.ring_terms.specs.Charters.{next_charter, running_charter};
+ghost use Rattle.ring_terms.specs.Charters.{next_charter, running_charter, running_in};
 ghost use Rattle.ring_terms.specs.Commands.{create_refusal, in_group, join_refusal, leave_refusal, never_refused, running_refusal, start_refusal, who_refusal, Answers, Creates, Joins, Leaves, Shows, StartsWith};
 ghost use Rattle.ring_terms.specs.Kept.{IsKept};
 ghost use Rattle.ring_terms.specs.Notes.{Notes};
@@ -221,5 +221,28 @@ impl<E: RingElection> Book<E> {
             return Noting::Stale;
         };
         found.note(report)
+    }
+
+    /// Files what a report would tell: the member at this position of the ring of this charter, that of the last
+    /// term of the group at this place, knows the leader, who is the winner of that ring. Nothing of the charter
+    /// is read, and no name is looked up. Takes no memory, and constant time. `Known` exactly where the member
+    /// was informed already, else `Noted`.
+    pub fn inform(
+        &mut self,
+        place: usize,
+        charter: &Charter<E>,
+        position: usize,
+        leader: NodeId,
+    ) -> Noting
+        requires placed { place_of charter.now.group self.old ≡ Some place }
+        requires running { running_in charter.now.group self.old ≡ Some charter.now }
+        requires inside { position < length charter.now.roster }
+        requires wins { leader ≡ E.winner charter.now.algorithm charter.now.roster }
+        ensures { Notes E.is_greatest (record { charter = charter.now; member = slice_index charter.now.roster position; leader = leader }) self.old result self.new }
+    {
+        let Some(found) = self.groups.get_index_mut(place) else {
+            unreachable!()
+        };
+        found.inform(charter, position, leader)
     }
 }

@@ -1,4 +1,4 @@
-ghost use Rattle.std.specs.Prelude.{◌≡◌, ◌+◌, ◌<◌, ◌≤◌, None, OnErr, OnOk, Some, filter, length, map, not, true, false};
+ghost use Rattle.std.specs.Prelude.{◌≡◌, ◌+◌, ◌<◌, ◌≤◌, None, OnErr, OnOk, Some, filter, length, map, not, slice_index, true, false};
 ghost use Rattle.std.specs.List.{list_any};
 ghost use Rattle.ring_roster.specs.Ring.{is_numbered};
 ghost use Rattle.ring_terms.specs.Object.{new_group, leaders};
@@ -202,6 +202,22 @@ impl<E: RingElection> Group<E> {
             return Noting::Stale;
         };
         term.note(report)
+    }
+
+    /// The member at this position of the ring of the last term, whose charter this is, knows its leader.
+    pub(crate) fn inform(&mut self, charter: &Charter<E>, position: usize, leader: NodeId) -> Noting
+        requires kept { IsGroupOf E.winner self.old.name self.old }
+        requires running { running_charter self.old.name (group_view self.old) ≡ Some charter.now }
+        requires inside { position < length charter.now.roster }
+        requires wins { leader ≡ E.winner charter.now.algorithm charter.now.roster }
+        ensures notes { NotesGroup E.is_greatest self.old.name (record { charter = charter.now; member = slice_index charter.now.roster position; leader = leader })
+            (group_view self.old) result (group_view self.new) }
+        ensures kept { IsGroupOf E.winner self.old.name self.new }
+    {
+        let Some(term) = self.terms.last_mut() else {
+            unreachable!()
+        };
+        term.inform(position, leader)
     }
 }
 

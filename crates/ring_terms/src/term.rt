@@ -1,4 +1,4 @@
-ghost use Rattle.std.specs.Prelude.{◌≡◌, IfOk, false};
+ghost use Rattle.std.specs.Prelude.{◌≡◌, ◌<◌, IfOk, false, length, slice_index};
 ghost use Rattle.ring_terms.specs.Object.{new_term};
 ghost use Rattle.ring_terms.specs.Commands.{member_refusal, Shows};
 ghost use Rattle.ring_terms.specs.Standings.{TellsIn};
@@ -77,12 +77,22 @@ impl<E: RingElection> Term<E> {
         if !self.charter.same(report.charter()) {
             return Noting::Stale;
         }
-        let position = report.position();
+        self.inform(report.position(), report.leader())
+    }
+
+    /// The member at this position knows its leader, the winner of the ring.
+    pub(crate) fn inform(&mut self, position: usize, leader: NodeId) -> Noting
+        requires sound { IsSound E.winner self.old }
+        requires inside { position < length self.old.charter.value.roster }
+        requires wins { leader ≡ E.winner self.old.charter.value.algorithm self.old.charter.value.roster }
+        ensures notes { NotesTerm E.is_greatest (record { charter = self.old.charter.value; member = slice_index self.old.charter.value.roster position; leader = leader }) self.old result self.new }
+        ensures kept { IsSound E.winner self.new }
+    {
         if self.informed[position] {
             return Noting::Known;
         }
         self.informed[position] = true;
-        self.leader = Some(report.leader());
+        self.leader = Some(leader);
         Noting::Noted
     }
 }

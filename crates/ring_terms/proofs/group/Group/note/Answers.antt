@@ -1,7 +1,5 @@
 -- What filing a report does to the last term is what it does to the group.
 use Rattle.std.proofs.Common.{◌-◌, refl, ap, slice_set}
-use Rattle.std.specs.Prelude.{vec_len}
-use Rattle.std.proofs.lemmas.List.{length-set}
 use Rattle.ring_terms.proofs.GroupFacts.{last_kept, last_notes, last_read, last_sound}
 use Rattle.ring_terms.proofs.group.Group.note.Goals as goal
 
@@ -20,12 +18,5 @@ pub returns-clause-kept : goal.returns-clause-kept
 returns-clause-kept g c =
     let terms = c.args.self.now.terms in
     let at = last_read terms.items _ _ terms.ok.0 (c.in-Some.ensures.variant.0 refl) c.in-Some.ensures.value in
-    record {
-      named = refl;
-      few = c.requires.few;
-      distinct = c.requires.distinct;
-      short = rw (length-set terms.items (vec_len terms - 1) c.note.new.self) c.requires.short;
-      each =
-          last_kept g.E.RingElection.winner c.args.self.now.name c.args.self.now c.requires c.in-Some.term.now at c.note.new.self _ (ap (λ n. slice_set terms.items (n - 1) c.note.new.self) terms.ok.0)
-          g.E.RingElection.is_greatest c.args.report.now c.note.result c.note.ensures.notes c.note.ensures.kept;
-    }
+    last_kept g.E.RingElection.winner c.args.self.now.name c.args.self.now c.requires c.in-Some.term.now at c.note.new.self _ (ap (λ n. slice_set terms.items (n - 1) c.note.new.self) terms.ok.0)
+    _ refl refl refl refl g.E.RingElection.is_greatest c.args.report.now c.note.result c.note.ensures.notes c.note.ensures.kept
