@@ -8,3 +8,4 @@ pub mod Leavings
 pub mod Outcomes
 pub mod Places
 pub mod Seats
+pub mod Standing

@@ -1,12 +1,15 @@
 -- Worlds at the places of their groups: what a look-up under a name finds, and what a write at a place changes.
-use Rattle.std.proofs.Common.{◌≡◌, ◌≢◌, ◌<◌, ◌≤◌, ℕ, zero, suc, Bool, true, false, cond, List, [], ◌∷◌, ◌++◌, length, get_or, replicate, slice_get, slice_set, Option, None, Some, refl, sym, ap, ◌∙◌, arith}
+use Rattle.std.proofs.Common.{◌≡◌, ◌≢◌, ◌<◌, ◌≤◌, ℕ, zero, suc, Bool, true, false, cond, List, [], ◌∷◌, ◌++◌, length, get_or, replicate, slice_get, slice_set, nat_lt, position, Option, None, Some, refl, sym, ap, ◌∙◌, arith}
+use Rattle.std.specs.List.{position_or_len}
 use Rattle.std.specs.Map.{lookup, set_value}
 use Rattle.std.specs.Str.{bytes_eq}
 use Rattle.std.proofs.lemmas.Cmp.{nat_list_eq_equiv}
 use Rattle.std.proofs.lemmas.Map.{keys-set_value}
 use Rattle.std.proofs.Math.ListN.{length-set}
+use Rattle.std.proofs.lemmas.Bool.Decides.{nat_tests}
 use Rattle.std.proofs.lemmas.List.Quantifiers.{position-Some}
-use Rattle.std.proofs.lemmas.Option.{none-some, same_Some, slice_get-get_or, slice_get_within}
+use Rattle.std.proofs.lemmas.List.Sums.{position_or_len_is}
+use Rattle.std.proofs.lemmas.Option.{get_or_from_slice_get, none-some, same_Some, slice_get-get_or, slice_get_within}
 use Rattle.std.proofs.lemmas.Slice.Eq.{bytes_eq-Decides}
 use Rattle.std.specs.Option.{ok_or}
 use Rattle.std.specs.Prelude.{Result, Ok, Err}
@@ -54,6 +57,23 @@ entry_at : {E : Type 0} (object : Object E) (place : ℕ) (name : List ℕ) → 
 entry_at [] place name there = absurd (none-some name there)
 entry_at (e ∷ object) zero name there = (e.1, ap (λ n. Some (n, e.1)) (same_Some e.0 name there))
 entry_at (e ∷ object) (suc place) name there = entry_at object place name there
+
+-- a name that stands at one place alone differs from those before it
+before_differs : (name : List ℕ) (place : ℕ) (ns : List (List ℕ)) → IsAt name place ns → (j : ℕ) → j < place → name ≢ get_or ns j name
+before_differs name place ns at j below same =
+    let within = slice_get_within ns place name at.here in
+    let there : j ≡ place = at.alone j (slice_get-get_or ns j name (omega (arith, within, below)) ∙ ap Some (sym same)) in
+    omega (arith, there, below)
+
+-- and so it is found at that place
+pub place_at : (name : List ℕ) (place : ℕ) (ns : List (List ℕ)) → IsAt name place ns → position (bytes_eq name) ns ≡ Some place
+place_at name place ns at =
+    let within = slice_get_within ns place name at.here in
+    let here : get_or ns place name ≡ name = get_or_from_slice_get ns place name name at.here in
+    let first : position_or_len (bytes_eq name) ns ≡ place =
+    position_or_len_is (bytes_eq name) ns place name (omega (arith, within)) (λ j below. names_differ name (get_or ns j name) (before_differs name place ns at j below)) (λ _. ap (bytes_eq name) here ∙ nat_list_eq_equiv.refl name) in
+    let inside : nat_lt place (length ns) ≡ true = grind (arith, nat_tests) in
+    ap (λ (n : ℕ). cond (nat_lt n (length ns)) (Some n) None) first ∙ ap (λ (b : Bool). cond b (Some place) None) inside
 
 -- what stands at a place of a list of worlds, or none
 abbrev pub world_at : {X : Type 0} → List (Option X) → ℕ → Option X

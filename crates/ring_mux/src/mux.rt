@@ -192,7 +192,7 @@ impl<E: RingElection, T: Traffic<E>> Mux<E, T> {
         let Some(world) = &mut self.worlds[place] else {
             return Reply::Refused(Refusal::NoTerm);
         };
-        let (done, starved) = carry_many(&mut self.book, world, count);
+        let (done, starved) = carry_many(&mut self.book, place, world, count);
         Reply::Drained {
             done,
             left: Count::new(world.pending()),
@@ -212,7 +212,7 @@ impl<E: RingElection, T: Traffic<E>> Mux<E, T> {
         let Some(world) = &mut self.worlds[place] else {
             return Reply::Refused(Refusal::NoTerm);
         };
-        match carry(&mut self.book, world, position, side) {
+        match carry(&mut self.book, place, world, position, side) {
             Carried::Moved => Reply::Moved,
             Carried::Idle => Reply::Idle,
             Carried::Refused(refusal) => Reply::Refused(refusal),

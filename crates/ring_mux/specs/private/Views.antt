@@ -3,7 +3,8 @@ use Rattle.std.specs.Prelude.{◌≡◌, ◌<◌, ◌≤◌, ◌++◌, ℕ, List
 use Rattle.ring_election.specs.Tables.{Table}
 use Rattle.ring_election.specs.Families.{Fitting}
 use Rattle.ring_world.specs.Worlds.{IsSoundWorld, Running}
-use Rattle.ring_terms.specs.Object.{Object, OfGroup, OfLast, names}
+use Rattle.ring_terms.specs.Commands.{running_refusal}
+use Rattle.ring_terms.specs.Object.{Object, OfGroup, OfLast, names, place_of}
 use Rattle.ring_mux.specs.Views.{placed, world_in, IsHeld}
 
 -- this name stands at this place, and at no other
@@ -24,6 +25,15 @@ pub record IsSoundHeld {E S M : Type 0} (t : E → Table S M) (fits : E → Fitt
 pub record IsKeptAt {E S M : Type 0} (t : E → Table S M) (fits : E → Fitting M) (winner : E → List ℕ → ℕ) (object : Object E) (slots : List (Option (Running E M))) : Type 0 where
   pub held : IsSoundHeld t fits winner object (placed (names object) slots)
   pub few : length slots ≤ length (names object)
+
+-- this world is that of a group at this place, whose term runs, among the worlds of some mux over this object
+pub record StandsAt {E S M : Type 0} (t : E → Table S M) (fits : E → Fitting M) (winner : E → List ℕ → ℕ) (place : ℕ) (object : Object E) (world : Running E M) : Type 0 where
+  pub name : List ℕ
+  pub worlds : List (List ℕ × Running E M)
+  pub kept : IsSoundHeld t fits winner object worlds
+  pub found : world_in name worlds ≡ Some world
+  pub runs : OfGroup name (λ group. running_refusal group ≡ None) object
+  pub placed : place_of name object ≡ Some place
 
 -- a list of worlds that has grown to have this place, with nothing at each place that is new
 pub record HasGrown {X : Type 0} (place : ℕ) (old new : List (Option X)) : Type 0 where

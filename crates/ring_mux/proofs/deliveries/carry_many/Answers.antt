@@ -1,10 +1,14 @@
 -- Each delivery is one more at the link that is ready then.
 use Rattle.std.proofs.Common.{◌≡◌, add-one, arith}
 use Rattle.ring_mux.proofs.Drains.{makes_all, makes_ended, makes_starved, none_drained, one_drained}
+use Rattle.ring_mux.proofs.Standing.{stands_after}
 use Rattle.ring_mux.proofs.deliveries.carry_many.Goals as goal
 
 pub loop-done-init : goal.loop-done-init
-loop-done-init g c = record { drained = none_drained g.E.RingElection.table g.E.RingElection.fits g.E.RingElection.winner g.E.RingElection.is_greatest c.args.book.now c.args.world.now }
+loop-done-init g c = record {
+  drained = none_drained g.E.RingElection.table g.E.RingElection.fits g.E.RingElection.winner g.E.RingElection.is_greatest c.args.book.now c.args.world.now;
+  stands = c.requires;
+}
 
 pub returns-in_default : goal.returns-in_default
 returns-in_default g c =
@@ -28,6 +32,8 @@ loop-done-preserved g c =
     rw add-one (record {
       drained = one_drained g.E.RingElection.table g.E.RingElection.fits g.E.RingElection.winner g.E.RingElection.is_greatest g.E.RingElection.is_two_way c.loop-done.done c.in-Some.position c.in-Some.side
           c.args.book.now c.args.world.now c.loop-done.book c.loop-done.world c.carry.new.book c.carry.new.world (c.in-Some.ensures.first) c.ready.ensures.sound.is_ring c.loop-done.invariant.drained c.in-Moved.ensures;
+      stands = stands_after g.E.RingElection.table g.E.RingElection.fits g.E.RingElection.winner c.args.place c.loop-done.book c.loop-done.world c.loop-done.invariant.stands
+          g.E.RingElection.is_two_way g.E.RingElection.is_greatest c.in-Some.position c.in-Some.side c.carry.new.book c.carry.new.world (c.in-Some.ensures.first) c.ready.ensures.sound.is_ring c.in-Moved.ensures;
     })
 
 pub returns : goal.returns

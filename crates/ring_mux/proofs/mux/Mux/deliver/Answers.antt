@@ -4,7 +4,7 @@ use Rattle.ring_terms.specs.Object.{names}
 use Rattle.ring_mux.specs.Views.{placed}
 use Rattle.ring_mux.proofs.Carrying.{seat_inside}
 use Rattle.ring_mux.proofs.Outcomes.{of_found}
-use Rattle.ring_mux.proofs.Places.{kept_written, place_inside, slot_filled, view_written, world_read}
+use Rattle.ring_mux.proofs.Places.{kept_written, place_at, place_inside, slot_filled, view_written, world_read}
 use Rattle.ring_mux.proofs.Seats.{carries_at, idle_at, moved_at, refused_as_who, refused_at, refused_carries, seat_grows_nothing, seat_on_ring, seat_runs}
 use Rattle.ring_mux.proofs.mux.Mux.deliver.Goals as goal
 use Rattle.ring_mux.proofs.mux.Mux.deliver.Goals.{in-Moved, in-Idle, in-Refused}
@@ -34,7 +34,18 @@ carry-requires g c =
     let runs = seat_runs c.args.group c.self.inside.book at.1 in
     let worlds = placed (names c.self.inside.book) c.self.inside.worlds.items in
     let read = world_read g.E.RingElection.table c.self.inside.book c.self.inside.worlds.items c.self.invariant.held.held c.args.group c.in-Ok.seat.0 at.0 runs c.index_mut.result.now c.in-Some.world c.index_mut.ensures.value c.in-Some.is in
-    seat_inside g.E.RingElection.table c.self.inside.book worlds c.self.invariant.held.held c.args.group c.in-Some.world read.1 c.in-Ok.seat.1 (seat_on_ring c.args.group c.self.inside.book c.args.node c.in-Ok.seat.1 at.1)
+    record {
+      stands = record {
+        name = c.args.group;
+        worlds = worlds;
+        kept = c.self.invariant.held;
+        found = read.1;
+        runs = runs;
+        placed = place_at c.args.group c.in-Ok.seat.0 (names c.self.inside.book) at.0;
+      };
+      inside = seat_inside g.E.RingElection.table c.self.inside.book worlds c.self.invariant.held.held c.args.group c.in-Some.world read.1 c.in-Ok.seat.1
+          (seat_on_ring c.args.group c.self.inside.book c.args.node c.in-Ok.seat.1 at.1);
+    }
 
 pub invariant_of-self-2 : goal.invariant_of-self-2
 invariant_of-self-2 g c =

@@ -7,7 +7,7 @@ use Rattle.ring_mux.proofs.Carrying.{same_found, written_found}
 use Rattle.ring_mux.proofs.Drains.{some_pending}
 use Rattle.ring_mux.proofs.Keeping.{none_known}
 use Rattle.ring_mux.proofs.Leavings.{leaves_quiet}
-use Rattle.ring_mux.proofs.Places.{kept_written, names_kept, place_inside, slot_filled, view_written, world_read}
+use Rattle.ring_mux.proofs.Places.{kept_written, names_kept, place_at, place_inside, slot_filled, view_written, world_read}
 use Rattle.ring_mux.proofs.mux.Mux.drain.Goals as goal
 
 pub index_mut-requires : goal.index_mut-requires
@@ -20,6 +20,20 @@ pub returns-in_default-clause-object : goal.returns-in_default-clause-object
 returns-in_default-clause-object g c =
     let at = rw (← c.self.view_is) at c.in-Ok.ensures.1 in
     absurd (slot_filled g.E.RingElection.table c.self.inside.book c.self.inside.worlds.items c.self.invariant.held.held c.args.group c.in-Ok.place at.0 at.1 c.index_mut.result.now c.index_mut.ensures.value c.in_default.is)
+
+pub carry_many-done-requires : goal.carry_many-done-requires
+carry_many-done-requires g c =
+    let at = rw (← c.self.view_is) at c.in-Ok.ensures.1 in
+    let worlds = placed (names c.self.inside.book) c.self.inside.worlds.items in
+    let read = world_read g.E.RingElection.table c.self.inside.book c.self.inside.worlds.items c.self.invariant.held.held c.args.group c.in-Ok.place at.0 at.1 c.index_mut.result.now c.in-Some.world c.index_mut.ensures.value c.in-Some.is in
+    record {
+      name = c.args.group;
+      worlds = worlds;
+      kept = c.self.invariant.held;
+      found = read.1;
+      runs = at.1;
+      placed = place_at c.args.group c.in-Ok.place (names c.self.inside.book) at.0;
+    }
 
 pub invariant_of-self-2 : goal.invariant_of-self-2
 invariant_of-self-2 g c =
