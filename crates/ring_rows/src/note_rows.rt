@@ -1,4 +1,5 @@
-//! What a book makes of a report: news once, known then, and stale when its term is over.
+//! What a book makes of a report: news once, known then, and stale when its term is over. By the group's place it makes
+//! the same of the same news.
 
 use crate::rings::{identity, name};
 use crate::worlds::{begun_on, delivery};
@@ -115,6 +116,28 @@ fn is_news_once(
     leaders_are(rt, alloc, book, &[None])?;
     notes(rt, alloc, book, report, Noting::Noted, &leaders)?;
     notes(rt, alloc, book, report, Noting::Known, &leaders)
+}
+
+/// What a book makes of the news of a report by the place of its group, where that group's term is the report's.
+fn inform(book: &mut Book<Chang>, report: &Report<Chang>) -> Result<Noting, Fail> {
+    let charter = report.charter();
+    let place = book.place(charter.group()).ok_or("no such group")?;
+    if !book.running(charter.group())?.same(charter) {
+        return Err("another term runs".into());
+    }
+    let position = report.position();
+    Ok(book.inform(place, charter, position, report.leader()))
+}
+
+#[test]
+fn news_by_place_is_that_of_a_report(rt: HostRuntime) -> Result<(), Fail> {
+    let (alloc, group) = (rt.alloc(), name()?);
+    let mut book = book(alloc, group)?;
+    let report = report(alloc, &start(alloc, &mut book, group)?)?;
+    assert_eq!(rt; inform(&mut book, &report)?, Noting::Noted);
+    assert_eq!(rt; inform(&mut book, &report)?, Noting::Known);
+    let leaders = [NodeId::new(3)];
+    notes(&rt, alloc, &mut book, &report, Noting::Known, &leaders)
 }
 
 #[test]

@@ -1,7 +1,7 @@
 //! A world of the election of Chang and Roberts on 3, 1, 2, by its calls alone, and a link that is cut. More deliveries
 //! and cuts are in the schedules of `ring_replays`.
 
-use crate::worlds::{Did, begun, counts, cut, deliver, drained};
+use crate::worlds::{Did, begun, counts, cut, deliver, drained, pass};
 use ring_chang::Chang;
 use ring_id::{Refusal, Side};
 use ring_world::World;
@@ -47,6 +47,26 @@ fn a_link_gives_one_packet_and_is_idle_then(rt: HostRuntime) -> Result<(), Fail>
     assert!(rt; counts(&world) == (2, 1));
     drain_makes(&rt, &mut world, &[(6, 6, 1), (100, 1, 0)])?;
     assert!(rt; counts(&world) == (0, 8) && world.ready().is_none());
+    Ok(())
+}
+
+#[test]
+fn a_passage_tells_the_leader_alone(rt: HostRuntime) -> Result<(), Fail> {
+    let mut world = begun(rt.alloc(), Chang, &[3, 1, 2])?;
+    let legs = [
+        (0, Side::Left, Did::Moved),
+        (0, Side::Left, Did::Idle),
+        (2, Side::Right, Did::Refused(Refusal::OneWay)),
+        (1, Side::Left, Did::Moved),
+        (2, Side::Left, Did::Moved),
+        (2, Side::Left, Did::Moved),
+        (0, Side::Left, Did::Told(3)),
+        (1, Side::Left, Did::Told(3)),
+    ];
+    for (position, side, did) in legs {
+        assert_eq!(rt; pass(&mut world, position, side)?, did);
+    }
+    assert!(rt; counts(&world) == (1, 6));
     Ok(())
 }
 

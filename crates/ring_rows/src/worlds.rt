@@ -5,7 +5,7 @@ use crate::rings::charter;
 use ring_election::RingElection;
 use ring_id::{NoMemory, Refusal, Side};
 use ring_node::Charter;
-use ring_world::{Delivery, World};
+use ring_world::{Delivery, Passage, World};
 use std::alloc::Global;
 use std::sync::Arc;
 use std::test::Fail;
@@ -88,6 +88,36 @@ pub fn deliver<E: RingElection>(
         Delivery::Moved(Some(report)) => Did::Told(report.leader().get()),
         Delivery::Idle => Did::Idle,
         Delivery::Refused(refusal) => Did::Refused(refusal),
+    })
+}
+
+/// Passes on the link into this position from a side.
+fn pass_once<E: RingElection>(
+    world: &mut World<E>,
+    position: usize,
+    side: Side,
+) -> Result<Passage, Fail> {
+    if position >= world.charter().roster().len() {
+        return Err("no such position".into());
+    }
+    Ok(world.pass(position, side))
+}
+
+/// What a passage on the link into this position from a side did, made once more where memory was refused.
+pub fn pass<E: RingElection>(
+    world: &mut World<E>,
+    position: usize,
+    side: Side,
+) -> Result<Did, Fail> {
+    let passage = match pass_once(world, position, side)? {
+        Passage::Refused(Refusal::NoMemory) => pass_once(world, position, side)?,
+        passage => passage,
+    };
+    Ok(match passage {
+        Passage::Moved(None) => Did::Moved,
+        Passage::Moved(Some(leader)) => Did::Told(leader.get()),
+        Passage::Idle => Did::Idle,
+        Passage::Refused(refusal) => Did::Refused(refusal),
     })
 }
 
