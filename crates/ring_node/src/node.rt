@@ -62,8 +62,9 @@ impl<E: RingElection> Node<E> {
     {
         let me = charter.roster().at(position).unwrap();
         let (state, sends) = charter.algorithm().start(alloc, me);
-        let left = Port::opened(alloc, sends.left)?;
-        let right = Port::opened(alloc, sends.right)?;
+        let ring = charter.roster().len();
+        let left = Port::opened(alloc, sends.left, ring)?;
+        let right = Port::opened(alloc, sends.right, ring)?;
         Ok(Node {
             charter,
             position,

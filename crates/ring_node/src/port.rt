@@ -5,7 +5,7 @@ ghost use Rattle.ring_node.specs.private.Journals.{leader_place};
 ghost use Rattle.ring_node.specs.Ports.{all_algos, all_leaders};
 
 use crate::packet::Packet;
-use crate::room::{LEAST, find_room};
+use crate::room::{find_room, least};
 use ring_id::{NoMemory, NodeId};
 use std::alloc::Global;
 
@@ -21,8 +21,8 @@ pub struct Port<M> {
 }
 
 impl<M: Copy> Port<M> {
-    /// A side at which this was sent and nothing was taken.
-    pub fn opened(alloc: Global, first: Option<M>) -> Result<Port<M>, NoMemory>
+    /// A side at which this was sent and nothing was taken, at a node of a ring of this length.
+    pub fn opened(alloc: Global, first: Option<M>, ring: usize) -> Result<Port<M>, NoMemory>
         ensures sent { IfOk result (λ port. port.sent.items ≡ all_algos first) }
         ensures algos { IfOk result (λ port. port.algos ≡ 0) }
         ensures leaders { IfOk result (λ port. port.leaders ≡ 0) }
@@ -33,7 +33,7 @@ impl<M: Copy> Port<M> {
             algos: 0,
             leaders: 0,
         };
-        if first.is_some() && port.sent.reserve_exact(LEAST).is_err() {
+        if first.is_some() && port.sent.reserve_exact(least(ring)).is_err() {
             return Err(NoMemory);
         }
         port.post(first);

@@ -1,10 +1,16 @@
-ghost use Rattle.std.specs.Prelude.{◌≡◌, ◌+◌, ◌≤◌, vec_capacity, vec_len, OnOk};
+ghost use Rattle.std.specs.Prelude.{◌≡◌, ◌+◌, ◌<◌, ◌≤◌, vec_capacity, vec_len, OnOk};
 
 use ring_id::NoMemory;
 
-/// The least capacity of a list that has any. Where a ring elects by few messages, most of its nodes send
-/// and take no more than so many, and their lists are made once.
-pub const LEAST: usize = 8;
+/// The least capacity of a list that has any, at a node of a ring of this length: two packets for each round
+/// that halves the ring, and one more. Where a ring elects by few messages, most of its nodes send and
+/// take no more than so many, and their lists are made once.
+pub fn least(ring: usize) -> usize
+    ensures { 0 < result }
+{
+    let rounds = usize::BITS - ring.leading_zeros();
+    2 * rounds as usize + 1
+}
 
 /// Finds room in a list for so many more elements, at a node of a ring of this length. What stands in
 /// the list stays in any case.
@@ -26,7 +32,7 @@ pub fn find_room<T>(list: &mut Vec<T>, more: usize, ring: usize) -> Result<(), N
 /// once, a node takes and sends no more than the ring is long, and an announcement: a list that gets
 /// near that is made just as long, for to double it would leave half of it empty.
 fn next_capacity(capacity: usize, ring: usize) -> usize {
-    let double = capacity.saturating_mul(2).max(LEAST);
+    let double = capacity.saturating_mul(2).max(least(ring));
     let round = ring.saturating_add(3);
     if double < round && round <= double.saturating_mul(2) {
         round
