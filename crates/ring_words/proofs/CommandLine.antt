@@ -1,6 +1,6 @@
 -- The program's own command line: it takes `ringd replay`, and what it takes names `replay`, `serve` or `run`.
-use Rattle.std.proofs.Common.{◌≡◌, ◌∙◌, ◌⊎◌, ◌||◌, Bool, codes, cond, true, false, refl, sym, ap, ap₂, subst, inl, inr, List, [], ◌∷◌, Option, Some, None, Result, Ok, Err, IsErrAnd, IsOkUnless, is_some, option_map, true≢false}
-use Rattle.std.specs.Prelude.{Box, IfSome, slice_get, unwrap_or}
+use Rattle.std.proofs.Common.{◌≡◌, ◌∙◌, ◌⊎◌, ◌||◌, Bool, IfOk, codes, cond, true, false, refl, sym, ap, ap₂, subst, inl, inr, List, [], ◌∷◌, Option, Some, None, Result, Ok, Err, IsErrAnd, IsOkUnless, is_some, option_map, true≢false}
+use Rattle.std.specs.Prelude.{Box, IfErr, IfSome, slice_get, unwrap_or}
 use Rattle.std.specs.Option.{option_map_or}
 use Rattle.std.specs.Box.{box_value}
 use Rattle.std.specs.Str.{bytes_eq}
@@ -16,7 +16,7 @@ use Rattle.clap.specs.declared.parser.matches.ArgMatches.{ArgMatches}
 use Rattle.clap.specs.declared.parser.matches.SubCommand.{SubCommand}
 use Rattle.clap.specs.declared.parser.matches.ArgMatches.TheViews.{out-ArgMatches, out-SubCommand}
 use Rattle.clap.proofs.OnLiterals.{clap_on_literals}
-use Rattle.ring_words.specs.Words.{IsFaultOf, Names, ringd_app}
+use Rattle.ring_words.specs.Words.{HasCause, IsFaultOf, IsGiven, Names, ringd_app}
 use Rattle.ring_words.specs.declared.words.Order.{Order}
 use Rattle.ring_words.specs.declared.words.WordsFault.{WordsFault}
 use Rattle.ring_words.specs.declared.words.WordsFault.TheVariants.{NoMemory, Usage}
@@ -177,3 +177,15 @@ pub fails_for_memory : (a : App) (words : List Text) (error : Error) (r : Result
 fails_for_memory a words error (Ok order) is passes told taken = tt
 fails_for_memory a words error (Err NoMemory) is passes told taken = refl
 fails_for_memory a words error (Err (Usage given)) is passes told taken = absurd (told.1 (passes (ap (λ (x : App). takes x words) is ∙ taken)))
+
+-- What a call promises of its result, whatever words it was given: an order is theirs, a fault has its cause, and the
+-- fault is want of memory where nothing else may fail.
+pub record IsWantOfMemory (words : List Text) (r : Result Order WordsFault) : Type 0 where
+  pub order : IfOk r (IsGiven words)
+  pub usage : IfErr r (HasCause words)
+  pub only : IsOkUnless r NoMemory
+
+-- a refusal for want of memory keeps all that is promised
+pub want_of_memory : (words : List Text) (r : Result Order WordsFault) → IsErrAnd r (λ fault. fault ≡ NoMemory) → IsWantOfMemory words r
+want_of_memory words (Ok order) is = absurd is
+want_of_memory words (Err fault) is = record { order = tt; usage = subst (HasCause words) (sym is) tt; only = is }

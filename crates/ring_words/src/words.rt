@@ -1,6 +1,6 @@
 //! The words of the command line, and what they ask for.
 ghost use Rattle.std.specs.Prelude.{◌≡◌, ◌↔◌, ◌∷◌, [], ℕ, List, IfErr, IfOk, IsOkUnless, IsTrue, codes, false, map, string_bytes, true};
-ghost use Rattle.clap.specs.Words.{app_of, found_of, kind_of, rows_of, rule_of, takes, Text};
+ghost use Rattle.clap.specs.Words.{App, Rule, app_of, found_of, kind_of, rows_of, rule_of, takes, with_rule, with_subcommand, Text};
 ghost use Rattle.clap.specs.declared.error.kind.ErrorKind.TheVariants.{DisplayVersion, ValueValidation};
 ghost use Rattle.ring_words.specs.Words.{HasCause, IsFaultOf, IsGiven, config_rule, connections_rule, idle_rule, places_rule, ringd_app, run_app, serve_app, sessions_rule};
 ghost use Rattle.ring_words.specs.private.Words.{IsLocal, IsRun, IsRunOf, IsServeOf, IsServed};
@@ -73,15 +73,15 @@ fn command<'a>(alloc: Global) -> Result<Command<'a>, AllocError>
     ensures { IfOk result (λ c. app_of c ≡ ringd_app) }
 {
     let replay = Command::new(alloc, "replay").about("Answers the lines of standard input");
-    let serve = serve_command(alloc)?;
-    let run = run_command(alloc)?;
-    Command::new(alloc, "ringd")
+    let command = Command::new(alloc, "ringd")
         .version(VERSION)
         .about("Keeps a leader for each of many groups")
         .subcommand_required(true)
-        .subcommand(replay)?
-        .subcommand(serve)?
-        .subcommand(run)
+        .subcommand(replay);
+    with_subcommand(
+        with_subcommand(command, serve_command(alloc)),
+        run_command(alloc),
+    )
 }
 
 // The subcommand `serve`.
@@ -89,10 +89,10 @@ fn serve_command<'a>(alloc: Global) -> Result<Command<'a>, AllocError>
     ensures app { IfOk result (λ c. app_of c ≡ serve_app) }
     ensures local { IfOk result IsLocal }
 {
-    Command::new(alloc, "serve")
+    let command = Command::new(alloc, "serve")
         .about("Serves so many clients on 127.0.0.1, and ends after them")
-        .arg(config_arg(alloc))?
-        .arg(connections_arg(alloc))
+        .arg(config_arg(alloc));
+    with_arg(command, connections_arg(alloc))
 }
 
 // The subcommand `run`.
@@ -100,14 +100,39 @@ fn run_command<'a>(alloc: Global) -> Result<Command<'a>, AllocError>
     ensures app { IfOk result (λ c. app_of c ≡ run_app) }
     ensures local { IfOk result IsLocal }
 {
-    Command::new(alloc, "run")
+    let command = Command::new(alloc, "run")
         .about(
             "Serves clients until the process is ended; on 127.0.0.1 alone, since nothing is encrypted and nobody is asked who they are",
         )
-        .arg(config_arg(alloc))?
-        .arg(sessions_arg(alloc))?
-        .arg(idle_arg(alloc))?
-        .arg(places_arg(alloc))
+        .arg(config_arg(alloc));
+    let command = with_arg(command, sessions_arg(alloc));
+    let command = with_arg(command, idle_arg(alloc));
+    with_arg(command, places_arg(alloc))
+}
+
+// The command with one more argument, where memory wasn't refused before.
+fn with_arg<'a>(
+    command: Result<Command<'a>, AllocError>,
+    arg: Arg<'a>,
+) -> Result<Command<'a>, AllocError>
+    requires own { arg.global ≡ false }
+    ensures app { (app : App) (rule : Rule) → IfOk command.entry (λ c. app_of c ≡ app) → rule_of arg.entry ≡ rule
+        → IfOk result (λ c. app_of c ≡ with_rule app rule) }
+    ensures local { IfOk command.entry IsLocal → IfOk result IsLocal }
+{
+    command?.arg(arg)
+}
+
+// The command with one more subcommand, where memory was refused for neither.
+fn with_subcommand<'a>(
+    command: Result<Command<'a>, AllocError>,
+    below: Result<Command<'a>, AllocError>,
+) -> Result<Command<'a>, AllocError>
+    ensures { (app sub : App) → IfOk command.entry (λ c. app_of c ≡ app) → IfOk below.entry IsLocal
+        → IfOk below.entry (λ c. app_of c ≡ sub) → IfOk result (λ c. app_of c ≡ with_subcommand app sub.top) }
+{
+    let below = below?;
+    command?.subcommand(below)
 }
 
 // The file of the configuration.

@@ -1,9 +1,9 @@
 use Rattle.std.proofs.Common.{◌≡◌, codes, rules, true}
-use Rattle.clap.specs.Words.{app_of, new_app, with_subcommand}
-use Rattle.clap.specs.Simple.{App, new_shape, on_top}
+use Rattle.clap.specs.Simple.{new_shape, on_top}
+use Rattle.clap.specs.Words.{App, app_of, new_app, with_subcommand}
 use Rattle.ring_words.specs.private.Words.{IsLocal}
 use Rattle.ring_words.specs.Words.{run_app, serve_app}
-use Rattle.ring_words.proofs.Adding.{with_sub, with_sub_if_ok}
+use Rattle.ring_words.proofs.Adding.{with_sub_if_ok}
 use Rattle.ring_words.proofs.words.command.Goals as goal
 
 pub returns : goal.returns
@@ -12,8 +12,8 @@ returns c =
     let start : app_of c.subcommand_required.result ≡ top = search rules in
     let replay : app_of c.about-replay.result ≡ new_app (codes "replay") = search rules in
     let replay_local : IsLocal c.about-replay.result = search rules in
-    let one : app_of c.in_ok-subcommand.field-0 ≡ with_subcommand top (new_shape (codes "replay")) =
-    with_sub c.subcommand_required.result c.in_ok-subcommand.field-0 c.about-replay.result top (new_app (codes "replay")) c.in_ok-subcommand.ensures replay_local replay start in
-    let two : app_of c.in_ok-subcommand-2.field-0 ≡ with_subcommand (with_subcommand top (new_shape (codes "replay"))) serve_app.top =
-    with_sub c.in_ok-subcommand.field-0 c.in_ok-subcommand-2.field-0 c.in_ok-serve.serve _ serve_app c.in_ok-subcommand-2.ensures c.in_ok-serve.ensures.local c.in_ok-serve.ensures.app one in
-    with_sub_if_ok c.subcommand-3.result c.in_ok-subcommand-2.field-0 c.in_ok-run.run' _ run_app c.subcommand-3.ensures c.in_ok-run.ensures.local c.in_ok-run.ensures.app two
+    let one : App = with_subcommand top (new_shape (codes "replay")) in
+    let two : App = with_subcommand one serve_app.top in
+    let is_one = with_sub_if_ok c.subcommand-command.result c.subcommand_required.result c.about-replay.result top (new_app (codes "replay")) c.subcommand-command.ensures replay_local replay start in
+    let is_two = c.with_subcommand.ensures one serve_app is_one c.serve_command.ensures.local c.serve_command.ensures.app in
+    c.with_subcommand-2.ensures two run_app is_two c.run_command.ensures.local c.run_command.ensures.app

@@ -2,7 +2,7 @@ use Rattle.std.proofs.Common.{◌∙◌, List, ap, inl, inr, map, subst}
 use Rattle.std.specs.Prelude.{string_bytes}
 use Rattle.clap.specs.Words.{Text, app_of, found_of, rows_of, takes}
 use Rattle.ring_words.specs.Words.{Names, ringd_app}
-use Rattle.ring_words.proofs.CommandLine.{fails_for_memory, meets, names_one, replay_is_taken}
+use Rattle.ring_words.proofs.CommandLine.{fails_for_memory, meets, names_one, replay_is_taken, want_of_memory}
 use Rattle.ring_words.proofs.Taken.{named_runs, named_serves, runs_as_given, serves_as_given}
 use Rattle.ring_words.proofs.words.read_words.Goals as goal
 
@@ -67,3 +67,18 @@ unreachable-requires-in_default-name c =
       | inr (inl serve) ↦ c.in_default-name.not-serve serve
       | inr (inr run) ↦ c.in_default-name.not-run run
     ]
+
+pub returns-in_err-command : goal.returns-in_err-command
+returns-in_err-command c =
+    let refused = want_of_memory (map string_bytes c.args.words.now) c.from_residual.result c.from_residual.ensures.1 in
+    record { order = refused.order; usage = refused.usage; taken = λ _. refused.only; replay = λ _ _. refused.only }
+
+pub returns-in_err-serve_order-in-serve : goal.returns-in_err-serve_order-in-serve
+returns-in_err-serve_order-in-serve c =
+    let refused = want_of_memory (map string_bytes c.args.words.now) c.from_residual-in_err-serve_order-in-serve.result c.from_residual-in_err-serve_order-in-serve.ensures.1 in
+    record { order = refused.order; usage = refused.usage; taken = λ _. refused.only; replay = λ _ _. refused.only }
+
+pub returns-in_err-run_order-in-run : goal.returns-in_err-run_order-in-run
+returns-in_err-run_order-in-run c =
+    let refused = want_of_memory (map string_bytes c.args.words.now) c.from_residual-in_err-run_order-in-run.result c.from_residual-in_err-run_order-in-run.ensures.1 in
+    record { order = refused.order; usage = refused.usage; taken = λ _. refused.only; replay = λ _ _. refused.only }

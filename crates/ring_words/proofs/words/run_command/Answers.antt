@@ -1,25 +1,24 @@
 use Rattle.std.proofs.Common.{◌≡◌, codes, rules}
-use Rattle.clap.specs.Words.{app_of, new_app, with_rule}
+use Rattle.clap.specs.Words.{App, app_of, new_app, with_rule}
 use Rattle.ring_words.specs.private.Words.{IsLocal}
 use Rattle.ring_words.specs.Words.{config_rule, idle_rule, places_rule, sessions_rule}
-use Rattle.ring_words.proofs.Adding.{stays_local, stays_local_if_ok, with_arg, with_arg_if_ok}
+use Rattle.ring_words.proofs.Adding.{stays_local_if_ok, with_arg_if_ok}
 use Rattle.ring_words.proofs.words.run_command.Goals as goal
 
 pub returns-clause-app : goal.returns-clause-app
 returns-clause-app c =
     let start : app_of c.about.result ≡ new_app (codes "run") = search rules in
-    let one : app_of c.in_ok-arg.field-0 ≡ with_rule (new_app (codes "run")) config_rule =
-    with_arg c.about.result c.in_ok-arg.field-0 c.config_arg.result _ config_rule c.in_ok-arg.ensures c.config_arg.ensures.own c.config_arg.ensures.rule start in
-    let two : app_of c.in_ok-arg-2.field-0 ≡ with_rule (with_rule (new_app (codes "run")) config_rule) sessions_rule =
-    with_arg c.in_ok-arg.field-0 c.in_ok-arg-2.field-0 c.sessions_arg.result _ sessions_rule c.in_ok-arg-2.ensures c.sessions_arg.ensures.own c.sessions_arg.ensures.rule one in
-    let three : app_of c.in_ok-arg-3.field-0 ≡ with_rule (with_rule (with_rule (new_app (codes "run")) config_rule) sessions_rule) idle_rule =
-    with_arg c.in_ok-arg-2.field-0 c.in_ok-arg-3.field-0 c.idle_arg.result _ idle_rule c.in_ok-arg-3.ensures c.idle_arg.ensures.own c.idle_arg.ensures.rule two in
-    with_arg_if_ok c.arg-4.result c.in_ok-arg-3.field-0 c.places_arg.result _ places_rule c.arg-4.ensures c.places_arg.ensures.own c.places_arg.ensures.rule three
+    let one : App = with_rule (new_app (codes "run")) config_rule in
+    let two : App = with_rule one sessions_rule in
+    let three : App = with_rule two idle_rule in
+    let is_one =
+    with_arg_if_ok c.arg-command.result c.about.result c.config_arg.result (new_app (codes "run")) config_rule c.arg-command.ensures c.config_arg.ensures.own c.config_arg.ensures.rule start in
+    let is_two = c.with_arg-command.ensures.app one sessions_rule is_one c.sessions_arg.ensures.rule in
+    let is_three = c.with_arg-command-2.ensures.app two idle_rule is_two c.idle_arg.ensures.rule in
+    c.with_arg.ensures.app three places_rule is_three c.places_arg.ensures.rule
 
 pub returns-clause-local : goal.returns-clause-local
 returns-clause-local c =
     let start : IsLocal c.about.result = search rules in
-    let one : IsLocal c.in_ok-arg.field-0 = stays_local c.about.result c.in_ok-arg.field-0 c.config_arg.result c.in_ok-arg.ensures c.config_arg.ensures.own start in
-    let two : IsLocal c.in_ok-arg-2.field-0 = stays_local c.in_ok-arg.field-0 c.in_ok-arg-2.field-0 c.sessions_arg.result c.in_ok-arg-2.ensures c.sessions_arg.ensures.own one in
-    let three : IsLocal c.in_ok-arg-3.field-0 = stays_local c.in_ok-arg-2.field-0 c.in_ok-arg-3.field-0 c.idle_arg.result c.in_ok-arg-3.ensures c.idle_arg.ensures.own two in
-    stays_local_if_ok c.arg-4.result c.in_ok-arg-3.field-0 c.places_arg.result c.arg-4.ensures c.places_arg.ensures.own three
+    let one = stays_local_if_ok c.arg-command.result c.about.result c.config_arg.result c.arg-command.ensures c.config_arg.ensures.own start in
+    c.with_arg.ensures.local (c.with_arg-command-2.ensures.local (c.with_arg-command.ensures.local one))
