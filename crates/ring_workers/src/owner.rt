@@ -6,7 +6,7 @@ use std::alloc::Global;
 use std::marker::PhantomData;
 
 /// Which nodes a worker owns: those whose number, modulo the number of workers, is the worker's own.
-#[derive(Clone, Copy, Debug)]
+#[derive(Clone, Copy)]
 pub(crate) struct Owner {
     pub(crate) number: usize,
     pub(crate) workers: usize,

@@ -23,7 +23,7 @@ const SENT_AT_SEAT: usize = 2;
 const SENT_AT_RECEIPT: usize = 3;
 
 /// What became of an item.
-#[derive(Clone, Copy, Debug, PartialEq, Eq)]
+#[derive(Clone, Copy)]
 pub(crate) enum Fate {
     /// It was handled.
     Done,

@@ -1,5 +1,6 @@
 -- Place by place, the nodes move behind the list.
 use Rattle.std.proofs.Common.{◌≡◌, ◌+◌, ◌≤◌, ◌++◌, ◌∷◌, [], length, refl, sym, ap, ◌∙◌, subst, arith, append_assoc, vec_len, vec_capacity}
+use Rattle.std.proofs.lemmas.List.{append-nil, nil_from_length}
 use Rattle.std.specs.Vec.Iter.{into_iter_items}
 use Rattle.ring_workers.specs.Seatings.{seated_in}
 use Rattle.ring_workers.proofs.Moving.{seated_in-none, seated_in-some}
@@ -41,3 +42,11 @@ loop-place-preserved-in-Some-place g c =
       room = omega (arith, longer, c.loop-place.invariant.room, c.push_reserved.ensures.len, c.push_reserved.ensures.capacity);
       capacity = c.push_reserved.ensures.capacity ∙ c.loop-place.invariant.capacity;
     }
+
+pub returns-clause-nodes : goal.returns-clause-nodes
+returns-clause-nodes g c =
+    let none : into_iter_items c.loop-place.place-iterator ≡ [] = nil_from_length _ (omega (arith, c.in-None.ensures.steps.0, c.loop-place.place-iterator.rest.ok)) in
+    sym (append-nil c.loop-place.nodes.items) ∙ ap (λ places. c.loop-place.nodes.items ++ seated_in places) (sym none) ∙ c.loop-place.invariant.moved
+
+pub returns-clause-room : goal.returns-clause-room
+returns-clause-room g c = c.loop-place.invariant.capacity

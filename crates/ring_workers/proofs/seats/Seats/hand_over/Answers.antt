@@ -21,3 +21,9 @@ returns-in-Err-take g c = record {
   received = λ took. absurd (true≢false (sym took));
   back = tt;
 }
+
+pub returns-in-Ok-clause-term : goal.returns-in-Ok-clause-term
+returns-in-Ok-clause-term g c = keeps_on c.args.self.now c.make_seat.new.self c.take.new.self c.make_seat.ensures.term c.take.ensures.term
+
+pub returns-in-Err-NoMemory-default-clause-term : goal.returns-in-Err-NoMemory-default-clause-term
+returns-in-Err-NoMemory-default-clause-term g c = keeps_on c.args.self.now c.make_seat.new.self c.take.new.self c.make_seat.ensures.term c.take.ensures.term

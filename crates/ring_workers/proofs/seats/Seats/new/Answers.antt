@@ -1,5 +1,6 @@
 -- All places are empty.
-use Rattle.std.proofs.Common.{◌≡◌, length, sym, ap, ◌∙◌, arith}
+use Rattle.std.proofs.Common.{◌≡◌, ◌+◌, ◌≤◌, [], ◌∷◌, ◌++◌, length, None, sym, ap, ◌∙◌, subst, arith}
+use Rattle.std.proofs.lemmas.List.{replicate_more}
 use Rattle.ring_node.specs.Nodes.{Seated}
 use Rattle.ring_workers.proofs.Seatings.{empties, seating_empty}
 use Rattle.ring_workers.proofs.seats.Seats.new.Goals as goal
@@ -27,3 +28,10 @@ loop-init g c = (c.in_ok-places.ensures.items, c.in_ok-places.ensures.len, c.in_
 
 pub push_reserved-requires : goal.push_reserved-requires
 push_reserved-requires g c = omega (arith, c.loop.invariant.1, c.loop.invariant.2, c.loop-test.true)
+
+pub loop-preserved : goal.loop-preserved
+loop-preserved g c = (
+  c.push_reserved.ensures.items ∙ ap (λ places. places ++ None ∷ []) c.loop.invariant.0 ∙ replicate_more c.loop.counter None,
+  c.push_reserved.ensures.len ∙ ap (λ n. n + 1) c.loop.invariant.1,
+  subst (λ n. c.len-ring.result ≤ n) (sym c.push_reserved.ensures.capacity) c.loop.invariant.2,
+)
