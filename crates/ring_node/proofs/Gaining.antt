@@ -8,7 +8,7 @@ use Rattle.ring_election.specs.Tables.{Table, to_side}
 use Rattle.ring_election.specs.Traces.{state_after, taken_from}
 use Rattle.ring_node.specs.declared.packet.Packet.{Packet}
 use Rattle.ring_node.specs.declared.packet.Packet.TheVariants.{Algo, Leader}
-use Rattle.ring_node.specs.Journals.{algo_part, algo_sends, announcement, brought, known_after, news}
+use Rattle.ring_node.specs.Journals.{algo_part, algo_sends, announcement, brought, known_after, news, packets_after}
 use Rattle.ring_node.specs.Nodes.{Extends, Gains, Seated, member_of, receiving, sent_of}
 use Rattle.ring_node.specs.Ports.{all_algos}
 use Rattle.ring_node.proofs.Receipts.{packets_after-snoc, taken_from-snoc}
@@ -27,6 +27,10 @@ few_announced : (M : Type 0) (to : Side) (o : Option ℕ) → length (announceme
 few_announced M Left o = omega arith
 few_announced M Right None = omega arith
 few_announced M Right (Some v) = omega arith
+
+-- a node that has received nothing has sent at most one packet to each side
+pub few_first : {S M : Type 0} (t : Table S M) (me : ℕ) (to : Side) → length (packets_after t me to []) ≤ 1
+few_first t me to = rw append-nil (few_algos (to_side to (t.first_sends me)))
 
 -- the side of a receipt gains its packet
 taken_more : {M : Type 0} (from : Side) (p : Packet M) (js : List (Side × Packet M)) → taken_from from (js ++ (from, p) ∷ []) ≡ taken_from from js ++ p ∷ []

@@ -95,3 +95,15 @@ returns-clause-faithful g c =
       fitting = new.fitting;
       knows = λ v h. new.knows v (new.known_is ∙ rw (get_or_from_slice_get _ _ _ 0 new.here) at h);
     }
+
+pub run-requires-clause-room_left : goal.run-requires-clause-room_left
+run-requires-clause-room_left g c = λ both. c.in_ok-make_room.ensures.room (c.two_way.ensures ∙ both)
+
+pub run-requires-clause-room_right : goal.run-requires-clause-room_right
+run-requires-clause-room_right g c = c.in_ok-make_room-2.ensures.room refl
+
+pub announce-requires : goal.announce-requires
+announce-requires g c = c.run.ensures.room
+
+pub push_reserved-requires : goal.push_reserved-requires
+push_reserved-requires g c = omega (arith, c.in_ok-find_room.ensures.room)
