@@ -52,11 +52,17 @@ impl Crew {
         ensures room { (vec_capacity self.new.threads ≡ vec_capacity self.old.threads) × (vec_capacity self.new.handed ≡ vec_capacity self.old.handed) × (vec_len self.new.handed ≡ vec_len self.old.handed) }
     {
         let rt = kit.rt;
-        let Ok(thread) = thread::spawn(&rt, move || kit.run()) else {
-            return Err(StartFault::Thread);
-        };
-        self.threads.push_reserved(thread);
-        Ok(())
+        match thread::spawn(&rt, move || kit.run()) {
+            Ok(thread) => {
+                self.threads.push_reserved(thread);
+                Ok(())
+            }
+            Err(refused) => {
+                // by one call: what is dropped without one is dropped part by part, down to the inbox's
+                drop(refused);
+                Err(StartFault::Thread)
+            }
+        }
     }
 
     /// Waits for each thread to end: what they hand over. Takes no memory.
@@ -96,7 +102,11 @@ impl<A: Access<Any> + Drop, G: Gate + Drop, R: Wait + Clock + Drop> Kit<A, G, R>
             desk,
         } = self;
         let (mut receiver, mut senders) = (receiver, senders);
-        run_worker(&rt, worker, &mut receiver, &mut senders, &*gate, desk)
+        let handed = run_worker(&rt, worker, &mut receiver, &mut senders, &*gate, desk);
+        drop(senders);
+        // by one call, as what a refused thread would have had is dropped
+        drop(receiver);
+        handed
     }
 }
 

@@ -103,6 +103,7 @@ impl Posts {
         let Posts { passes, waiting } = self;
         for mut pass in passes {
             stop_one(rt, &mut pass);
+            drop(pass);
         }
         waiting
     }

@@ -166,7 +166,6 @@ where
     let (mut mesh, mut seats) = (mesh, seats);
     while let Some(seat) = seats.pop() {
         let number = seats.len();
-        let receiver = mesh.receivers.pop().unwrap();
         let Ok(senders) = take_last(alloc, &mut mesh.senders, number) else {
             return Err(StartFault::NoMemory);
         };
@@ -179,7 +178,7 @@ where
         crew.start(Kit {
             rt: *rt,
             worker: Worker::new(alloc, number, workers),
-            receiver,
+            receiver: mesh.receivers.pop().unwrap(),
             senders,
             gate,
             desk: SeatDesk::new(*rt, access, seat),
