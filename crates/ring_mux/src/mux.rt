@@ -106,6 +106,7 @@ impl<E: RingElection, T: Traffic<E>> Mux<E, T> {
     }
 
     /// A client's command.
+    #[inline(always)]
     fn command(&mut self, alloc: Global, command: Command<E>) -> Reply
         ensures object { StepOf E.is_two_way E.is_greatest self.old.object command result self.new.object }
         ensures worlds { CommandOfWorlds self.old command result self.new }
