@@ -14,7 +14,10 @@ use Rattle.ring_node.specs.Links.{link_refusal}
 use Rattle.ring_node.specs.Nodes.{IsFaithful, known_of}
 use Rattle.ring_world.specs.declared.passage.Passage.{Passage}
 use Rattle.ring_world.specs.declared.passage.Passage.TheVariants.{Moved, Idle, Refused}
-use Rattle.ring_world.specs.Worlds.{Cuts, HasPassed, IsFirstLink, IsReady, IsSoundLinks, IsSoundWorld, Passes, Running, in_flight, no_cuts, node_at, on_link, sent_into, size_of, taken_at}
+use Rattle.ring_world.specs.declared.passage.Passages.{Passages}
+use Rattle.ring_world.specs.declared.passage.PassagesEnd.{PassagesEnd}
+use Rattle.ring_world.specs.declared.passage.PassagesEnd.TheVariants as ended
+use Rattle.ring_world.specs.Worlds.{Cuts, EndsPassages, HasPassed, HasPassedFirst, IsFirstLink, IsReady, IsSoundLinks, IsSoundWorld, Passes, PassesReady, PassesSilently, Running, in_flight, no_cuts, node_at, on_link, sent_into, size_of, taken_at}
 use Rattle.ring_any.specs.Variants.{Variant}
 use Rattle.ring_any_traffic.specs.Under.{charter_under, put_journal, put_packet, running_under}
 use Rattle.ring_any_traffic.proofs.Placing.{IsKindOf, after_receipt-under, in_flight-under, known_at-under, known_of-under, length-in_flight-under, node_at-under, node_under, on_link-under, sent_into-under, taken_by-under}
@@ -72,6 +75,40 @@ module _ {E F S WS M WM : Type 0} (states : Variant WS S) (messages : Variant WM
     waits = rw (length-in_flight-under states messages t on_sum kind is world link.0 link.1) first.waits;
     least = λ j from before. none_under world j from (first.least j from before);
   }
+
+  module _ (fits : E → Fitting M) (fits_on_sum : F → Fitting WM) (winner : E → List ℕ → ℕ) (winner_on_sum : F → List ℕ → ℕ)
+      (sound : (world : Running E M) → IsSoundWorld t fits winner world → IsSoundWorld on_sum fits_on_sum winner_on_sum (running_under kind messages world)) where
+    -- a packet that passed on the first link
+    has_passed_first_under : (old : Running E M) (i : ℕ) (leader : Option ℕ) (new : Running E M) → HasPassedFirst t fits winner old i leader new
+        → HasPassedFirst on_sum fits_on_sum winner_on_sum (running_under kind messages old) i leader (running_under kind messages new)
+    has_passed_first_under old i leader new first = record {
+      side = first.side;
+      first = ready_under old (Some (i, first.side)) first.first;
+      passed = has_passed_under old i first.side leader new first.passed;
+      sound = sound new first.sound;
+    }
+
+    -- so many that told no leader
+    passes_silently_under : (old : Running E M) (n : ℕ) (new : Running E M) → PassesSilently t fits winner old n new
+        → PassesSilently on_sum fits_on_sum winner_on_sum (running_under kind messages old) n (running_under kind messages new)
+    passes_silently_under old zero new same = ap (running_under kind messages) same
+    passes_silently_under old (suc n) new passes =
+        (running_under kind messages passes.0, passes.1, passes_silently_under old n passes.0 passes.2, has_passed_first_under passes.0 passes.1 None new passes.3)
+
+    -- what ended them
+    ends_passages_under : (most : ℕ) (old : Running E M) (done : ℕ) (end : PassagesEnd) (new : Running E M) → EndsPassages t fits winner most old done end new
+        → EndsPassages on_sum fits_on_sum winner_on_sum most (running_under kind messages old) done end (running_under kind messages new)
+    ends_passages_under most old done (ended.Told i leader) new ends =
+        (ends.0, running_under kind messages ends.1, ends.2, passes_silently_under old ends.0 ends.1 ends.3, has_passed_first_under ends.1 i (Some leader) new ends.4)
+    ends_passages_under most old done ended.Made new ends = (ends.0, passes_silently_under old done new ends.1)
+    ends_passages_under most old done ended.Quiet new ends = (passes_silently_under old done new ends.0, ready_under new None ends.1)
+    ends_passages_under most old done ended.Starved new ends =
+        (ends.0, passes_silently_under old done new ends.1, ends.2, ends.3, ready_under new (Some (ends.2, ends.3)) ends.4)
+
+    -- what passages on the links that are ready answer
+    pub passes_ready_under : (most : ℕ) (old : Running E M) (result : Passages) (new : Running E M) → PassesReady t fits winner most old result new
+        → PassesReady on_sum fits_on_sum winner_on_sum most (running_under kind messages old) result (running_under kind messages new)
+    passes_ready_under most old result new passes = record { within = passes.within; ends = ends_passages_under most old result.done result.end new passes.ends }
 
   -- sound traffic
   pub sound_under : (fits : E → Fitting M) (fits_on_sum : F → Fitting WM) (winner : E → List ℕ → ℕ) (winner_on_sum : F → List ℕ → ℕ)

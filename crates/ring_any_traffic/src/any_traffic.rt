@@ -11,7 +11,7 @@ use ring_id::{NoMemory, Refusal, Side};
 use ring_lelann::LeLann;
 use ring_node::Charter;
 use ring_peterson::Peterson;
-use ring_world::{Passage, TalliedCircle, Traffic};
+use ring_world::{Passage, Passages, TalliedCircle, Traffic};
 use std::alloc::Global;
 use std::marker::Model;
 use std::sync::Arc;
@@ -76,6 +76,15 @@ impl Traffic<Any> for AnyTraffic {
             Kind::Chang(circle) => circle.pass(position, side, may_tell),
             Kind::Hirschberg(circle) => circle.pass(position, side, may_tell),
             Kind::Peterson(circle) => circle.pass(position, side, may_tell),
+        }
+    }
+
+    fn pass_ready(&mut self, most: u32) -> Passages {
+        match &mut self.kind {
+            Kind::LeLann(circle) => circle.pass_ready(most),
+            Kind::Chang(circle) => circle.pass_ready(most),
+            Kind::Hirschberg(circle) => circle.pass_ready(most),
+            Kind::Peterson(circle) => circle.pass_ready(most),
         }
     }
 

@@ -16,14 +16,12 @@ use Rattle.ring_world.specs.Quiet.{IsQuiet}
 use Rattle.ring_world.specs.Worlds.{IsFirstLink, IsReady, Running, in_flight, pending_below, pending_of, size_of}
 use Rattle.ring_world.proofs.Links.{same_or_not}
 use Rattle.ring_terms.specs.Commands.{running_refusal}
-use Rattle.ring_terms.specs.Object.{GroupView, InGroup, Object, OfGroup, TermView, find, last_term, with_group}
-use Rattle.ring_mux.specs.declared.carried.Carried.TheVariants.{Moved}
-use Rattle.ring_mux.specs.Journeys.{CanMove, Carries, CarriesTimes, with_world}
-use Rattle.ring_mux.specs.private.Journeys.{CarriesAmong, MakesAmong}
+use Rattle.ring_terms.specs.Object.{GroupView, InGroup, Object, OfGroup, TermView, find, last_term, names, with_group}
+use Rattle.ring_mux.specs.Journeys.{CanMove, CarriesTimes, HasCarried, with_world}
+use Rattle.ring_mux.specs.private.Journeys.{MakesAmong}
 use Rattle.ring_terms.specs.Steps.{MovesOf, MovesTimes}
 use Rattle.ring_mux.specs.Views.{Held, IsHeld, IsWorldOf, world_in}
 use Rattle.ring_mux.specs.private.Views.{IsSeat, IsSoundHeld}
-use Rattle.ring_mux.proofs.Outcomes.{of_found}
 use Rattle.ring_terms.proofs.Objects.{last_written}
 use Rattle.ring_mux.proofs.Carrying.{position_here, running_ring, same_found, written_found}
 
@@ -121,13 +119,12 @@ module _ {E S M : Type 0} (t : E → Table S M) (object : Object E) (worlds : Li
     ready_at w found = rw (same_found (world_in name worlds) w kept.world found kept.found) (record { position = position; side = side; first = ready })
 
     -- a delivery there is one more of the drain's
-    pub carries_on : (two_way greatest : E → Bool) (n : ℕ) (start new : Held E M) → IsRing kept.world.charter.roster
+    pub carries_on : (greatest : E → Bool) (n : ℕ) (start new : Held E M) → IsRing kept.world.charter.roster
         → InGroup name (MovesTimes greatest n) start.object object
         → CarriesTimes t greatest name n start (record { object = object; worlds = worlds })
-        → ((w : Running E M) → world_in name worlds ≡ Some w → Carries t two_way greatest name position side w (record { object = object; worlds = worlds }) Moved new)
+        → HasCarried t greatest name position side (record { object = object; worlds = worlds }) new
         → InGroup name (MovesTimes greatest (suc n)) start.object new.object × CarriesTimes t greatest name (suc n) start new × OfGroup name (λ g. running_refusal g ≡ None) new.object
-    carries_on two_way greatest n start new is_ring moves made carries =
-        let carried = (carries kept.world kept.found).1 in
+    carries_on greatest n start new is_ring moves made carried =
         let same : carried.before ≡ kept.world = same_found (world_in name worlds) carried.before kept.world carried.found kept.found in
         let node : ℕ = number_of (get_or kept.world.charter.roster position 0) in
         let step = (carried.object) node (rw same (position_here kept.world.charter.roster position is_ring ready.inside)) in (
@@ -135,6 +132,14 @@ module _ {E S M : Type 0} (t : E → Table S M) (object : Object E) (worlds : Li
           (record { object = object; worlds = worlds }, made, record { position = position; side = side; carried = carried; ready = rw same ready }),
           still_runs greatest name node object new.object runs step,
         )
+
+-- what a delivery on the link into a position of a world has done, wherever the world stands among the worlds of a mux
+abbrev pub HasCarriedAmong : {E S M : Type 0} (t : E → Table S M) (fits : E → Fitting M) (winner : E → List ℕ → ℕ) (greatest : E → Bool) (i : ℕ) (side : Side) (object : Object E) (world : Running E M) (object' : Object E) (world' : Running E M) → Type 0
+HasCarriedAmong {E} {S} {M} t fits winner greatest i side object world object' world' =
+    (name : List ℕ) (worlds : List (List ℕ × Running E M)) → IsSoundHeld t fits winner object worlds → world_in name worlds ≡ Some world → IsSeat name i object
+    → HasCarried t greatest name i side (record { object = object; worlds = worlds }) (record { object = object'; worlds = with_world name world' worlds })
+    × IsSoundHeld t fits winner object' (with_world name world' worlds)
+    × (names object' ≡ names object)
 
 -- what so many deliveries of a drain have done, wherever the world stands among the worlds of a mux
 pub record HasDrained {E S M : Type 0} (t : E → Table S M) (fits : E → Fitting M) (winner : E → List ℕ → ℕ) (greatest : E → Bool) (name : List ℕ) (n : ℕ)
@@ -164,21 +169,20 @@ module _ {E S M : Type 0} (t : E → Table S M) (fits : E → Fitting M) (winner
       }
 
   -- one delivery more, at the link that is ready
-  pub one_drained : (two_way : E → Bool) (n position : ℕ) (side : Side) (object : Object E) (world : Running E M) (object' : Object E) (world' : Running E M) (object'' : Object E) (world'' : Running E M) →
+  pub one_drained : (n position : ℕ) (side : Side) (object : Object E) (world : Running E M) (object' : Object E) (world' : Running E M) (object'' : Object E) (world'' : Running E M) →
       IsFirstLink t world' position side → IsRing world'.charter.roster →
       HasDrainedAmong t fits winner greatest n object world object' world' →
-      CarriesAmong t fits winner two_way greatest position side object' world' Moved object'' world'' →
+      HasCarriedAmong t fits winner greatest position side object' world' object'' world'' →
       HasDrainedAmong t fits winner greatest (suc n) object world object'' world''
-  one_drained two_way n position side object world object' world' object'' world'' ready ring drained carries = λ name worlds kept found runs.
+  one_drained n position side object world object' world' object'' world'' ready ring drained carries = λ name worlds kept found runs.
       let before = drained name worlds kept found runs in
       let now : List (List ℕ × Running E M) = with_world name world' worlds in
       let here = kept_world t object' now before.kept.held name before.runs world' before.found in
       let seat = seat_ready t object' now before.kept.held name before.runs position side (rw (← here) at ready) in
       let carried = carries name now before.kept before.found seat in
       let twice : with_world name world'' now ≡ with_world name world'' worlds = written_twice name worlds world' world'' in
-      let on = carries_on t object' now before.kept.held name before.runs position side (rw (← here) at ready) two_way greatest n (record { object = object; worlds = worlds }) (record { object = object''; worlds = with_world name world'' now })
-      (rw (← here) at ring) before.moves before.made
-      (of_found name now world' before.found (λ w. Carries t two_way greatest name position side w (record { object = object'; worlds = now }) Moved (record { object = object''; worlds = with_world name world'' now })) (carried.0)) in
+      let on = carries_on t object' now before.kept.held name before.runs position side (rw (← here) at ready) greatest n (record { object = object; worlds = worlds }) (record { object = object''; worlds = with_world name world'' now })
+      (rw (← here) at ring) before.moves before.made (carried.0) in
       record {
         moves = on.0;
         made = rw twice at on.1;
@@ -213,28 +217,19 @@ module _ {E S M : Type 0} (t : E → Table S M) (fits : E → Fitting M) (winner
         now.kept,
       )
 
-  -- or where one is refused memory, which changes nothing
-  pub makes_starved : (count n position : ℕ) (side : Side) (object : Object E) (world : Running E M) (object' : Object E) (world' : Running E M) (object'' : Object E) (world'' : Running E M) → n < count →
-      HasDrainedAmong t fits winner greatest n object world object' world' → IsFirstLink t world' position side →
-      ((name : List ℕ) (worlds : List (List ℕ × Running E M)) → IsSoundHeld t fits winner object' worlds → world_in name worlds ≡ Some world' → IsSeat name position object'
-      → (let after : Held E M = record { object = object''; worlds = with_world name world'' worlds } in after ≡ record { object = object'; worlds = worlds }) × IsSoundHeld t fits winner object'' (with_world name world'' worlds)) →
-      MakesAmong t fits winner greatest count object world n true object'' world''
-  makes_starved count n position side object world object' world' object'' world'' few drained ready stays = λ name worlds kept found runs.
-      let before = drained name worlds kept found runs in
-      let now : List (List ℕ × Running E M) = with_world name world' worlds in
-      let here = kept_world t object' now before.kept.held name before.runs world' before.found in
-      let seat = seat_ready t object' now before.kept.held name before.runs position side (rw (← here) at ready) in
-      let after = stays name now before.kept before.found seat in
-      let same_object : object'' ≡ object' = ap (λ (h : Held E M). h.object) (after.0) in
-      let twice : with_world name world'' now ≡ with_world name world'' worlds = written_twice name worlds world' world'' in
-      let same_worlds : with_world name world'' worlds ≡ now = sym twice ∙ ap (λ (h : Held E M). h.worlds) (after.0) in (
-        rw (same_object, same_worlds) (record {
+  -- or where one is refused memory, though a link is ready
+  pub makes_starved : (count n position : ℕ) (side : Side) (object : Object E) (world : Running E M) (object' : Object E) (world' : Running E M) → n < count →
+      HasDrainedAmong t fits winner greatest n object world object' world' → IsFirstLink t world' position side → MakesAmong t fits winner greatest count object world n true object' world'
+  makes_starved count n position side object world object' world' few drained ready = λ name worlds kept found runs.
+      let now = drained name worlds kept found runs in
+      let here = kept_world t object' (with_world name world' worlds) now.kept.held name now.runs world' now.found in (
+        record {
           within = omega (arith, few);
-          made = before.made;
-          object = before.moves;
-          runs = before.runs;
+          made = now.made;
+          object = now.moves;
+          runs = now.runs;
           ended = λ h. cc;
-          stopped = λ h. (few, ready_at t object' now before.kept.held name before.runs position side (rw (← here) at ready));
-        }),
-        rw twice at after.1,
+          stopped = λ h. (few, ready_at t object' (with_world name world' worlds) now.kept.held name now.runs position side (rw (← here) at ready));
+        },
+        now.kept,
       )

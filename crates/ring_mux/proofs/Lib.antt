@@ -6,6 +6,7 @@ pub mod HoldingSteps
 pub mod Keeping
 pub mod Leavings
 pub mod Outcomes
+pub mod Passages
 pub mod Places
 pub mod Seats
 pub mod Standing

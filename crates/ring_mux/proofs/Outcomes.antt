@@ -11,14 +11,12 @@ use Rattle.ring_election.specs.Families.{Fitting}
 use Rattle.ring_node.specs.Nodes.{told_of}
 use Rattle.ring_node.specs.Reports.{Told}
 use Rattle.ring_node.specs.declared.charter.Charter.{Charter}
-use Rattle.ring_node.specs.Links.{link_refusal}
 use Rattle.ring_world.specs.Worlds.{HasMoved, IsSoundWorld, Running, after_receipt, node_at, size_of}
 use Rattle.ring_terms.specs.declared.standing.Noting.{Noting}
 use Rattle.ring_terms.specs.declared.standing.Noting.TheVariants.{Noted}
 use Rattle.ring_terms.specs.Notes.{Notes, NotesOf}
 use Rattle.ring_terms.specs.Object.{InGroup, Object}
-use Rattle.ring_mux.specs.declared.carried.Carried.TheVariants.{Moved}
-use Rattle.ring_mux.specs.Journeys.{Carries, Files, with_world}
+use Rattle.ring_mux.specs.Journeys.{Files, HasCarried, with_world}
 use Rattle.ring_terms.specs.Steps.{MovesOf}
 use Rattle.ring_mux.specs.Views.{Held, IsHeld, world_in}
 use Rattle.ring_mux.specs.private.Views.{IsSeat}
@@ -62,28 +60,23 @@ module _ {E S M : Type 0} (t : E → Table S M) (object : Object E) (worlds : Li
         rw (written, moved.journals)
         (held_silent t object worlds held name world found (after_receipt world i side moved.packet) refl (silent_knows t world i within side moved.packet (told ∙ none)))
 
-    pub carries_unheard : report ≡ None → (two_way greatest : E → Bool) → link_refusal (two_way world.charter.algorithm) side ≡ None
-        → (w : Running E M) → world_in name worlds ≡ Some w → Carries t two_way greatest name i side w (record { object = object; worlds = worlds }) Moved (record { object = object; worlds = worlds' })
-    carries_unheard none two_way greatest open_link =
-        of_found name worlds world found (λ w. Carries t two_way greatest name i side w (record { object = object; worlds = worlds }) Moved (record { object = object; worlds = worlds' })) (
-          open_link,
-          record {
-            before = world;
-            after = after;
-            report = report;
-            found = found;
-            moved = moved;
-            worlds = written;
-            filed = rw none refl;
-            object = λ node placed. record {
-              before = seat.group;
-              after = seat.group;
-              found = seat.found;
-              does = inl refl;
-              rest = sym (set_value_same (bytes_eq name) object seat.group seat.found);
-            };
-          },
-        )
+    pub carried_unheard : report ≡ None → (greatest : E → Bool) → HasCarried t greatest name i side (record { object = object; worlds = worlds }) (record { object = object; worlds = worlds' })
+    carried_unheard none greatest = record {
+      before = world;
+      after = after;
+      report = report;
+      found = found;
+      moved = moved;
+      worlds = written;
+      filed = rw none refl;
+      object = λ node placed. record {
+        before = seat.group;
+        after = seat.group;
+        found = seat.found;
+        does = inl refl;
+        rest = sym (set_value_same (bytes_eq name) object seat.group seat.found);
+      };
+    }
 
     -- the news is of this group
     pub heard_group : (news : Told E) → report ≡ Some news → news.charter.group ≡ name
@@ -106,8 +99,5 @@ module _ {E S M : Type 0} (t : E → Table S M) (object : Object E) (worlds : Li
       pub held_heard : IsHeld t object' worlds'
       held_heard = rw (written, moved.journals) (both.0)
 
-      pub carries_heard : (two_way : E → Bool) → link_refusal (two_way world.charter.algorithm) side ≡ None
-          → (w : Running E M) → world_in name worlds ≡ Some w → Carries t two_way greatest name i side w (record { object = object; worlds = worlds }) Moved (record { object = object'; worlds = worlds' })
-      carries_heard two_way open_link =
-          of_found name worlds world found (λ w. Carries t two_way greatest name i side w (record { object = object; worlds = worlds }) Moved (record { object = object'; worlds = worlds' }))
-          (open_link, record { before = world; after = after; report = report; found = found; moved = moved; worlds = written; filed = filed; object = both.1 })
+      pub carried_heard : HasCarried t greatest name i side (record { object = object; worlds = worlds }) (record { object = object'; worlds = worlds' })
+      carried_heard = record { before = world; after = after; report = report; found = found; moved = moved; worlds = written; filed = filed; object = both.1 }

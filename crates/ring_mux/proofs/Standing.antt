@@ -14,13 +14,11 @@ use Rattle.ring_node.specs.Reports.{Told}
 use Rattle.ring_world.specs.Worlds.{HasMoved, HasPassed, IsFirstLink, IsSoundWorld, Running, node_at, size_of}
 use Rattle.ring_terms.specs.Charters.{running_in}
 use Rattle.ring_terms.specs.Object.{Object, place_of}
-use Rattle.ring_mux.specs.declared.carried.Carried.TheVariants.{Moved}
 use Rattle.ring_mux.specs.Journeys.{with_world}
 use Rattle.ring_mux.specs.Views.{world_in}
-use Rattle.ring_mux.specs.private.Journeys.{CarriesAmong}
 use Rattle.ring_mux.specs.private.Views.{StandsAt}
 use Rattle.ring_mux.proofs.Carrying.{position_here, same_found, world_of, written_found}
-use Rattle.ring_mux.proofs.Drains.{kept_world, seat_ready, still_runs, the_term}
+use Rattle.ring_mux.proofs.Drains.{HasCarriedAmong, kept_world, seat_ready, still_runs, the_term}
 
 -- news is known afterwards
 news_known : (known after : Option ℕ) (v : ℕ) → news known after ≡ Some v → after ≡ Some v
@@ -70,13 +68,13 @@ module _ {E S M : Type 0} (t : E → Table S M) (fits : E → Fitting M) (winner
       subst (λ n. running_in n object ≡ Some world.charter) (sym charter_named) (rw stands.runs.found runs)
 
   -- after a delivery at the link that is ready the world stands there still
-  pub stands_after : (two_way greatest : E → Bool) (i : ℕ) (side : Side) (object' : Object E) (world' : Running E M) → IsFirstLink t world i side → IsRing world.charter.roster →
-      CarriesAmong t fits winner two_way greatest i side object world Moved object' world' → StandsAt t fits winner place object' world'
-  stands_after two_way greatest i side object' world' ready ring carries =
+  pub stands_after : (greatest : E → Bool) (i : ℕ) (side : Side) (object' : Object E) (world' : Running E M) → IsFirstLink t world i side → IsRing world.charter.roster →
+      HasCarriedAmong t fits winner greatest i side object world object' world' → StandsAt t fits winner place object' world'
+  stands_after greatest i side object' world' ready ring carries =
       let here = kept_world t object stands.worlds stands.kept.held stands.name stands.runs world stands.found in
       let seat = seat_ready t object stands.worlds stands.kept.held stands.name stands.runs i side (rw here ready) in
       let carried = carries stands.name stands.worlds stands.kept stands.found seat in
-      let moved = carried.0.1 in
+      let moved = carried.0 in
       let same : moved.before ≡ world = same_found (world_in stands.name stands.worlds) moved.before world moved.found stands.found in
       let node : ℕ = number_of (get_or world.charter.roster i 0) in
       record {

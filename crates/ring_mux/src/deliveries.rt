@@ -7,7 +7,7 @@ use crate::carried::Carried;
 use ring_election::RingElection;
 use ring_id::Side;
 use ring_terms::Book;
-use ring_world::{Passage, Traffic, World};
+use ring_world::{Passage, PassagesEnd, Traffic, World};
 
 /// A delivery on the link into a position of the world of the group at this place, and the leader that
 /// it tells filed in the book, by that place.
@@ -45,15 +45,19 @@ pub fn carry_many<E: RingElection, T: Traffic<E>>(
     requires { StandsAt E.table E.fits E.winner place book.old world.old }
     ensures { MakesAmong E.table E.fits E.winner E.is_greatest count book.old world.old result.0 result.1 book.new world.new }
 {
-    for done in 0..count {
-        let Some((position, side)) = world.ready() else {
-            return (done, false);
-        };
-        match carry(book, place, world, position, side) {
-            Carried::Moved => {}
-            Carried::Idle => return (done, true),
-            Carried::Refused(_) => return (done, true),
+    let mut done = 0;
+    while done < count {
+        let passages = world.pass_ready(count - done);
+        done += passages.done;
+        let end = passages.end;
+        match end {
+            PassagesEnd::Told(position, leader) => {
+                let _ = book.inform(place, world.charter(), position, leader);
+            }
+            PassagesEnd::Made => return (done, false),
+            PassagesEnd::Quiet => return (done, false),
+            PassagesEnd::Starved => return (done, true),
         }
     }
-    (count, false)
+    (done, false)
 }

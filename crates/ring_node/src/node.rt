@@ -189,6 +189,7 @@ impl<E: RingElection> Node<E> {
 
     /// Takes the packet that comes next from a side: the leader, exactly where this receipt is the
     /// first by which the node knows it. Refused for want of memory alone; the node is then unchanged.
+    #[inline(always)]
     pub fn accept(&mut self, from: Side, packet: Packet<E::Msg>) -> Result<Option<NodeId>, NoMemory>
         requires { IsComing E.fits E.winner self.old from packet }
         ensures journal { OnOk result (self.new ≡ receiving self.old from packet) }

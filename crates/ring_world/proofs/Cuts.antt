@@ -1,6 +1,6 @@
 -- Links that are cut: what is in flight and what is stuck on a link is together what stands there, and a
 -- cut changes no journal.
-use Rattle.std.proofs.Common.{◌≡◌, ◌≢◌, ◌+◌, ◌*◌, ◌<◌, ◌≤◌, ◌==◌, ℕ, zero, suc, Bool, true, false, cond, nat_lt, List, [], ◌∷◌, length, replicate, Some, Result, Ok, Err, slice_get, slice_set, get_or, refl, sym, ap, ap₂, ◌∙◌, arith, get_or-set_other, get_or-set_same}
+use Rattle.std.proofs.Common.{◌≡◌, ◌≢◌, ◌+◌, ◌*◌, ◌<◌, ◌≤◌, ◌==◌, ℕ, zero, suc, Bool, true, false, cond, nat_lt, List, [], ◌∷◌, length, replicate, Some, None, Result, Ok, Err, slice_get, slice_set, get_or, refl, sym, ap, ap₂, ◌∙◌, arith, get_or-set_other, get_or-set_same}
 use Rattle.std.proofs.Math.ListN.{length-set}
 use Rattle.std.specs.Prelude.{not}
 use Rattle.std.proofs.lemmas.Bool.Decides.{nat_tests}
@@ -93,6 +93,17 @@ front_uncut false xs x h = refl
 pub front_stands : {A : Type 0} (cut : Bool) (xs : List A) (x : A) → slice_get (cond cut [] xs) 0 ≡ Some x → slice_get xs 0 ≡ Some x
 front_stands true xs x h = cc
 front_stands false xs x h = h
+
+-- where something is in flight the link isn't cut
+pub waits_uncut : {A : Type 0} (cut : Bool) (xs : List A) → 0 < length (cond cut [] xs) → cut ≡ false
+waits_uncut true xs waits = absurd (omega arith)
+waits_uncut false xs waits = refl
+
+-- and something stands there
+pub waits_stands : {A : Type 0} (cut : Bool) (xs : List A) → 0 < length (cond cut [] xs) → slice_get xs 0 ≢ None
+waits_stands true xs waits = absurd (omega arith)
+waits_stands false [] waits = absurd (omega arith)
+waits_stands false (x ∷ xs) waits = λ none. cc
 
 in_parts : {A : Type 0} (cut : Bool) (xs : List A) → length (cond cut [] xs) + length (cond cut xs []) ≡ length xs
 in_parts true xs = omega arith

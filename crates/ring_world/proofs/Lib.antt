@@ -4,6 +4,7 @@ pub mod Bits
 pub mod Cuts
 pub mod Deliveries
 pub mod Links
+pub mod Passing
 pub mod Placing
 pub mod Quiet
 pub mod Settlements

@@ -1,6 +1,6 @@
 -- Worlds: the journals of all nodes of a term, which links between them are cut, and what is in flight.
 -- What is in flight is said of whole journals; no queue and no count is in these definitions.
-use Rattle.std.specs.Prelude.{◌≡◌, ◌+◌, ◌*◌, ◌<◌, ◌⊎◌, ℕ, zero, suc, Bool, true, false, cond, nat_lt, List, [], ◌∷◌, ◌++◌, length, drop, replicate, Option, Some, None, Result, Ok, Err, slice_set, slice_index_or}
+use Rattle.std.specs.Prelude.{◌≡◌, ◌+◌, ◌*◌, ◌<◌, ◌≤◌, ◌⊎◌, ℕ, zero, suc, Bool, true, false, cond, nat_lt, List, [], ◌∷◌, ◌++◌, length, drop, replicate, Option, Some, None, Result, Ok, Err, slice_set, slice_index_or}
 use Rattle.ring_id.specs.declared.refusal.Refusal.{Refusal}
 use Rattle.ring_id.specs.declared.side.Side.{Side}
 use Rattle.ring_id.specs.declared.side.Side.TheVariants.{Left, Right}
@@ -19,6 +19,9 @@ use Rattle.ring_world.specs.declared.delivery.Delivery.{Delivery}
 use Rattle.ring_world.specs.declared.delivery.Delivery.TheVariants.{Moved, Idle, Refused}
 use Rattle.ring_world.specs.declared.passage.Passage.{Passage}
 use Rattle.ring_world.specs.declared.passage.Passage.TheVariants as passage
+use Rattle.ring_world.specs.declared.passage.Passages.{Passages}
+use Rattle.ring_world.specs.declared.passage.PassagesEnd.{PassagesEnd}
+use Rattle.ring_world.specs.declared.passage.PassagesEnd.TheVariants as ended
 
 -- The place of a link in the order of links. A link is named by its receiver, that position and the side
 -- from which it takes: the position counts first, and left comes before right.
@@ -192,3 +195,29 @@ module _ {E S M : Type 0} (t : E → Table S M) where
   abbrev pub IsReady : Running E M → Option (ℕ × Side) → Type 0
   IsReady world None = (i : ℕ) (side : Side) → i < size_of world → in_flight world i side ≡ []
   IsReady world (Some link) = IsFirstLink world link.0 link.1
+
+  -- the first packet in flight on the first link passes to its receiver, at a position, and the world is sound then
+  pub record HasPassedFirst (fits : E → Fitting M) (winner : E → List ℕ → ℕ) (old : Running E M) (i : ℕ) (leader : Option ℕ) (new : Running E M) : Type 0 where
+    pub side : Side
+    pub first : IsFirstLink old i side
+    pub passed : HasPassed old i side leader new
+    pub sound : IsSoundWorld fits winner new
+
+  -- so many packets pass one after another, each on the link that is first then, and none of them tells a leader
+  abbrev pub PassesSilently : (E → Fitting M) → (E → List ℕ → ℕ) → Running E M → ℕ → Running E M → Type 0
+  PassesSilently fits winner old zero new = new ≡ old
+  PassesSilently fits winner old (suc n) new = (mid : Running E M) × (i : ℕ) × PassesSilently fits winner old n mid × HasPassedFirst fits winner mid i None new
+
+  -- What ended so many passages: the last told the node at a position the leader. Else none told one, and all are
+  -- made, or nothing is in flight, or there were more to make and memory was refused.
+  abbrev pub EndsPassages : (E → Fitting M) → (E → List ℕ → ℕ) → ℕ → Running E M → ℕ → PassagesEnd → Running E M → Type 0
+  EndsPassages fits winner most old done (ended.Told i leader) new =
+      (n : ℕ) × (mid : Running E M) × (done ≡ suc n) × PassesSilently fits winner old n mid × HasPassedFirst fits winner mid i (Some leader) new
+  EndsPassages fits winner most old done ended.Made new = (done ≡ most) × PassesSilently fits winner old done new
+  EndsPassages fits winner most old done ended.Quiet new = PassesSilently fits winner old done new × IsReady new None
+  EndsPassages fits winner most old done ended.Starved new = (done < most) × PassesSilently fits winner old done new × (i : ℕ) × (side : Side) × IsFirstLink new i side
+
+  -- what `pass_ready` answers, and the traffic after it
+  pub record PassesReady (fits : E → Fitting M) (winner : E → List ℕ → ℕ) (most : ℕ) (old : Running E M) (result : Passages) (new : Running E M) : Type 0 where
+    pub within : result.done ≤ most
+    pub ends : EndsPassages fits winner most old result.done result.end new

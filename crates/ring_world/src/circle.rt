@@ -134,6 +134,7 @@ impl<E: RingElection> Circle<E> {
 
     /// Gives the first packet that stands on a link to its receiver: the leader, exactly where this receipt
     /// is the first by which the receiver knows it.
+    #[inline(always)]
     pub fn hand_over(
         &mut self,
         position: usize,

@@ -27,7 +27,7 @@ mod traffic;
 mod world;
 
 pub use delivery::Delivery;
-pub use passage::Passage;
+pub use passage::{Passage, Passages, PassagesEnd};
 pub use settlement::{Settlement, settle};
 pub use tallied_circle::TalliedCircle;
 pub use traffic::Traffic;

@@ -1,10 +1,10 @@
 ghost use Rattle.std.specs.Prelude.{◌≡◌, ◌+◌, ◌-◌, ◌^◌, ◌<◌, ◌==◌, [], IfOk, OnErr, OnOk, Some, length, replicate, slice_get};
 ghost use Rattle.ring_node.specs.Nodes.{IsComing, news_of};
-ghost use Rattle.ring_world.specs.Worlds.{IsSoundWorld, after_receipt, delivered_of, in_flight, is_cut, no_cuts, node_at, nodes_of, on_link};
+ghost use Rattle.ring_world.specs.Worlds.{HasPassed, IsSoundWorld, after_receipt, delivered_of, in_flight, is_cut, no_cuts, node_at, nodes_of, on_link};
 
 use crate::circle::Circle;
 use crate::link_set::{LinkSet, link_at, place_of};
-use crate::passage::Passage;
+use crate::passage::{Passage, Passages, PassagesEnd};
 use crate::traffic::Traffic;
 use ring_election::RingElection;
 use ring_id::{NoMemory, NodeId, Refusal, Side};
@@ -86,6 +86,39 @@ impl<E: RingElection> Traffic<E> for TalliedCircle<E> {
         }
     }
 
+    #[inline(never)]
+    fn pass_ready(&mut self, most: u32) -> Passages {
+        // what the type keeps holds before the first passage
+        let _ = &self.circle;
+        for done in 0..most {
+            let Some((position, side)) = self.ready() else {
+                return Passages {
+                    done,
+                    end: PassagesEnd::Quiet,
+                };
+            };
+            match self.pass_front(position, side) {
+                Ok(None) => {}
+                Ok(Some(leader)) => {
+                    return Passages {
+                        done: done + 1,
+                        end: PassagesEnd::Told(position, leader),
+                    };
+                }
+                Err(NoMemory) => {
+                    return Passages {
+                        done,
+                        end: PassagesEnd::Starved,
+                    };
+                }
+            }
+        }
+        Passages {
+            done: most,
+            end: PassagesEnd::Made,
+        }
+    }
+
     fn pending(&self) -> u128 {
         self.pending
     }
@@ -126,9 +159,27 @@ impl<E: RingElection> TalliedCircle<E> {
         delivered
     }
 
+    /// Passes the first packet in flight on a link, on which there is one, to its receiver: the leader,
+    /// exactly where this receipt is the first by which the receiver knows it.
+    #[inline(always)]
+    fn pass_front(&mut self, position: usize, side: Side) -> Result<Option<NodeId>, NoMemory>
+        requires inside { position < length self.old.charter.roster }
+        requires waits { 0 < length (in_flight E.table self.old position side) }
+        ensures passed { IfOk result (λ leader. HasPassed E.table self.old position side leader self.new) }
+        ensures err { OnErr result (self.new ≡ self.old) }
+        ensures sound { IsSoundWorld E.table E.fits E.winner self.new }
+    {
+        let Some((packet, is_last)) = self.circle.front(position, side) else {
+            unreachable!()
+        };
+        let leader = self.hand_over(position, side, packet, is_last)?;
+        Ok(leader)
+    }
+
     /// Gives the first packet in flight on a link, which may be the last there, to its receiver, and counts
     /// and marks what is in flight or stuck then: the packet's link has one packet less, and on the links
     /// from the receiver stands what it has sent because of it.
+    #[inline(always)]
     fn hand_over(
         &mut self,
         position: usize,

@@ -1,7 +1,7 @@
 ghost use Rattle.std.specs.Prelude.{◌≡◌, ◌<◌, [], IfOk, length, replicate};
-ghost use Rattle.ring_world.specs.Worlds.{Cuts, IsReady, IsSoundWorld, Passes, no_cuts, pending_of};
+ghost use Rattle.ring_world.specs.Worlds.{Cuts, IsReady, IsSoundWorld, Passes, PassesReady, no_cuts, pending_of};
 
-use crate::passage::Passage;
+use crate::passage::{Passage, Passages};
 use ring_election::RingElection;
 use ring_id::{NoMemory, Refusal, Side};
 use ring_node::Charter;
@@ -37,6 +37,13 @@ pub trait Traffic<E: RingElection>: Sized + Drop {
     fn pass(&mut self, position: usize, side: Side, may_tell: bool) -> Passage
         requires { position < length (running self.old).charter.roster }
         ensures passes { Passes E.table (E.is_two_way (running self.old).charter.algorithm) may_tell (running self.old) position side result (running self.new) }
+        ensures sound { IsSoundWorld E.table E.fits E.winner (running self.new) };
+
+    /// Passes front packets to their receivers, each on the first link with something in flight then, until one
+    /// tells a leader, so many are made, nothing is in flight, or memory is refused: how many were made, and
+    /// what ended them.
+    fn pass_ready(&mut self, most: u32) -> Passages
+        ensures passes { PassesReady E.table E.fits E.winner most (running self.old) result (running self.new) }
         ensures sound { IsSoundWorld E.table E.fits E.winner (running self.new) };
 
     /// How many packets are in flight or stuck. Takes no memory, like the next.

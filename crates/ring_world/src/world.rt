@@ -1,11 +1,11 @@
 ghost use Rattle.std.specs.Prelude.{◌≡◌, ◌<◌, ◌≤◌, ◌↔◌, true, [], IfNone, IfOk, IsSome, length, replicate, slice_index};
 ghost use Rattle.ring_node.specs.Reports.{IsTruthful};
 ghost use Rattle.ring_world.specs.Quiet.{AllKnow, IsEmptied};
-ghost use Rattle.ring_world.specs.Worlds.{Cuts, Delivers, IsReady, IsSoundWorld, IsUncut, Passes, announcements_of, delivered_of, is_cut, most_deliveries, no_cuts, nodes_of, pending_of};
+ghost use Rattle.ring_world.specs.Worlds.{Cuts, Delivers, IsReady, IsSoundWorld, IsUncut, Passes, PassesReady, announcements_of, delivered_of, is_cut, most_deliveries, no_cuts, nodes_of, pending_of};
 
 use crate::delivery::Delivery;
 use crate::owners::Owners;
-use crate::passage::Passage;
+use crate::passage::{Passage, Passages};
 use crate::tallied_circle::TalliedCircle;
 use crate::traffic::Traffic;
 use ring_election::RingElection;
@@ -102,6 +102,16 @@ impl<E: RingElection, T: Traffic<E>> World<E, T> {
         ensures bounded { delivered_of self.new ≤ most_deliveries E.bound self.new }
     {
         self.traffic.pass(position, side, true)
+    }
+
+    /// Passes front packets as `pass` does, each on the link that is ready then, until one tells a leader, so many are
+    /// made, no link is ready, or memory is refused: how many were made, and what ended them.
+    pub fn pass_ready(&mut self, most: u32) -> Passages
+        ensures passes { PassesReady E.table E.fits E.winner most self.old result self.new }
+        ensures sound { IsSoundWorld E.table E.fits E.winner self.new }
+        ensures bounded { delivered_of self.new ≤ most_deliveries E.bound self.new }
+    {
+        self.traffic.pass_ready(most)
     }
 
     /// How many packets were sent and not yet taken, be they in flight or stuck on links that are cut.

@@ -1,42 +1,53 @@
--- Each delivery is one more at the link that is ready then.
-use Rattle.std.proofs.Common.{◌≡◌, add-one, arith}
-use Rattle.ring_mux.proofs.Drains.{makes_all, makes_ended, makes_starved, none_drained, one_drained}
-use Rattle.ring_mux.proofs.Standing.{stands_after}
+-- Each row of passages is as many deliveries more, and a leader that the last told is filed.
+use Rattle.std.proofs.Common.{◌≡◌, ◌+◌, ◌∙◌, suc, Some, refl, arith}
+use Rattle.ring_mux.proofs.Drains.{makes_all, makes_ended, makes_starved}
+use Rattle.ring_mux.proofs.Passages.{none_at, one_at, silent_at, told_carried, told_files}
 use Rattle.ring_mux.proofs.deliveries.carry_many.Goals as goal
 
 pub loop-done-init : goal.loop-done-init
-loop-done-init g c = record {
-  drained = none_drained g.E.RingElection.table g.E.RingElection.fits g.E.RingElection.winner g.E.RingElection.is_greatest c.args.book.now c.args.world.now;
-  stands = c.requires;
-}
+loop-done-init g c = record { within = omega arith; made = none_at g.E.RingElection.table g.E.RingElection.fits g.E.RingElection.winner g.E.RingElection.is_greatest c.args.place c.args.book.now c.args.world.now c.requires }
 
-pub returns-in_default : goal.returns-in_default
-returns-in_default g c =
-    makes_ended g.E.RingElection.table g.E.RingElection.fits g.E.RingElection.winner g.E.RingElection.is_greatest c.args.count c.loop-done.done c.args.book.now c.args.world.now c.loop-done.book c.loop-done.world (omega arith)
-    c.loop-done.invariant.drained (c.in_default.ensures.first)
-
-pub returns-in-Idle : goal.returns-in-Idle
-returns-in-Idle g c =
-    makes_starved g.E.RingElection.table g.E.RingElection.fits g.E.RingElection.winner g.E.RingElection.is_greatest c.args.count c.loop-done.done c.in-Some.position c.in-Some.side c.args.book.now c.args.world.now
-    c.loop-done.book c.loop-done.world c.carry.new.book c.carry.new.world (omega arith) c.loop-done.invariant.drained (c.in-Some.ensures.first)
-    (λ name worlds kept found seat. let idle = c.in-Idle.ensures name worlds kept found seat in (idle.0.2, idle.1))
-
-pub returns-in-Refused : goal.returns-in-Refused
-returns-in-Refused g c =
-    makes_starved g.E.RingElection.table g.E.RingElection.fits g.E.RingElection.winner g.E.RingElection.is_greatest c.args.count c.loop-done.done c.in-Some.position c.in-Some.side c.args.book.now c.args.world.now
-    c.loop-done.book c.loop-done.world c.carry.new.book c.carry.new.world (omega arith) c.loop-done.invariant.drained (c.in-Some.ensures.first)
-    (λ name worlds kept found seat. let refused = c.in-Refused.ensures name worlds kept found seat in (refused.0.1, refused.1))
+pub inform-requires : goal.inform-requires
+inform-requires g c =
+    let ends = rw c.in-Told.is at c.pass_ready-passages.ensures.passes.ends in
+    let before = silent_at g.E.RingElection.table g.E.RingElection.fits g.E.RingElection.winner g.E.RingElection.is_greatest c.args.place c.args.book.now c.args.world.now c.loop-done.done ends.0 c.loop-done.book c.loop-done.world ends.1 c.loop-done.invariant.made ends.3 in
+    let files = told_files g.E.RingElection.table g.E.RingElection.fits g.E.RingElection.winner c.in-Told.position ends.4.side c.loop-done.book ends.1 (Some c.in-Told.leader) c.pass_ready-passages.new.self ends.4.passed ends.4.sound c.args.place before.stands ends.4.first.inside c.in-Told.leader refl _ (c.deref.ensures ∙ c.charter.ensures.value) in
+    record { placed = files.placed; running = files.running; inside = files.inside; wins = files.wins }
 
 pub loop-done-preserved : goal.loop-done-preserved
 loop-done-preserved g c =
-    rw add-one (record {
-      drained = one_drained g.E.RingElection.table g.E.RingElection.fits g.E.RingElection.winner g.E.RingElection.is_greatest g.E.RingElection.is_two_way c.loop-done.done c.in-Some.position c.in-Some.side
-          c.args.book.now c.args.world.now c.loop-done.book c.loop-done.world c.carry.new.book c.carry.new.world (c.in-Some.ensures.first) c.ready.ensures.sound.is_ring c.loop-done.invariant.drained c.in-Moved.ensures;
-      stands = stands_after g.E.RingElection.table g.E.RingElection.fits g.E.RingElection.winner c.args.place c.loop-done.book c.loop-done.world c.loop-done.invariant.stands
-          g.E.RingElection.is_two_way g.E.RingElection.is_greatest c.in-Some.position c.in-Some.side c.carry.new.book c.carry.new.world (c.in-Some.ensures.first) c.ready.ensures.sound.is_ring c.in-Moved.ensures;
-    })
+    let ends = rw c.in-Told.is at c.pass_ready-passages.ensures.passes.ends in
+    let before = silent_at g.E.RingElection.table g.E.RingElection.fits g.E.RingElection.winner g.E.RingElection.is_greatest c.args.place c.args.book.now c.args.world.now c.loop-done.done ends.0 c.loop-done.book c.loop-done.world ends.1 c.loop-done.invariant.made ends.3 in
+    let carried = told_carried g.E.RingElection.table g.E.RingElection.fits g.E.RingElection.winner c.in-Told.position ends.4.side c.loop-done.book ends.1 (Some c.in-Told.leader) c.pass_ready-passages.new.self ends.4.passed ends.4.sound g.E.RingElection.is_greatest c.in-Told.leader refl _ (c.deref.ensures ∙ c.charter.ensures.value) c.inform.result c.inform.new.self c.inform.ensures in
+    let made = one_at g.E.RingElection.table g.E.RingElection.fits g.E.RingElection.winner g.E.RingElection.is_greatest c.args.place c.args.book.now c.args.world.now (c.loop-done.done + ends.0) c.in-Told.position ends.4.side c.loop-done.book ends.1 c.inform.new.self c.pass_ready-passages.new.self before ends.4.first carried in
+    let whole : suc (c.loop-done.done + ends.0) ≡ c.loop-done.done + c.pass_ready-passages.result.done = omega (arith, ends.2) in
+    record { within = omega (arith, c.pass_ready-passages.ensures.passes.within); made = rw whole at made }
+
+pub loop-done-smaller : goal.loop-done-smaller
+loop-done-smaller g c =
+    let ends = rw c.in-Told.is at c.pass_ready-passages.ensures.passes.ends in
+    omega (arith, ends.2, c.pass_ready-passages.ensures.passes.within)
+
+pub returns-in-Made : goal.returns-in-Made
+returns-in-Made g c =
+    let ends = rw c.in-Made.is at c.pass_ready-passages.ensures.passes.ends in
+    let sum : c.loop-done.done + c.pass_ready-passages.result.done ≡ c.args.count = omega (arith, ends.0) in
+    let made = silent_at g.E.RingElection.table g.E.RingElection.fits g.E.RingElection.winner g.E.RingElection.is_greatest c.args.place c.args.book.now c.args.world.now c.loop-done.done c.pass_ready-passages.result.done c.loop-done.book c.loop-done.world c.pass_ready-passages.new.self c.loop-done.invariant.made ends.1 in
+    rw sum (makes_all g.E.RingElection.table g.E.RingElection.fits g.E.RingElection.winner g.E.RingElection.is_greatest c.args.count c.args.book.now c.args.world.now c.loop-done.book c.pass_ready-passages.new.self (rw sum at made.drained))
+
+pub returns-in-Quiet : goal.returns-in-Quiet
+returns-in-Quiet g c =
+    let ends = rw c.in-Quiet.is at c.pass_ready-passages.ensures.passes.ends in
+    let made = silent_at g.E.RingElection.table g.E.RingElection.fits g.E.RingElection.winner g.E.RingElection.is_greatest c.args.place c.args.book.now c.args.world.now c.loop-done.done c.pass_ready-passages.result.done c.loop-done.book c.loop-done.world c.pass_ready-passages.new.self c.loop-done.invariant.made ends.0 in
+    makes_ended g.E.RingElection.table g.E.RingElection.fits g.E.RingElection.winner g.E.RingElection.is_greatest c.args.count (c.loop-done.done + c.pass_ready-passages.result.done) c.args.book.now c.args.world.now c.loop-done.book c.pass_ready-passages.new.self (omega (arith, c.pass_ready-passages.ensures.passes.within)) made.drained ends.1
+
+pub returns-in-Starved : goal.returns-in-Starved
+returns-in-Starved g c =
+    let ends = rw c.in-Starved.is at c.pass_ready-passages.ensures.passes.ends in
+    let made = silent_at g.E.RingElection.table g.E.RingElection.fits g.E.RingElection.winner g.E.RingElection.is_greatest c.args.place c.args.book.now c.args.world.now c.loop-done.done c.pass_ready-passages.result.done c.loop-done.book c.loop-done.world c.pass_ready-passages.new.self c.loop-done.invariant.made ends.1 in
+    makes_starved g.E.RingElection.table g.E.RingElection.fits g.E.RingElection.winner g.E.RingElection.is_greatest c.args.count (c.loop-done.done + c.pass_ready-passages.result.done) ends.2 ends.3 c.args.book.now c.args.world.now c.loop-done.book c.pass_ready-passages.new.self (omega (arith, ends.0)) made.drained ends.4
 
 pub returns : goal.returns
 returns g c =
     let all : c.loop-done.done ≡ c.args.count = omega arith in
-    makes_all g.E.RingElection.table g.E.RingElection.fits g.E.RingElection.winner g.E.RingElection.is_greatest c.args.count c.args.book.now c.args.world.now c.loop-done.book c.loop-done.world (rw all at c.loop-done.invariant.drained)
+    rw all (makes_all g.E.RingElection.table g.E.RingElection.fits g.E.RingElection.winner g.E.RingElection.is_greatest c.args.count c.args.book.now c.args.world.now c.loop-done.book c.loop-done.world (rw all at c.loop-done.invariant.made.drained))
