@@ -1,10 +1,9 @@
-//! One ring whose messages are taken one by one.
+//! One ring whose messages are taken one by one. Where memory is refused, the test ends.
 
-use crate::rings::identity;
 use ring_election::{RingElection, Sends};
 use ring_id::{NodeId, Side};
 use std::alloc::Global;
-use std::test::Fail;
+use std::process::Abort;
 
 /// The most messages that an election of the rows may take.
 pub const MOST: u32 = 100;
@@ -22,6 +21,13 @@ impl<M: Copy> Link<M> {
         Link {
             sent: Vec::new(alloc),
             taken: 0,
+        }
+    }
+
+    /// Puts what is sent behind the others, if there is a message.
+    fn put(&mut self, rt: &impl Abort, message: Option<M>) {
+        if let Some(message) = message {
+            self.sent.push(message).expect(rt, "no memory");
         }
     }
 
@@ -43,26 +49,21 @@ struct Member<E: RingElection> {
 
 impl<E: RingElection> Member<E> {
     /// A member that has started, and received nothing.
-    fn started(alloc: Global, algorithm: E, me: NodeId) -> Result<Member<E>, Fail> {
+    fn started(rt: &impl Abort, alloc: Global, algorithm: E, me: NodeId) -> Member<E> {
         let (state, sends) = algorithm.start(alloc, me);
         let mut member = Member {
             state,
             left: Link::new(alloc),
             right: Link::new(alloc),
         };
-        member.send(sends)?;
-        Ok(member)
+        member.send(rt, sends);
+        member
     }
 
     /// Puts what is sent on the links.
-    fn send(&mut self, sends: Sends<E::Msg>) -> Result<(), Fail> {
-        if let Some(message) = sends.left {
-            self.left.sent.push(message)?;
-        }
-        if let Some(message) = sends.right {
-            self.right.sent.push(message)?;
-        }
-        Ok(())
+    fn send(&mut self, rt: &impl Abort, sends: Sends<E::Msg>) {
+        self.left.put(rt, sends.left);
+        self.right.put(rt, sends.right);
     }
 
     /// Takes the first message that it has sent to that side and nobody has taken, if there is one.
@@ -71,6 +72,12 @@ impl<E: RingElection> Member<E> {
             Side::Left => self.left.take(),
             Side::Right => self.right.take(),
         }
+    }
+
+    /// Receives a message from that side, and puts what it sends on the links.
+    fn receive(&mut self, rt: &impl Abort, algorithm: E, from: Side, message: E::Msg) {
+        let sends = algorithm.receive(&mut self.state, from, message);
+        self.send(rt, sends.expect(rt, "no memory"));
     }
 }
 
@@ -83,72 +90,87 @@ pub struct Course<E: RingElection> {
 
 impl<E: RingElection> Course<E> {
     /// The ring of these numbers, in this order, after all of it have started.
-    pub fn started(alloc: Global, algorithm: E, numbers: &[u32]) -> Result<Course<E>, Fail> {
+    pub fn started(rt: &impl Abort, alloc: Global, algorithm: E, numbers: &[u32]) -> Course<E> {
         let mut members = Vec::new(alloc);
         for number in numbers {
-            members.push(Member::started(alloc, algorithm, identity(*number)?)?)?;
+            let me = NodeId::new(*number).expect(rt, "no identity is 0");
+            let member = Member::started(rt, alloc, algorithm, me);
+            members.push(member).expect(rt, "no memory");
         }
-        Ok(Course { algorithm, members })
+        Course { algorithm, members }
     }
 
-    /// Takes the first message that is on its way to this position from that side; whether there was one.
-    fn takes(&mut self, position: usize, from: Side) -> Result<bool, Fail> {
+    /// The position beside this one, on that side.
+    fn beside(&self, position: usize, side: Side) -> usize {
         let last = self.members.len().saturating_sub(1);
-        let beside = match from {
+        match side {
             Side::Left if position > 0 => position - 1,
             Side::Left => last,
             Side::Right if position < last => position + 1,
             Side::Right => 0,
-        };
-        let sender = self.members.get_mut(beside).ok_or("no such sender")?;
-        let Some(message) = sender.give(from.other()) else {
-            return Ok(false);
-        };
-        let member = self.members.get_mut(position).ok_or("no such position")?;
-        let sends = self.algorithm.receive(&mut member.state, from, message)?;
-        member.send(sends)?;
-        Ok(true)
+        }
+    }
+
+    /// The member at this position.
+    fn member_mut(&mut self, rt: &impl Abort, position: usize) -> &mut Member<E> {
+        self.members
+            .get_mut(position)
+            .expect(rt, "no such position")
+    }
+
+    /// Takes the first message that is on its way to this position from that side; whether there was one.
+    fn takes(&mut self, rt: &impl Abort, position: usize, from: Side) -> bool {
+        let beside = self.beside(position, from);
+        let algorithm = self.algorithm;
+        match self.member_mut(rt, beside).give(from.other()) {
+            Some(message) => {
+                self.member_mut(rt, position)
+                    .receive(rt, algorithm, from, message);
+                true
+            }
+            None => false,
+        }
     }
 
     /// Takes a message at the first position that has one, from its left before its right: which position that is; none
     /// where no message is left.
-    pub fn takes_next(&mut self) -> Result<Option<usize>, Fail> {
+    pub fn takes_next(&mut self, rt: &impl Abort) -> Option<usize> {
         for position in 0..self.members.len() {
-            if self.takes(position, Side::Left)? || self.takes(position, Side::Right)? {
-                return Ok(Some(position));
+            if self.takes(rt, position, Side::Left) || self.takes(rt, position, Side::Right) {
+                return Some(position);
             }
         }
-        Ok(None)
+        None
     }
 
     /// Takes messages until none is left: how many.
-    pub fn settled(&mut self) -> Result<u32, Fail> {
+    pub fn settled(&mut self, rt: &impl Abort) -> u32 {
         for taken in 0..MOST {
-            if self.takes_next()?.is_none() {
-                return Ok(taken);
+            if self.takes_next(rt).is_none() {
+                return taken;
             }
         }
-        Err("more than 100 messages".into())
+        panic!(rt; "more than 100 messages")
     }
 
     /// The member at this position.
-    fn member(&self, position: usize) -> Result<&Member<E>, Fail> {
-        Ok(self.members.get(position).ok_or("no such position")?)
+    fn member(&self, rt: &impl Abort, position: usize) -> &Member<E> {
+        self.members.get(position).expect(rt, "no such position")
     }
 
     /// What the member at this position remembers.
-    pub fn state(&self, position: usize) -> Result<&E::State, Fail> {
-        Ok(&self.member(position)?.state)
+    pub fn state(&self, rt: &impl Abort, position: usize) -> &E::State {
+        &self.member(rt, position).state
     }
 
     /// All that the member at this position has sent to its right, in order.
-    pub fn sent_right(&self, position: usize) -> Result<&[E::Msg], Fail> {
-        Ok(&self.member(position)?.right.sent)
+    pub fn sent_right(&self, rt: &impl Abort, position: usize) -> &[E::Msg] {
+        &self.member(rt, position).right.sent
     }
 
     /// The number on which the member at this position has decided, if it has.
-    pub fn decided(&self, position: usize) -> Result<Option<u32>, Fail> {
-        let decision = self.algorithm.decision(self.state(position)?);
-        Ok(decision.map(NodeId::get))
+    pub fn decided(&self, rt: &impl Abort, position: usize) -> Option<u32> {
+        let decision = self.algorithm.decision(self.state(rt, position));
+        decision.map(NodeId::get)
     }
 }

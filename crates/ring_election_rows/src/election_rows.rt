@@ -6,36 +6,34 @@ use ring_any::Any;
 use ring_chang::{Chang, fitting, work_is_triangular};
 use ring_election::{RingElection, one_winner};
 use ring_hirschberg::{Hirschberg, messages_are_few, phases_are_few};
-use ring_id::Side;
+use ring_id::{NodeId, Side};
 use ring_lelann::{LeLann, work_is_square};
 use ring_peterson::{Peterson, rounds_shrink};
 use std::alloc::Global;
 use std::process::Abort;
-use std::test::Fail;
 
 /// The numbers of a ring, how many messages its election takes, and on what each member has decided then.
 type Row<'a> = (&'a [u32], u32, &'a [Option<u32>]);
 
-/// The election on each of these rings comes to what its row says.
-fn elects<E: RingElection>(
-    rt: &impl Abort,
-    alloc: Global,
-    algorithm: E,
-    rows: &[Row],
-) -> Result<(), Fail> {
-    for (numbers, messages, decisions) in rows {
-        let mut ring = Course::started(alloc, algorithm, numbers)?;
-        assert_eq!(rt; ring.settled()?, *messages, "on {numbers:?}");
-        assert_eq!(rt; decisions.len(), numbers.len());
-        for (position, decision) in decisions.iter().enumerate() {
-            assert_eq!(rt; ring.decided(position)?, *decision, "on {numbers:?}");
-        }
+/// The election on this ring comes to what its row says.
+fn comes_to<E: RingElection>(rt: &impl Abort, mut ring: Course<E>, row: &Row) {
+    let (numbers, messages, decisions) = row;
+    assert_eq!(rt; ring.settled(rt), *messages, "on {numbers:?}");
+    assert_eq!(rt; decisions.len(), numbers.len());
+    for (position, decision) in decisions.iter().enumerate() {
+        assert_eq!(rt; ring.decided(rt, position), *decision, "on {numbers:?}");
     }
-    Ok(())
+}
+
+/// The election on each of these rings comes to what its row says.
+fn elects<E: RingElection>(rt: &impl Abort, alloc: Global, algorithm: E, rows: &[Row]) {
+    for row in rows {
+        comes_to(rt, Course::started(rt, alloc, algorithm, row.0), row);
+    }
 }
 
 #[test]
-fn all_elect_the_greatest_by_lelann_with_n_times_n_messages(rt: HostRuntime) -> Result<(), Fail> {
+fn all_elect_the_greatest_by_lelann_with_n_times_n_messages(rt: HostRuntime) {
     work_is_square();
     let rows: [Row; 4] = [
         (&[7], 1, &[Some(7)]),
@@ -43,25 +41,36 @@ fn all_elect_the_greatest_by_lelann_with_n_times_n_messages(rt: HostRuntime) -> 
         (&[3, 1, 2], 9, &[Some(3); 3]),
         (&[4, 1, 3, 2], 16, &[Some(4); 4]),
     ];
-    elects(&rt, rt.alloc(), LeLann, &rows)
+    elects(&rt, rt.alloc(), LeLann, &rows);
+}
+
+/// Receives a message from that side, and has decided so then.
+fn receives<E: RingElection>(
+    rt: &impl Abort,
+    algorithm: E,
+    state: &mut E::State,
+    from: Side,
+    message: E::Msg,
+    decision: Option<NodeId>,
+) {
+    let received = algorithm.receive(state, from, message);
+    assert!(rt; received.is_ok());
+    assert_eq!(rt; algorithm.decision(state), decision);
 }
 
 #[test]
-fn a_node_of_lelann_shows_what_it_has_seen(rt: HostRuntime) -> Result<(), Fail> {
-    let [me, second, third] = [identity(3)?, identity(2)?, identity(1)?];
+fn a_node_of_lelann_shows_what_it_has_seen(rt: HostRuntime) {
+    let [me, second, third] = [identity(&rt, 3), identity(&rt, 2), identity(&rt, 1)];
     let (mut state, _) = LeLann.start(rt.alloc(), me);
-    for (from, node) in [(Side::Left, second), (Side::Right, me), (Side::Left, third)] {
-        LeLann.receive(&mut state, from, node)?;
-        assert_eq!(rt; LeLann.decision(&state), None);
-    }
-    LeLann.receive(&mut state, Side::Left, me)?;
+    receives(&rt, LeLann, &mut state, Side::Left, second, None);
+    receives(&rt, LeLann, &mut state, Side::Right, me, None);
+    receives(&rt, LeLann, &mut state, Side::Left, third, None);
+    receives(&rt, LeLann, &mut state, Side::Left, me, Some(me));
     assert_eq!(rt; state.seen(), [second, third].as_slice());
-    assert_eq!(rt; LeLann.decision(&state), Some(me));
-    Ok(())
 }
 
 #[test]
-fn the_greatest_alone_decides_by_chang(rt: HostRuntime) -> Result<(), Fail> {
+fn the_greatest_alone_decides_by_chang(rt: HostRuntime) {
     one_winner::<Chang>();
     let rows: [Row; 4] = [
         (&[3, 1, 2], 5, &[Some(3), None, None]),
@@ -69,41 +78,46 @@ fn the_greatest_alone_decides_by_chang(rt: HostRuntime) -> Result<(), Fail> {
         (&[1, 2], 3, &[None, Some(2)]),
         (&[7], 1, &[Some(7)]),
     ];
-    elects(&rt, rt.alloc(), Chang, &rows)
+    elects(&rt, rt.alloc(), Chang, &rows);
 }
 
 /// How many messages of Chang and Roberts fit all right links of the ring of these numbers.
-fn fitting_in_all(alloc: Global, numbers: &[u32]) -> Result<usize, Fail> {
-    let ring = ring(alloc, numbers)?;
+fn fitting_in_all(rt: &impl Abort, alloc: Global, numbers: &[u32]) -> usize {
+    let ring = ring(rt, alloc, numbers);
     let mut sum: usize = 0;
     for position in 0..ring.len() {
-        sum = sum.saturating_add(fitting(alloc, &ring, position)?.len());
+        let fits = fitting(alloc, &ring, position).expect(rt, "no memory");
+        sum = sum.saturating_add(fits.len());
     }
-    Ok(sum)
+    sum
 }
 
 #[test]
-fn so_many_messages_of_chang_fit_a_ring(rt: HostRuntime) -> Result<(), Fail> {
+fn so_many_messages_of_chang_fit_a_ring(rt: HostRuntime) {
     let alloc = rt.alloc();
-    assert_eq!(rt; fitting_in_all(alloc, &[3, 1, 2])?, 5);
-    assert_eq!(rt; fitting_in_all(alloc, &rising(alloc, 256)?)?, 511);
-    assert_eq!(rt; fitting_in_all(alloc, &falling(alloc, 256)?)?, 32896);
-    Ok(())
+    assert_eq!(rt; fitting_in_all(&rt, alloc, &[3, 1, 2]), 5);
+    assert_eq!(rt; fitting_in_all(&rt, alloc, &rising(&rt, alloc, 256)), 511);
+    assert_eq!(rt;
+        fitting_in_all(&rt, alloc, &falling(&rt, alloc, 256)),
+        32896
+    );
 }
 
 #[test]
-fn a_falling_ring_reaches_the_bound_of_chang(rt: HostRuntime) -> Result<(), Fail> {
+fn a_falling_ring_reaches_the_bound_of_chang(rt: HostRuntime) {
     work_is_triangular();
     let alloc = rt.alloc();
     for length in 1..17_u32 {
         let bound = length as usize * (length as usize + 1) / 2;
-        assert_eq!(rt; fitting_in_all(alloc, &falling(alloc, length)?)?, bound);
+        assert_eq!(rt;
+            fitting_in_all(&rt, alloc, &falling(&rt, alloc, length)),
+            bound
+        );
     }
-    Ok(())
 }
 
 #[test]
-fn the_greatest_alone_decides_by_hirschberg(rt: HostRuntime) -> Result<(), Fail> {
+fn the_greatest_alone_decides_by_hirschberg(rt: HostRuntime) {
     assert!(rt; Hirschberg.two_way());
     assert!(rt; Hirschberg.greatest());
     phases_are_few();
@@ -117,11 +131,11 @@ fn the_greatest_alone_decides_by_hirschberg(rt: HostRuntime) -> Result<(), Fail>
     for ((_, messages, _), most) in rows.iter().zip([60, 80, 24, 4]) {
         assert!(rt; *messages <= most);
     }
-    elects(&rt, rt.alloc(), Hirschberg, &rows)
+    elects(&rt, rt.alloc(), Hirschberg, &rows);
 }
 
 #[test]
-fn the_last_position_alone_decides_by_peterson(rt: HostRuntime) -> Result<(), Fail> {
+fn the_last_position_alone_decides_by_peterson(rt: HostRuntime) {
     rounds_shrink();
     assert!(rt; !Peterson.two_way() && !Peterson.greatest());
     let rows: [Row; 4] = [
@@ -130,11 +144,11 @@ fn the_last_position_alone_decides_by_peterson(rt: HostRuntime) -> Result<(), Fa
         (&[5, 9], 8, &[Some(5), None]),
         (&[7], 2, &[Some(7)]),
     ];
-    elects(&rt, rt.alloc(), Peterson, &rows)
+    elects(&rt, rt.alloc(), Peterson, &rows);
 }
 
 #[test]
-fn each_kind_elects_its_winner(rt: HostRuntime) -> Result<(), Fail> {
+fn each_kind_elects_its_winner(rt: HostRuntime) {
     let rows: [(Any, Row); 8] = [
         (Any::LeLann, (&[3, 1, 2], 9, &[Some(3); 3])),
         (Any::Chang, (&[3, 1, 2], 5, &[Some(3), None, None])),
@@ -146,7 +160,6 @@ fn each_kind_elects_its_winner(rt: HostRuntime) -> Result<(), Fail> {
         (Any::Peterson, (&[7], 2, &[Some(7)])),
     ];
     for (kind, row) in rows {
-        elects(&rt, rt.alloc(), kind, &[row])?;
+        elects(&rt, rt.alloc(), kind, &[row]);
     }
-    Ok(())
 }

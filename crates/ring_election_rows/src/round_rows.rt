@@ -6,19 +6,21 @@ use ring_election::RingElection;
 use ring_id::Side;
 use ring_peterson::{Peterson, PetersonState, round_of};
 use std::alloc::Global;
-use std::test::Fail;
+use std::process::Abort;
 
 /// The round of this number on the ring of these numbers: each position that is active, with the number that it holds.
-fn round(alloc: Global, numbers: &[u32], round: usize) -> Result<Vec<(usize, u32)>, Fail> {
+fn round(rt: &impl Abort, alloc: Global, numbers: &[u32], round: usize) -> Vec<(usize, u32)> {
     let mut active = Vec::new(alloc);
-    for entry in round_of(alloc, &ring(alloc, numbers)?, round)? {
-        active.push((entry.0, entry.1.get()))?;
+    let entries = round_of(alloc, &ring(rt, alloc, numbers), round);
+    for entry in entries.expect(rt, "no memory") {
+        let push = active.push((entry.0, entry.1.get()));
+        push.expect(rt, "no memory");
     }
-    Ok(active)
+    active
 }
 
 #[test]
-fn rounds_are_those_of_the_worked_rings(rt: HostRuntime) -> Result<(), Fail> {
+fn rounds_are_those_of_the_worked_rings(rt: HostRuntime) {
     let worked: [(&[u32], usize, &[(usize, u32)]); 10] = [
         (&[3, 1, 2], 0, &[(0, 3), (1, 1), (2, 2)]),
         (&[3, 1, 2], 1, &[(1, 3)]),
@@ -32,56 +34,55 @@ fn rounds_are_those_of_the_worked_rings(rt: HostRuntime) -> Result<(), Fail> {
         (&[7], 1, &[]),
     ];
     for (numbers, number, active) in worked {
-        let found = round(rt.alloc(), numbers, number)?;
+        let found = round(&rt, rt.alloc(), numbers, number);
         assert_eq!(rt; found.as_slice(), active, "{numbers:?} {number}");
     }
-    Ok(())
 }
 
 /// The number that a node holds at the beginning of a round: the one of these by which it would be chosen, were it the
 /// next to come from the left. None of a relay, of a chosen node, and within a round.
-fn holds(state: &PetersonState, numbers: &[u32]) -> Result<Option<u32>, Fail> {
+fn holds(rt: &impl Abort, state: &PetersonState, numbers: &[u32]) -> Option<u32> {
     if Peterson.decision(state).is_some() {
-        return Ok(None);
+        return None;
     }
     for number in numbers {
         let mut copy = *state;
-        Peterson.receive(&mut copy, Side::Left, identity(*number)?)?;
+        let received = Peterson.receive(&mut copy, Side::Left, identity(rt, *number));
+        assert!(rt; received.is_ok());
         if Peterson.decision(&copy).is_some() {
-            return Ok(Some(*number));
+            return Some(*number);
         }
     }
-    Ok(None)
+    None
 }
 
 /// What the member at a position of a ring held at the beginnings of its rounds, and what it sent, when all was taken.
 fn held_and_sent(
+    rt: &impl Abort,
     alloc: Global,
     numbers: &[u32],
     position: usize,
-) -> Result<(Vec<u32>, Vec<u32>), Fail> {
-    let mut ring = Course::started(alloc, Peterson, numbers)?;
+) -> (Vec<u32>, Vec<u32>) {
+    let mut ring = Course::started(rt, alloc, Peterson, numbers);
     let mut held = Vec::new(alloc);
     let mut taker = Some(position);
     for _ in 0..MOST {
         if taker == Some(position) {
-            if let Some(number) = holds(ring.state(position)?, numbers)? {
-                held.push(number)?;
+            if let Some(number) = holds(rt, ring.state(rt, position), numbers) {
+                held.push(number).expect(rt, "no memory");
             }
         }
-        taker = ring.takes_next()?;
+        taker = ring.takes_next(rt);
     }
     let mut sent = Vec::new(alloc);
-    for message in ring.sent_right(position)? {
-        sent.push(message.get())?;
+    for message in ring.sent_right(rt, position) {
+        sent.push(message.get()).expect(rt, "no memory");
     }
-    Ok((held, sent))
+    (held, sent)
 }
 
 #[test]
-fn a_node_of_peterson_holds_and_sends_the_values_of_the_rounds(
-    rt: HostRuntime,
-) -> Result<(), Fail> {
+fn a_node_of_peterson_holds_and_sends_the_values_of_the_rounds(rt: HostRuntime) {
     let positions: [(&[u32], usize, &[u32], &[u32]); 10] = [
         (&[3, 1, 2], 0, &[3], &[3, 2, 3, 3]),
         (&[3, 1, 2], 1, &[1, 3], &[1, 3, 3, 3]),
@@ -95,9 +96,8 @@ fn a_node_of_peterson_holds_and_sends_the_values_of_the_rounds(
         (&[7], 0, &[7], &[7, 7]),
     ];
     for (numbers, position, held, sent) in positions {
-        let both = held_and_sent(rt.alloc(), numbers, position)?;
+        let both = held_and_sent(&rt, rt.alloc(), numbers, position);
         assert_eq!(rt; both.0.as_slice(), held, "{numbers:?} {position}");
         assert_eq!(rt; both.1.as_slice(), sent, "{numbers:?} {position}");
     }
-    Ok(())
 }

@@ -7,6 +7,8 @@
 
 mod drains;
 #[cfg(test)]
+mod equal;
+#[cfg(test)]
 mod memory;
 #[cfg(test)]
 mod node_rows;

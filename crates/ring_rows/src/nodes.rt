@@ -1,24 +1,38 @@
 //! Nodes of the rows by themselves, on the election of Chang and Roberts.
 
+use crate::memory::TWICE;
 use ring_chang::Chang;
 use ring_id::{NoMemory, Side};
 use ring_node::{Charter, Envelope, Node, Packet, Report, TakeFault};
 use std::alloc::Global;
+use std::process::Abort;
 use std::sync::Arc;
-use std::test::Fail;
 
-/// The node at this position, which has received nothing. Asked for once more where memory was refused.
-pub fn seated(
+/// The node at this position, which has received nothing.
+fn seated_once(
+    rt: &impl Abort,
     alloc: Global,
     charter: &Arc<Charter<Chang>>,
     position: usize,
-) -> Result<Node<Chang>, Fail> {
-    if position >= charter.roster().len() {
-        return Err("no such position".into());
-    }
-    match Node::seat(alloc, Arc::try_clone(charter)?, position) {
-        Ok(node) => Ok(node),
-        Err(NoMemory) => Ok(Node::seat(alloc, Arc::try_clone(charter)?, position)?),
+) -> Result<Node<Chang>, NoMemory> {
+    assert!(rt; position < charter.roster().len());
+    Node::seat(
+        alloc,
+        Arc::try_clone(charter).expect(rt, "no copy"),
+        position,
+    )
+}
+
+/// The same, asked for once more where memory was refused.
+pub fn seated(
+    rt: &impl Abort,
+    alloc: Global,
+    charter: &Arc<Charter<Chang>>,
+    position: usize,
+) -> Node<Chang> {
+    match seated_once(rt, alloc, charter, position) {
+        Ok(node) => node,
+        Err(NoMemory) => seated_once(rt, alloc, charter, position).expect(rt, TWICE),
     }
 }
 
@@ -39,21 +53,19 @@ pub fn counts(node: &Node<Chang>) -> (usize, usize) {
 pub type Taken = Result<Option<Report<Chang>>, (TakeFault, Envelope<Chang>)>;
 
 /// Offers an envelope. Where it is not taken it comes back, and the node stays as it was.
-fn offer_once(node: &mut Node<Chang>, envelope: Envelope<Chang>) -> Result<Taken, Fail> {
+fn offer_once(rt: &impl Abort, node: &mut Node<Chang>, envelope: Envelope<Chang>) -> Taken {
     let (before, offered) = (counts(node), shown(&envelope));
-    match node.take(envelope) {
-        Ok(report) => Ok(Ok(report)),
-        Err((fault, back)) if counts(node) == before && shown(&back) == offered => {
-            Ok(Err((fault, back)))
-        }
-        Err(_) => Err("a fault changed something".into()),
+    let taken = node.take(envelope);
+    if let Err((_, back)) = &taken {
+        assert!(rt; counts(node) == before && shown(back) == offered);
     }
+    taken
 }
 
 /// The same, and once more where memory was refused.
-pub fn offer(node: &mut Node<Chang>, envelope: Envelope<Chang>) -> Result<Taken, Fail> {
-    match offer_once(node, envelope)? {
-        Err((TakeFault::NoMemory, back)) => offer_once(node, back),
-        taken => Ok(taken),
+pub fn offer(rt: &impl Abort, node: &mut Node<Chang>, envelope: Envelope<Chang>) -> Taken {
+    match offer_once(rt, node, envelope) {
+        Err((TakeFault::NoMemory, back)) => offer_once(rt, node, back),
+        taken => taken,
     }
 }

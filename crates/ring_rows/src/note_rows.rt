@@ -1,95 +1,94 @@
 //! What a book makes of a report: news once, known then, and stale when its term is over. By the group's place it makes
 //! the same of the same news.
 
+use crate::equal::equal;
 use crate::rings::{identity, name};
 use crate::worlds::{begun_on, delivery};
 use ring_chang::Chang;
-use ring_id::{GroupName, NodeId, Refusal};
+use ring_id::{GroupName, NodeId};
 use ring_node::{Charter, Report};
 use ring_terms::{Book, Noting, TermList};
-use ring_world::Delivery;
+use ring_world::{Delivery, World};
 use std::alloc::Global;
 use std::process::Abort;
 use std::sync::Arc;
-use std::test::Fail;
 
-/// A group is created. Asked for once more where memory was refused, as all that follows.
-fn create(alloc: Global, book: &mut Book<Chang>, group: GroupName) -> Result<(), Refusal> {
-    match book.create(alloc, group, Chang) {
-        Err(Refusal::NoMemory) => book.create(alloc, group, Chang),
-        done => done,
+/// A group is created. Asked for once more where it was refused, as all that follows.
+fn create(rt: &impl Abort, alloc: Global, book: &mut Book<Chang>, group: GroupName) {
+    if book.create(alloc, group, Chang).is_err() {
+        book.create(alloc, group, Chang).expect(rt, "no group");
     }
 }
 
 /// A member joins.
-fn join(book: &mut Book<Chang>, group: GroupName, node: NodeId) -> Result<(), Refusal> {
-    match book.join(group, node) {
-        Err(Refusal::NoMemory) => book.join(group, node),
-        done => done,
+fn join(rt: &impl Abort, book: &mut Book<Chang>, group: GroupName, node: NodeId) {
+    if book.join(group, node).is_err() {
+        book.join(group, node).expect(rt, "no member");
     }
 }
 
 /// A term starts.
 fn start(
+    rt: &impl Abort,
     alloc: Global,
     book: &mut Book<Chang>,
     group: GroupName,
-) -> Result<Arc<Charter<Chang>>, Refusal> {
+) -> Arc<Charter<Chang>> {
     match book.start(alloc, group) {
-        Err(Refusal::NoMemory) => book.start(alloc, group),
-        charter => charter,
+        Ok(charter) => charter,
+        Err(_) => book.start(alloc, group).expect(rt, "no term"),
     }
 }
 
 /// The terms of a group.
-fn terms(alloc: Global, book: &Book<Chang>, group: GroupName) -> Result<TermList, Refusal> {
+fn terms(rt: &impl Abort, alloc: Global, book: &Book<Chang>, group: GroupName) -> TermList {
     match book.terms(alloc, group) {
-        Err(Refusal::NoMemory) => book.terms(alloc, group),
-        terms => terms,
+        Ok(terms) => terms,
+        Err(_) => book.terms(alloc, group).expect(rt, "no terms"),
     }
 }
 
 /// A book with a group of 3, 1 and 2, which has no term.
-fn book(alloc: Global, group: GroupName) -> Result<Book<Chang>, Fail> {
+fn book(rt: &impl Abort, alloc: Global, group: GroupName) -> Book<Chang> {
     let mut book = Book::new(alloc);
-    create(alloc, &mut book, group)?;
+    create(rt, alloc, &mut book, group);
     for number in [3, 1, 2] {
-        join(&mut book, group, identity(number)?)?;
+        join(rt, &mut book, group, identity(rt, number));
     }
-    Ok(book)
+    book
+}
+
+/// The report that the next delivery in a world comes to, if there is one.
+fn next_report(rt: &impl Abort, world: &mut World<Chang>) -> Option<Report<Chang>> {
+    let (position, side) = world.ready().expect(rt, "nothing is in flight");
+    match delivery(rt, world, position, side) {
+        Delivery::Moved(report) => report,
+        _ => None,
+    }
 }
 
 /// The first report of the term of this charter.
-fn first_report(alloc: Global, charter: &Arc<Charter<Chang>>) -> Result<Report<Chang>, Fail> {
-    let mut world = begun_on(alloc, charter)?;
+fn first_report(rt: &impl Abort, alloc: Global, charter: &Arc<Charter<Chang>>) -> Report<Chang> {
+    let mut world = begun_on(rt, alloc, charter);
     for _ in 0..8 {
-        let (position, side) = world.ready().ok_or("nothing is in flight")?;
-        if let Delivery::Moved(Some(report)) = delivery(&mut world, position, side)? {
-            return Ok(report);
+        if let Some(report) = next_report(rt, &mut world) {
+            return report;
         }
     }
-    Err("nobody told anything".into())
+    panic!(rt; "nobody told anything")
 }
 
 /// The first report of the term of this charter, which is the member's with the number 3.
-fn report(alloc: Global, charter: &Arc<Charter<Chang>>) -> Result<Report<Chang>, Fail> {
-    let report = first_report(alloc, charter)?;
-    if report.member().get() != 3 {
-        return Err("another member told it".into());
-    }
-    Ok(report)
+fn report(rt: &impl Abort, alloc: Global, charter: &Arc<Charter<Chang>>) -> Report<Chang> {
+    let report = first_report(rt, alloc, charter);
+    assert!(rt; report.member().get() == 3);
+    report
 }
 
 /// The leaders of a group's terms are these.
-fn leaders_are(
-    rt: &impl Abort,
-    alloc: Global,
-    book: &Book<Chang>,
-    leaders: &[Option<NodeId>],
-) -> Result<(), Fail> {
-    let terms = terms(alloc, book, name()?)?;
-    assert_eq!(rt; terms.as_slice(), leaders);
-    Ok(())
+fn leaders_are(rt: &impl Abort, alloc: Global, book: &Book<Chang>, leaders: &[Option<NodeId>]) {
+    let terms = terms(rt, alloc, book, name(rt));
+    equal(rt, "the leaders of the terms", terms.as_slice(), leaders);
 }
 
 /// A book makes this of a report, and the leaders of the group's terms are these then.
@@ -100,53 +99,54 @@ fn notes(
     report: &Report<Chang>,
     noting: Noting,
     leaders: &[Option<NodeId>],
-) -> Result<(), Fail> {
-    assert_eq!(rt; book.note(report), noting);
-    leaders_are(rt, alloc, book, leaders)
+) {
+    equal(rt, "a report", book.note(report), noting);
+    leaders_are(rt, alloc, book, leaders);
 }
 
 /// The report of a term that has no leader yet is news, and known when it comes again.
-fn is_news_once(
-    rt: &impl Abort,
-    alloc: Global,
-    book: &mut Book<Chang>,
-    report: &Report<Chang>,
-) -> Result<(), Fail> {
+fn is_news_once(rt: &impl Abort, alloc: Global, book: &mut Book<Chang>, report: &Report<Chang>) {
     let leaders = [NodeId::new(3)];
-    leaders_are(rt, alloc, book, &[None])?;
-    notes(rt, alloc, book, report, Noting::Noted, &leaders)?;
-    notes(rt, alloc, book, report, Noting::Known, &leaders)
+    leaders_are(rt, alloc, book, &[None]);
+    notes(rt, alloc, book, report, Noting::Noted, &leaders);
+    notes(rt, alloc, book, report, Noting::Known, &leaders);
 }
 
-/// What a book makes of the news of a report by the place of its group, where that group's term is the report's.
-fn inform(book: &mut Book<Chang>, report: &Report<Chang>) -> Result<Noting, Fail> {
+/// A book makes this of the news of a report by the place of its group, where that group's term is the report's.
+fn informs(rt: &impl Abort, book: &mut Book<Chang>, report: &Report<Chang>, noting: Noting) {
     let charter = report.charter();
-    let place = book.place(charter.group()).ok_or("no such group")?;
-    if !book.running(charter.group())?.same(charter) {
-        return Err("another term runs".into());
-    }
+    let place = book.place(charter.group()).expect(rt, "no such group");
+    let running = book.running(charter.group()).expect(rt, "no term runs");
+    assert!(rt; running.same(charter));
     let position = report.position();
-    Ok(book.inform(place, charter, position, report.leader()))
+    let informed = book.inform(place, charter, position, report.leader());
+    equal(rt, "news", informed, noting);
 }
 
 #[test]
-fn news_by_place_is_that_of_a_report(rt: HostRuntime) -> Result<(), Fail> {
-    let (alloc, group) = (rt.alloc(), name()?);
-    let mut book = book(alloc, group)?;
-    let report = report(alloc, &start(alloc, &mut book, group)?)?;
-    assert_eq!(rt; inform(&mut book, &report)?, Noting::Noted);
-    assert_eq!(rt; inform(&mut book, &report)?, Noting::Known);
-    let leaders = [NodeId::new(3)];
-    notes(&rt, alloc, &mut book, &report, Noting::Known, &leaders)
+fn news_by_place_is_that_of_a_report(rt: HostRuntime) {
+    let (alloc, group) = (rt.alloc(), name(&rt));
+    let mut book = book(&rt, alloc, group);
+    let report = report(&rt, alloc, &start(&rt, alloc, &mut book, group));
+    informs(&rt, &mut book, &report, Noting::Noted);
+    informs(&rt, &mut book, &report, Noting::Known);
+    notes(
+        &rt,
+        alloc,
+        &mut book,
+        &report,
+        Noting::Known,
+        &[NodeId::new(3)],
+    );
 }
 
 #[test]
-fn a_report_is_news_once_and_stale_later(rt: HostRuntime) -> Result<(), Fail> {
-    let (alloc, group) = (rt.alloc(), name()?);
-    let mut book = book(alloc, group)?;
-    let report = report(alloc, &start(alloc, &mut book, group)?)?;
-    is_news_once(&rt, alloc, &mut book, &report)?;
-    start(alloc, &mut book, group)?;
+fn a_report_is_news_once_and_stale_later(rt: HostRuntime) {
+    let (alloc, group) = (rt.alloc(), name(&rt));
+    let mut book = book(&rt, alloc, group);
+    let report = report(&rt, alloc, &start(&rt, alloc, &mut book, group));
+    is_news_once(&rt, alloc, &mut book, &report);
+    start(&rt, alloc, &mut book, group);
     let leaders = [NodeId::new(3), None];
-    notes(&rt, alloc, &mut book, &report, Noting::Stale, &leaders)
+    notes(&rt, alloc, &mut book, &report, Noting::Stale, &leaders);
 }

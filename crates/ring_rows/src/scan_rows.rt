@@ -1,5 +1,6 @@
 //! The plain scans that a world's count and bits stand in for: before every delivery both say the same.
 
+use crate::equal::equal;
 use crate::worlds::{begun, deliver};
 use ring_any::Any;
 use ring_election::RingElection;
@@ -7,7 +8,6 @@ use ring_id::Side;
 use ring_world::World;
 use std::alloc::Global;
 use std::process::Abort;
-use std::test::Fail;
 
 /// How many packets are in flight on the link into this position, by the lists of its two nodes.
 fn waiting<E: RingElection>(world: &World<E>, position: usize, side: Side) -> usize {
@@ -15,16 +15,15 @@ fn waiting<E: RingElection>(world: &World<E>, position: usize, side: Side) -> us
     if position >= ring.len() {
         return 0;
     }
-    let sender = world.nodes().get(ring.neighbour(position, side));
-    let receiver = world.nodes().get(position);
-    match (sender, receiver) {
-        (Some(sender), Some(receiver)) => {
-            sender
-                .sent(side.other())
-                .saturating_sub(receiver.taken(side))
-        }
-        _ => 0,
-    }
+    let Some(sender) = world.nodes().get(ring.neighbour(position, side)) else {
+        return 0;
+    };
+    let Some(receiver) = world.nodes().get(position) else {
+        return 0;
+    };
+    sender
+        .sent(side.other())
+        .saturating_sub(receiver.taken(side))
 }
 
 /// The first link with something in flight, by a look at each.
@@ -65,45 +64,50 @@ fn added<E: RingElection>(world: &World<E>) -> u128 {
     sum
 }
 
+/// Whether the scans agree with a world.
+fn agree<E: RingElection>(world: &World<E>) -> bool {
+    world.ready() == sought(world) && world.pending() == added(world)
+}
+
 /// Delivers at the first link and at the last by turns until nothing is in flight, and looks before
 /// each delivery whether the scans agree with the world: how many deliveries there were.
-fn compared<E: RingElection>(world: &mut World<E>, most: u32) -> Result<u32, Fail> {
+fn compared<E: RingElection>(rt: &impl Abort, world: &mut World<E>, most: u32) -> u32 {
     for done in 0..most {
-        if world.ready() != sought(world) {
-            return Err("the bits give another link than a scan".into());
-        }
-        if world.pending() != added(world) {
-            return Err("the count is another than a scan's".into());
-        }
+        assert!(rt; agree(world));
         let next = if done % 2 == 0 {
             world.ready()
         } else {
             sought_last(world)
         };
         let Some((position, side)) = next else {
-            return Ok(done);
+            return done;
         };
-        let _ = deliver(world, position, side)?;
+        let _ = deliver(rt, world, position, side);
     }
-    Err("the world has not come to rest".into())
+    panic!(rt; "the world has not come to rest")
 }
 
-/// The ring of these numbers takes so many deliveries by each of these kinds, the scans agreeing all the way.
+/// The ring of these numbers takes so many deliveries by this election, the scans agreeing all the way.
 fn scans_agree(
     rt: &impl Abort,
     alloc: Global,
     numbers: &[u32],
-    kinds: &[(Any, u32)],
-) -> Result<(), Fail> {
+    kind: impl RingElection,
+    deliveries: u32,
+) {
+    let mut world = begun(rt, alloc, kind, numbers);
+    equal(rt, "deliveries", compared(rt, &mut world, 999), deliveries);
+}
+
+/// The same by each of these kinds.
+fn all_scans_agree(rt: &impl Abort, alloc: Global, numbers: &[u32], kinds: &[(Any, u32)]) {
     for (kind, deliveries) in kinds {
-        let mut world = begun(alloc, *kind, numbers)?;
-        assert_eq!(rt; compared(&mut world, 999)?, *deliveries);
+        scans_agree(rt, alloc, numbers, *kind, *deliveries);
     }
-    Ok(())
 }
 
 #[test]
-fn scans_agree_on_rings_of_one_two_and_five(rt: HostRuntime) -> Result<(), Fail> {
+fn scans_agree_on_rings_of_one_two_and_five(rt: HostRuntime) {
     let one = [
         (Any::LeLann, 2),
         (Any::Chang, 2),
@@ -122,7 +126,7 @@ fn scans_agree_on_rings_of_one_two_and_five(rt: HostRuntime) -> Result<(), Fail>
         (Any::Hirschberg, 58),
         (Any::Peterson, 35),
     ];
-    scans_agree(&rt, rt.alloc(), &[7], &one)?;
-    scans_agree(&rt, rt.alloc(), &[5, 9], &two)?;
-    scans_agree(&rt, rt.alloc(), &[4, 1, 3, 2, 6], &five)
+    all_scans_agree(&rt, rt.alloc(), &[7], &one);
+    all_scans_agree(&rt, rt.alloc(), &[5, 9], &two);
+    all_scans_agree(&rt, rt.alloc(), &[4, 1, 3, 2, 6], &five);
 }

@@ -4,22 +4,22 @@
 use crate::memory::add;
 use crate::worlds::{begun, drained, known};
 use ring_any::Any;
+use ring_election::RingElection;
 use ring_world::World;
 use std::alloc::Global;
 use std::process::Abort;
-use std::test::Fail;
 
 /// The first numbers of a row in which those from 1 to 256 stand once each, without order.
-fn scattered(alloc: Global, size: u16) -> Result<Vec<u32>, Fail> {
+fn scattered(rt: &impl Abort, alloc: Global, size: u16) -> Vec<u32> {
     let mut numbers = Vec::new(alloc);
     for place in 0..size {
-        add(&mut numbers, (place as u32 + 1) * 83 % 257)?;
+        add(rt, &mut numbers, (place as u32 + 1) * 83 % 257);
     }
-    Ok(numbers)
+    numbers
 }
 
 /// Whether the nodes at all positions know this leader.
-fn all_know(world: &World<Any>, leader: u32) -> bool {
+fn all_know<E: RingElection>(world: &World<E>, leader: u32) -> bool {
     for position in 0..world.nodes().len() {
         if known(world, position) != Some(leader) {
             return false;
@@ -29,41 +29,38 @@ fn all_know(world: &World<Any>, leader: u32) -> bool {
 }
 
 /// Whether nothing is in flight in a world, and all know this leader.
-fn is_quiet(world: &World<Any>, leader: u32) -> bool {
+fn is_quiet<E: RingElection>(world: &World<E>, leader: u32) -> bool {
     world.pending() == 0 && all_know(world, leader)
 }
 
 /// Drains a ring of this size, until it is quiet and all know this leader; how many messages it
 /// took besides the announcements.
-fn messages(alloc: Global, kind: Any, size: u16, leader: u32) -> Result<u128, Fail> {
-    let mut world = begun(alloc, kind, &scattered(alloc, size)?)?;
-    drained(&mut world, u32::MAX)?;
-    if !is_quiet(&world, leader) {
-        return Err("the ring isn't quiet, or knows another leader".into());
-    }
-    match world.delivered().checked_sub(size as u128) {
-        Some(messages) => Ok(messages),
-        None => Err("an announcement is missing".into()),
-    }
+fn messages(
+    rt: &impl Abort,
+    alloc: Global,
+    kind: impl RingElection,
+    size: u16,
+    leader: u32,
+) -> u128 {
+    let mut world = begun(rt, alloc, kind, &scattered(rt, alloc, size));
+    drained(rt, &mut world, u32::MAX);
+    assert!(rt; is_quiet(&world, leader));
+    let messages = world.delivered().checked_sub(size as u128);
+    messages.expect(rt, "an announcement is missing")
 }
 
 /// A ring of each kind and size takes at most so many messages until all know this leader.
-fn take_at_most(
-    rt: &impl Abort,
-    alloc: Global,
-    rings: &[(Any, u16, u32, u128)],
-) -> Result<(), Fail> {
+fn take_at_most(rt: &impl Abort, alloc: Global, rings: &[(Any, u16, u32, u128)]) {
     for (kind, size, leader, bound) in rings {
-        let taken = messages(alloc, *kind, *size, *leader)?;
+        let taken = messages(rt, alloc, *kind, *size, *leader);
         assert!(rt; taken <= *bound, "{taken} on {size}");
     }
-    Ok(())
 }
 
 /// The bounds are n squared for LeLann and for Chang and Roberts, what the phases take for Hirschberg and Sinclair,
 /// and what the rounds take for Peterson.
 #[test]
-fn each_kind_takes_at_most_its_bound(rt: HostRuntime) -> Result<(), Fail> {
+fn each_kind_takes_at_most_its_bound(rt: HostRuntime) {
     let rings = [
         (Any::LeLann, 1, 83, 1),
         (Any::LeLann, 2, 166, 4),
@@ -86,5 +83,5 @@ fn each_kind_takes_at_most_its_bound(rt: HostRuntime) -> Result<(), Fail> {
         (Any::Peterson, 4, 75, 24),
         (Any::Peterson, 256, 67, 4608),
     ];
-    take_at_most(&rt, rt.alloc(), &rings)
+    take_at_most(&rt, rt.alloc(), &rings);
 }

@@ -23,11 +23,13 @@ fn fill_and_empty<R: Abort + Wait>(
 #[test]
 fn a_full_inbox_gives_back_and_an_empty_one_has_nothing(rt: HostRuntime) -> Result<(), Fail> {
     let (mut receiver, mut senders) = inbox::<u64>(rt.alloc(), 2, 2)?;
-    let mut second = senders.pop().ok_or("an inbox of two senders")?;
-    let mut first = senders.pop().ok_or("an inbox of two senders")?;
+    let mut second = senders.pop().expect(&rt, "an inbox of two senders");
+    let mut first = senders.pop().expect(&rt, "an inbox of two senders");
     for item in 0..5 {
         fill_and_empty(&rt, &mut receiver, &mut first, &mut second, item);
     }
+    drop((receiver, senders));
+    drop((first, second));
     Ok(())
 }
 
@@ -47,14 +49,24 @@ fn a_call_says_that_the_other_end_is_gone(rt: HostRuntime) -> Result<(), Fail> {
     Ok(())
 }
 
+// Puts one more owner of a value by each sender.
+fn put_owners<R: Abort + Wait>(
+    rt: &R,
+    senders: &mut Vec<SenderPass<Arc<u64, Global>>>,
+    kept: &Arc<u64, Global>,
+) {
+    for sender in senders {
+        let owner = Arc::try_clone(kept).expect(rt, "no memory");
+        assert!(rt; sender.put(rt, owner) == Put::Stored);
+    }
+}
+
 #[test]
 fn an_inbox_drops_what_it_holds(rt: HostRuntime) -> Result<(), Fail> {
-    let alloc = rt.alloc();
-    let kept = Arc::new(alloc, 7u64)?;
-    let (receiver, mut senders) = inbox::<Arc<u64, Global>>(alloc, 3, 3)?;
-    for sender in &mut senders {
-        assert_eq!(rt; sender.put(&rt, Arc::try_clone(&kept)?), Put::Stored);
-    }
+    let kept = Arc::new(rt.alloc(), 7u64)?;
+    let opened = inbox::<Arc<u64, Global>>(rt.alloc(), 3, 3);
+    let (receiver, mut senders) = opened.expect(&rt, "no memory");
+    put_owners(&rt, &mut senders, &kept);
     assert_eq!(rt; Arc::strong_count(&kept), 4);
     drop(receiver);
     drop(senders);

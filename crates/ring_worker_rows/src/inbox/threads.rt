@@ -2,6 +2,7 @@ ghost use Rattle.std.specs.Prelude.{◌≡◌, ◌<◌, IfSome};
 
 use ring_inbox::{Put, ReceiverPass, SenderPass, Take, TryTake, inbox};
 use std::alloc::Global;
+use std::process::Abort;
 use std::sync::{Arc, Wait};
 use std::test::Fail;
 use std::thread;
@@ -116,12 +117,27 @@ fn three_threads_store_in_inboxes_of_two_and_of_one(rt: HostRuntime) {
     assert_eq!(rt; passes_through(rt, rt.alloc(), 1), Some(true));
 }
 
+// Stores one item in an empty inbox, and takes it.
+fn pass_one<R: Abort + Wait>(
+    rt: &R,
+    alloc: Global,
+    sender: &mut SenderPass<Item>,
+    receiver: &mut ReceiverPass<Item>,
+) {
+    let item = Arc::new(alloc, 3).expect(rt, "no memory");
+    let wanted = TryTake::Taken(0, Arc::new(alloc, 3).expect(rt, "no memory"));
+    assert!(rt; put_once(rt, sender, item));
+    assert_eq!(rt; receiver.try_take(rt), wanted);
+    assert_eq!(rt; receiver.try_take(rt), TryTake::Empty);
+}
+
 #[test]
 fn a_sender_meets_the_receiver_after_two_threads(rt: HostRuntime) -> Result<(), Fail> {
     let alloc = rt.alloc();
     let (mut receiver, mut senders) = inbox::<Item>(alloc, 2, 1)?;
     assert_eq!(rt; senders.len(), 1);
     let sender = senders.remove(0);
+    drop(senders);
     let (sender, taken) = thread::join(
         &rt,
         move || -> Option<SenderPass<Item>>
@@ -136,15 +152,9 @@ fn a_sender_meets_the_receiver_after_two_threads(rt: HostRuntime) -> Result<(), 
     );
     let (receiver, counts) = taken;
     assert_eq!(rt; counts, [ITEMS, 0, 0]);
-    let Some(mut sender) = sender else {
-        panic!(rt; "the sender did not store all");
-    };
+    let mut sender = sender.expect(&rt, "the sender did not store all");
     let mut receiver = sender.meet(receiver);
-    assert!(rt; put_once(&rt, &mut sender, Arc::new(alloc, 3)?));
-    assert_eq!(rt;
-        receiver.try_take(&rt),
-        TryTake::Taken(0, Arc::new(alloc, 3)?)
-    );
-    assert_eq!(rt; receiver.try_take(&rt), TryTake::Empty);
+    pass_one(&rt, alloc, &mut sender, &mut receiver);
+    drop((sender, receiver));
     Ok(())
 }
