@@ -16,7 +16,7 @@ const HEAD: u64 = 108;
 const MARGIN: u64 = 190;
 
 /// The places of a picture.
-#[derive(Clone, Copy, Debug)]
+#[derive(Clone, Copy)]
 pub struct Frame {
     gap: u64,
     margin: u64,

@@ -6,37 +6,49 @@ use std::alloc::{AllocError, Global};
 
 /// The words of a packet.
 pub fn of_packet(alloc: Global, packet: Packet<AnyMsg>) -> Result<String, AllocError> {
+    let mut words = String::new(alloc);
+    add_packet(&mut words, packet)?;
+    Ok(words)
+}
+
+// Adds the words of a packet.
+fn add_packet(text: &mut String, packet: Packet<AnyMsg>) -> Result<(), AllocError> {
     match packet {
         Packet::Leader(leader) => {
-            let leader = of_member(alloc, leader)?;
-            format!(in alloc; "leader {leader}")
+            text.push_str("leader ")?;
+            add_member(text, leader)
         }
-        Packet::Algo(message) => of_message(alloc, message),
+        Packet::Algo(message) => add_message(text, message),
     }
 }
 
-// The words of a message.
-fn of_message(alloc: Global, message: AnyMsg) -> Result<String, AllocError> {
+// Adds the words of a message.
+fn add_message(text: &mut String, message: AnyMsg) -> Result<(), AllocError> {
     match message {
-        AnyMsg::LeLann(id) => of_member(alloc, id),
-        AnyMsg::Chang(id) => of_member(alloc, id),
-        AnyMsg::Peterson(id) => of_member(alloc, id),
+        AnyMsg::LeLann(id) | AnyMsg::Chang(id) | AnyMsg::Peterson(id) => add_member(text, id),
         AnyMsg::Out { id, hops } => {
-            let id = of_member(alloc, id)?;
-            format!(in alloc; "{id} out {hops}")
+            add_member(text, id)?;
+            write!(text, " out {hops}")
         }
         AnyMsg::Back { id } => {
-            let id = of_member(alloc, id)?;
-            format!(in alloc; "{id} back")
+            add_member(text, id)?;
+            text.push_str(" back")
         }
     }
 }
 
-/// The name of a member, as a line spells it: its number, and its weight where it has one.
-pub fn of_member(alloc: Global, member: NodeId) -> Result<String, AllocError> {
+/// Adds that a member knows the leader.
+pub fn add_knows(text: &mut String, member: NodeId, leader: NodeId) -> Result<(), AllocError> {
+    add_member(text, member)?;
+    text.push_str(" knows ")?;
+    add_member(text, leader)
+}
+
+/// Adds the name of a member, as a line spells it: its number, and its weight where it has one.
+pub fn add_member(text: &mut String, member: NodeId) -> Result<(), AllocError> {
     match member.weight() {
-        0 => format!(in alloc; "{}", member.get()),
-        weight => format!(in alloc; "{}/{weight}", member.get()),
+        0 => write!(text, "{}", member.get()),
+        weight => write!(text, "{}/{weight}", member.get()),
     }
 }
 

@@ -6,12 +6,11 @@ use crate::fault::Fault;
 use ring_any::Any;
 use ring_events::Event;
 use ring_grammar::parse_event;
-use std::io::{BufReader, Read};
 use std::rt::Files;
 use std::{fs, io};
 
 /// A line of a schedule: its number, its command, and the reply that it has to get, if it says one.
-#[derive(Clone, Copy, Debug, PartialEq, Eq)]
+#[derive(Clone, Copy)]
 pub struct Line<'a> {
     pub place: u64,
     pub command: &'a str,
@@ -58,18 +57,11 @@ where
 {
     let text = match path {
         Some(path) => fs::read_to_string(rt, path),
-        None => read_input(rt),
+        None => io::read_to_string(rt.alloc(), rt.reader()),
     };
     match text {
         Ok(text) => Ok(text),
         Err(error) if error.kind() == io::ErrorKind::OutOfMemory => Err(Fault::NoMemory),
         Err(_) => Err(Fault::Unreadable),
     }
-}
-
-// All of standard input.
-fn read_input(rt: &(impl Input + AllocGlobal)) -> io::Result<String> {
-    let mut text = String::new(rt.alloc());
-    BufReader::new(rt.alloc(), rt.reader())?.read_to_string(&mut text)?;
-    Ok(text)
 }

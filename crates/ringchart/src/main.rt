@@ -29,6 +29,7 @@ use fault::Fault;
 use std::io::ErrorKind;
 use std::process::ExitCode;
 use std::rt::{Env, Files};
+use tale::Tale;
 use words::{Order, WordsFault, not_text, read_words};
 
 // The words of the command line, the program's name first.
@@ -43,13 +44,21 @@ fn given_words(rt: &(impl Env + AllocGlobal)) -> Result<Vec<String>, WordsFault>
 
 // Runs the schedule, and draws its terms.
 fn obey(rt: &(impl Input + Files + Print + AllocGlobal), order: &Order) -> Result<(), Fault> {
-    let alloc = rt.alloc();
     let schedule = lines::read_schedule(rt, order.path.as_ref().map(|path| path.as_str()))?;
-    let tales = stage::play(alloc, schedule.as_str())?;
-    match (order.text, &order.folder) {
-        (true, _) => pictures::print_texts(rt, &tales),
-        (false, Some(folder)) => pictures::write_files(rt, folder.as_str(), &tales),
-        (false, None) => pictures::print_svg(rt, &tales),
+    let tales = stage::play(rt.alloc(), schedule.as_str())?;
+    draw(rt, order, &tales)
+}
+
+// Draws the terms where the order says, and how.
+fn draw(
+    rt: &(impl Files + Print + AllocGlobal),
+    order: &Order,
+    tales: &[Tale],
+) -> Result<(), Fault> {
+    match &order.folder {
+        _ if order.text => pictures::print_texts(rt, tales),
+        Some(folder) => pictures::write_files(rt, folder.as_str(), tales),
+        None => pictures::print_svg(rt, tales),
     }
 }
 

@@ -4,39 +4,47 @@ use crate::label;
 use crate::tale::{Arrow, Kind, Step, Tale};
 use ring_any::{Any, AnyMsg};
 use ring_id::{GroupName, NodeId, NodeNo, Refusal, Side};
-use ring_node::{Charter, Packet};
+use ring_mux::{Event, Reply};
+use ring_node::{Charter, Node, Packet};
 use ring_roster::Roster;
-use ring_world::{Delivery, World};
+use ring_world::{Passage, World};
 use std::alloc::{AllocError, Global};
+use std::mem;
 use std::sync::Arc;
 
 /// A world, and what happened in it so far.
 #[derive(Drop)]
 pub struct Recorder {
+    charter: Arc<Charter<Any>>,
     world: World<Any>,
     steps: Vec<Step>,
-    // By which delivery each packet was sent, for each position's left and right.
-    left: Vec<Vec<u64>>,
-    right: Vec<Vec<u64>>,
+    // By which delivery each packet was sent, for each position.
+    marks: Vec<Marks>,
+}
+
+// By which delivery each packet was sent to the left and to the right of a position.
+#[derive(Drop)]
+struct Marks {
+    left: Vec<u64>,
+    right: Vec<u64>,
 }
 
 impl Recorder {
     /// The world of a charter, in which every node has started.
-    pub fn begin(alloc: Global, charter: Arc<Charter<Any>>) -> Result<Recorder, Fault> {
-        let world = World::begin(alloc, charter)?;
-        let left = starts(alloc, &world, Side::Left)?;
-        let right = starts(alloc, &world, Side::Right)?;
+    pub fn begin(alloc: Global, charter: &Arc<Charter<Any>>) -> Result<Recorder, Fault> {
+        let world = World::begin(alloc, charter.clone()?)?;
+        let marks = starts(alloc, world.nodes())?;
         Ok(Recorder {
+            charter: charter.clone()?,
             world,
             steps: Vec::new(alloc),
-            left,
-            right,
+            marks,
         })
     }
 
     /// The group of the term.
     pub fn group(&self) -> GroupName {
-        self.world.charter().group()
+        self.charter.group()
     }
 
     /// How many packets are in flight or stuck.
@@ -44,27 +52,41 @@ impl Recorder {
         self.world.pending()
     }
 
-    /// One delivery to a member from a side, if something is in flight there.
-    pub fn deliver_to(&mut self, alloc: Global, node: NodeNo, side: Side) -> Result<(), Fault> {
-        match self.world.charter().roster().position(node) {
+    /// Does what the event did, by the reply to it: a delivery, so many of them, or a cut.
+    pub fn repeat(&mut self, alloc: Global, event: Event<Any>, reply: &Reply) -> Result<(), Fault> {
+        match event {
+            Event::Deliver { node, side, .. } => self.deliver_to(alloc, node, side),
+            Event::Drain { .. } => match reply {
+                Reply::Drained { done, .. } => self.drain(alloc, *done),
+                _ => Ok(()),
+            },
+            Event::Cut { node, side, .. } => {
+                self.cut(node, side);
+                Ok(())
+            }
+            Event::Client(_) | Event::Pending { .. } => Ok(()),
+        }
+    }
+
+    // One delivery to a member from a side, if something is in flight there.
+    fn deliver_to(&mut self, alloc: Global, node: NodeNo, side: Side) -> Result<(), Fault> {
+        match self.charter.roster().position(node) {
             Some(position) => self.deliver(alloc, position, side),
             None => Ok(()),
         }
     }
 
-    /// Cuts the link to a member from a side.
-    pub fn cut(&mut self, node: NodeNo, side: Side) {
-        let roster = self.world.charter().roster();
-        let Some(position) = roster.position(node) else {
-            return;
-        };
-        if position < roster.len() {
+    // Cuts the link to a member from a side.
+    fn cut(&mut self, node: NodeNo, side: Side) {
+        if let Some(position) = self.charter.roster().position(node)
+            && position < self.world.charter().roster().len()
+        {
             let _ = self.world.cut(position, side);
         }
     }
 
-    /// So many deliveries, each at the first link with something in flight.
-    pub fn drain(&mut self, alloc: Global, count: u32) -> Result<(), Fault> {
+    // So many deliveries, each at the first link with something in flight.
+    fn drain(&mut self, alloc: Global, count: u32) -> Result<(), Fault> {
         for _ in 0..count {
             let Some((position, side)) = self.world.ready() else {
                 return Ok(());
@@ -76,25 +98,28 @@ impl Recorder {
 
     // One delivery to a position from a side.
     fn deliver(&mut self, alloc: Global, position: usize, side: Side) -> Result<(), Fault> {
-        let Some(arrow) = self.front(alloc, position, side, 0)? else {
-            return Ok(());
-        };
         if position >= self.world.charter().roster().len() {
             return Ok(());
         }
-        let learned = match self.world.deliver(position, side) {
-            Delivery::Moved(report) => report.map(|report| report.leader()),
-            Delivery::Idle => return Ok(()),
-            Delivery::Refused(Refusal::NoMemory) => return Err(Fault::NoMemory),
-            Delivery::Refused(_) => return Ok(()),
+        let Some(arrow) = self.front(alloc, position, side, 0)? else {
+            return Ok(());
         };
-        self.steps.push(Step {
-            arrow,
-            position,
-            learned,
-        })?;
-        self.mark(position)?;
-        Ok(())
+        match self.world.pass(position, side) {
+            Passage::Moved(learned) => self.add(Step {
+                arrow,
+                position,
+                learned,
+            }),
+            Passage::Refused(Refusal::NoMemory) => Err(Fault::NoMemory),
+            Passage::Idle | Passage::Refused(_) => Ok(()),
+        }
+    }
+
+    // Writes down a delivery, and what its receiver has sent by it.
+    fn add(&mut self, step: Step) -> Result<(), Fault> {
+        let position = step.position;
+        self.steps.push(step)?;
+        Ok(self.mark(position)?)
     }
 
     // The arrow of the packet that stands on the link to a position from a side with so many before it.
@@ -105,14 +130,14 @@ impl Recorder {
         side: Side,
         before: usize,
     ) -> Result<Option<Arrow>, AllocError> {
-        let roster = self.world.charter().roster();
+        let roster = self.charter.roster();
+        let Some(receiver) = self.world.nodes().get(position) else {
+            return Ok(None);
+        };
         if position >= roster.len() {
             return Ok(None);
         }
         let from = roster.neighbour(position, side);
-        let Some(receiver) = self.world.nodes().get(position) else {
-            return Ok(None);
-        };
         let place = receiver.taken(side).saturating_add(before);
         let Some(packet) = self.packet(from, side.other(), place) else {
             return Ok(None);
@@ -128,44 +153,39 @@ impl Recorder {
 
     // By which delivery it was sent.
     fn sent_at(&self, position: usize, side: Side, place: usize) -> u64 {
-        let marks = match side {
-            Side::Left => &self.left,
-            Side::Right => &self.right,
+        let Some(marks) = self.marks.get(position) else {
+            return 0;
         };
-        marks
-            .get(position)
-            .and_then(|marks| marks.get(place))
-            .copied()
-            .unwrap_or(0)
+        let marks = match side {
+            Side::Left => &marks.left,
+            Side::Right => &marks.right,
+        };
+        marks.get(place).copied().unwrap_or(0)
     }
 
     // Writes down what a position has sent by the last delivery.
     fn mark(&mut self, position: usize) -> Result<(), AllocError> {
         let now = self.steps.len() as u64;
-        let Some(node) = self.world.nodes().get(position) else {
-            return Ok(());
-        };
-        if let Some(marks) = self.left.get_mut(position) {
-            fill(marks, node.sent(Side::Left), now)?;
+        match (
+            self.world.nodes().get(position),
+            self.marks.get_mut(position),
+        ) {
+            (Some(node), Some(marks)) => marks.fill(node, now),
+            _ => Ok(()),
         }
-        if let Some(marks) = self.right.get_mut(position) {
-            fill(marks, node.sent(Side::Right), now)?;
-        }
-        Ok(())
     }
 
-    /// All that happened.
-    pub fn tale(self, alloc: Global) -> Result<Tale, AllocError> {
+    /// All that happened. The deliveries are taken out.
+    pub fn tale(&mut self, alloc: Global) -> Result<Tale, AllocError> {
+        let ring = members(alloc, self.charter.roster())?;
         let flying = self.flying(alloc)?;
-        let charter = self.world.charter();
-        let ring = members(alloc, charter.roster())?;
         Ok(Tale {
-            group: charter.group(),
-            term: charter.term().get(),
-            algorithm: charter.algorithm(),
+            group: self.charter.group(),
+            term: self.charter.term().get(),
+            algorithm: self.charter.algorithm(),
             ring,
             flying,
-            steps: self.steps,
+            steps: mem::replace(&mut self.steps, Vec::new(alloc)),
         })
     }
 
@@ -235,20 +255,31 @@ fn arrow(
     })
 }
 
-// By which delivery the packets of each position to a side were sent: all at the start.
-fn starts(alloc: Global, world: &World<Any>, side: Side) -> Result<Vec<Vec<u64>>, AllocError> {
-    let mut marks = Vec::new(alloc);
-    for node in world.nodes() {
-        marks.push(at_start(alloc, node.sent(side))?)?;
+// By which delivery the packets of each node were sent: all at the start.
+fn starts(alloc: Global, nodes: &[Node<Any>]) -> Result<Vec<Marks>, AllocError> {
+    let mut starts = Vec::new(alloc);
+    for node in nodes {
+        starts.push(at_start(alloc, node)?)?;
     }
+    Ok(starts)
+}
+
+// What a node has sent, all at the start.
+fn at_start(alloc: Global, node: &Node<Any>) -> Result<Marks, AllocError> {
+    let mut marks = Marks {
+        left: Vec::new(alloc),
+        right: Vec::new(alloc),
+    };
+    marks.fill(node, 0)?;
     Ok(marks)
 }
 
-// So many packets, all sent at the start.
-fn at_start(alloc: Global, count: usize) -> Result<Vec<u64>, AllocError> {
-    let mut marks = Vec::new(alloc);
-    fill(&mut marks, count, 0)?;
-    Ok(marks)
+impl Marks {
+    // Adds this mark for each packet that a node has sent and that has none.
+    fn fill(&mut self, node: &Node<Any>, mark: u64) -> Result<(), AllocError> {
+        fill(&mut self.left, node.sent(Side::Left), mark)?;
+        fill(&mut self.right, node.sent(Side::Right), mark)
+    }
 }
 
 // Adds this mark until there are so many.

@@ -9,7 +9,7 @@ use crate::recorder::Recorder;
 use crate::tale::Tale;
 use ring_any::Any;
 use ring_grammar::print_reply;
-use ring_id::{GroupName, NodeNo, Refusal, Side};
+use ring_id::{GroupName, Refusal};
 use ring_mux::{Command, Event, Mux, Reply};
 use std::alloc::{AllocError, Global};
 use std::str;
@@ -21,13 +21,7 @@ pub fn play(alloc: Global, schedule: &str) -> Result<Vec<Tale>, Fault> {
         mux: Mux::new(alloc)?,
         terms: Vec::new(alloc),
     };
-    let mut place = 0u64;
-    for text in schedule.lines() {
-        place = place.saturating_add(1);
-        if let Some(line) = Line::read(place, text) {
-            stage.take(line)?;
-        }
-    }
+    stage.run(schedule)?;
     stage.tales()
 }
 
@@ -40,18 +34,37 @@ struct Stage {
 }
 
 impl Stage {
+    // Runs all lines of a schedule.
+    fn run(&mut self, schedule: &str) -> Result<(), Fault> {
+        let mut place = 0u64;
+        for text in schedule.lines() {
+            place = place.saturating_add(1);
+            if let Some(line) = Line::read(place, text) {
+                self.take(&line)?;
+            }
+        }
+        Ok(())
+    }
+
     // Runs a line, and compares its reply with the one that it says.
-    fn take(&mut self, line: Line<'_>) -> Result<(), Fault> {
+    fn take(&mut self, line: &Line<'_>) -> Result<(), Fault> {
         let Some(event) = line.event()? else {
             return Ok(());
         };
         let reply = self.mux.step(self.alloc, event);
+        self.check(line, &event, &reply)
+    }
+
+    // Compares the reply to a line with the one that it says, and does in the worlds what the line did.
+    fn check(&mut self, line: &Line<'_>, event: &Event<Any>, reply: &Reply) -> Result<(), Fault> {
         if let Some(wanted) = line.reply {
-            compare(self.alloc, line.place, &reply, wanted)?;
+            compare(self.alloc, line.place, reply, wanted)?;
         }
-        self.follow(event, &reply)?
-            .then_some(())
-            .ok_or(Fault::Lost(line.place))
+        if self.follow(*event, reply)? {
+            Ok(())
+        } else {
+            Err(Fault::Lost(line.place))
+        }
     }
 
     // Does in the worlds what the event did; whether as much is in flight or stuck then.
@@ -61,18 +74,15 @@ impl Stage {
         }
         match event {
             Event::Client(command) => self.obey(command, reply),
-            Event::Deliver { group, node, side } => match reply {
-                Reply::Moved => self.deliver(group, node, side),
-                _ => Ok(true),
-            },
-            Event::Drain { group, .. } => match reply {
-                Reply::Drained { done, .. } => self.drain(group, *done),
-                _ => Ok(true),
-            },
-            Event::Cut { group, node, side } => match reply {
-                Reply::Done => self.cut(group, node, side),
-                _ => Ok(true),
-            },
+            Event::Deliver { group, .. } | Event::Drain { group, .. } | Event::Cut { group, .. } =>
+                {
+                    match reply {
+                        Reply::Moved | Reply::Drained { .. } | Reply::Done => {
+                            self.repeat(group, event, reply)
+                        }
+                        _ => Ok(true),
+                    }
+                }
             Event::Pending { .. } => Ok(true),
         }
     }
@@ -88,30 +98,17 @@ impl Stage {
         }
     }
 
-    // One delivery in a group's last term.
-    fn deliver(&mut self, group: GroupName, node: NodeNo, side: Side) -> Result<bool, Fault> {
+    // Does in a group's last term what the event did.
+    fn repeat(
+        &mut self,
+        group: GroupName,
+        event: Event<Any>,
+        reply: &Reply,
+    ) -> Result<bool, Fault> {
         let Some(recorder) = running(&mut self.terms, group) else {
             return Ok(false);
         };
-        recorder.deliver_to(self.alloc, node, side)?;
-        self.agrees(group)
-    }
-
-    // A cut in a group's last term.
-    fn cut(&mut self, group: GroupName, node: NodeNo, side: Side) -> Result<bool, Fault> {
-        let Some(recorder) = running(&mut self.terms, group) else {
-            return Ok(false);
-        };
-        recorder.cut(node, side);
-        self.agrees(group)
-    }
-
-    // So many deliveries in a group's last term.
-    fn drain(&mut self, group: GroupName, count: u32) -> Result<bool, Fault> {
-        let Some(recorder) = running(&mut self.terms, group) else {
-            return Ok(false);
-        };
-        recorder.drain(self.alloc, count)?;
+        recorder.repeat(self.alloc, event, reply)?;
         self.agrees(group)
     }
 
@@ -120,7 +117,7 @@ impl Stage {
         let Ok(charter) = self.mux.book().running(group) else {
             return Ok(false);
         };
-        let recorder = Recorder::begin(self.alloc, charter.clone()?)?;
+        let recorder = Recorder::begin(self.alloc, charter)?;
         self.terms.push(recorder)?;
         self.agrees(group)
     }
@@ -134,23 +131,18 @@ impl Stage {
     }
 
     // The tales of all terms.
-    fn tales(self) -> Result<Vec<Tale>, Fault> {
-        let Stage {
-            alloc,
-            mux: _,
-            terms,
-        } = self;
-        if terms.is_empty() {
+    fn tales(&mut self) -> Result<Vec<Tale>, Fault> {
+        if self.terms.is_empty() {
             return Err(Fault::NoTerm);
         }
-        Ok(tales_of(alloc, terms)?)
+        Ok(tales_of(self.alloc, &mut self.terms)?)
     }
 }
 
 // What happened in each of these terms.
-fn tales_of(alloc: Global, terms: Vec<Recorder>) -> Result<Vec<Tale>, AllocError> {
+fn tales_of(alloc: Global, terms: &mut [Recorder]) -> Result<Vec<Tale>, AllocError> {
     let mut tales = Vec::new(alloc);
-    for recorder in terms {
+    for recorder in terms.iter_mut() {
         tales.push(recorder.tale(alloc)?)?;
     }
     Ok(tales)

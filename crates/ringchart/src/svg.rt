@@ -1,7 +1,7 @@
 //! A term as an SVG picture.
 use crate::frame::Frame;
 use crate::label;
-use crate::tale::{Arrow, Kind, Tale};
+use crate::tale::{Arrow, Kind, Step, Tale};
 use ring_id::NodeId;
 use std::alloc::{AllocError, Global};
 
@@ -40,7 +40,7 @@ const LEGEND: [&str; 3] = [
 ];
 
 /// A picture, and how large it is.
-#[derive(Debug, Drop)]
+#[derive(Drop)]
 pub struct Picture {
     pub svg: String,
     pub width: u64,
@@ -61,11 +61,7 @@ pub fn draw(alloc: Global, tale: &Tale, top: u64) -> Result<Picture, AllocError>
         out: String::new(alloc),
         frame: Frame::of(tale, title.len()),
     };
-    drawing.ground(top)?;
-    drawing.head(tale, title.as_str())?;
-    drawing.lines(tale)?;
-    drawing.captions(tale)?;
-    drawing.out.push_str("</svg>\n")?;
+    drawing.all(tale, title.as_str(), top)?;
     let Drawing { out: svg, frame } = drawing;
     Ok(Picture {
         svg,
@@ -75,34 +71,47 @@ pub fn draw(alloc: Global, tale: &Tale, top: u64) -> Result<Picture, AllocError>
 }
 
 impl Drawing {
+    // The whole picture.
+    fn all(&mut self, tale: &Tale, title: &str, top: u64) -> Result<(), AllocError> {
+        self.ground(top)?;
+        self.head(tale, title)?;
+        self.lines(tale)?;
+        self.captions(tale)?;
+        self.out.push_str("</svg>\n")
+    }
+
     // The place and the size of the picture, how things look, and a white ground.
     fn ground(&mut self, top: u64) -> Result<(), AllocError> {
-        let (width, height) = (self.frame.width(), self.frame.height());
-        self.open(top, width, height)?;
+        self.open(top)?;
         self.out.push_str(STYLE)?;
-        writeln!(
-            self.out,
-            "<rect width=\"{width}\" height=\"{height}\" fill=\"white\"/>"
-        )
+        self.out.push_str("<rect")?;
+        self.size()?;
+        self.out.push_str(" fill=\"white\"/>\n")
     }
 
     // The first line of the picture.
-    fn open(&mut self, top: u64, width: u64, height: u64) -> Result<(), AllocError> {
+    fn open(&mut self, top: u64) -> Result<(), AllocError> {
         write!(
             self.out,
             "<svg xmlns=\"http://www.w3.org/2000/svg\" y=\"{top}\""
         )?;
-        writeln!(
-            self.out,
-            " width=\"{width}\" height=\"{height}\" viewBox=\"0 0 {width} {height}\">"
-        )
+        self.size()?;
+        let (width, height) = (self.frame.width(), self.frame.height());
+        writeln!(self.out, " viewBox=\"0 0 {width} {height}\">")
+    }
+
+    // How large the picture is.
+    fn size(&mut self) -> Result<(), AllocError> {
+        let (width, height) = (self.frame.width(), self.frame.height());
+        write!(self.out, " width=\"{width}\" height=\"{height}\"")
     }
 
     // The title, and what came of the term.
     fn head(&mut self, tale: &Tale, title: &str) -> Result<(), AllocError> {
-        let outcome = tale.outcome(*self.out.allocator())?;
         self.words(24, 34, "title", title)?;
-        self.words(24, 58, "small", outcome.as_str())
+        self.begin_words(24, 58, "small")?;
+        tale.add_outcome(&mut self.out)?;
+        self.end_words()
     }
 
     // All lines and arrows.
@@ -123,10 +132,17 @@ impl Drawing {
 
     // Words at a place.
     fn words(&mut self, x: u64, y: u64, class: &str, words: &str) -> Result<(), AllocError> {
-        writeln!(
-            self.out,
-            "<text class=\"{class}\" x=\"{x}\" y=\"{y}\">{words}</text>"
-        )
+        self.begin_words(x, y, class)?;
+        self.out.push_str(words)?;
+        self.end_words()
+    }
+
+    fn begin_words(&mut self, x: u64, y: u64, class: &str) -> Result<(), AllocError> {
+        write!(self.out, "<text class=\"{class}\" x=\"{x}\" y=\"{y}\">")
+    }
+
+    fn end_words(&mut self) -> Result<(), AllocError> {
+        self.out.push_str("</text>\n")
     }
 
     // A line of a class.
@@ -159,18 +175,20 @@ impl Drawing {
 
     // The name of a member in a box.
     fn name(&mut self, x: u64, member: NodeId, leads: bool, again: bool) -> Result<(), AllocError> {
+        let mut name = String::new(*self.out.allocator());
+        label::add_member(&mut name, member)?;
+        self.boxed(x, name.as_str(), leads, again)
+    }
+
+    // A name in a box.
+    fn boxed(&mut self, x: u64, name: &str, leads: bool, again: bool) -> Result<(), AllocError> {
         let y = self.frame.y_names();
-        let number = label::of_member(*self.out.allocator(), member)?;
-        let width = (number.len() as u64).saturating_mul(9).saturating_add(18);
+        let width = (name.len() as u64).saturating_mul(9).saturating_add(18);
         self.name_box(x.saturating_sub(width / 2), width, leads, again)?;
-        self.words(x, y.saturating_sub(7), "name", number.as_str())?;
+        self.words(x, y.saturating_sub(7), "name", name)?;
         if leads && !again {
-            self.words(
-                x.saturating_sub(19),
-                y.saturating_sub(30),
-                "small",
-                "leader",
-            )?;
+            let x = x.saturating_sub(19);
+            self.words(x, y.saturating_sub(30), "small", "leader")?;
         }
         Ok(())
     }
@@ -192,17 +210,22 @@ impl Drawing {
 
     // The lines of members from when they know the leader.
     fn knowing(&mut self, tale: &Tale) -> Result<(), AllocError> {
-        let frame = self.frame;
         let mut now = 0u64;
         for step in &tale.steps {
             now = now.saturating_add(1);
-            if step.learned.is_none() {
-                continue;
+            if step.learned.is_some() {
+                self.learned(tale, step.position, now)?;
             }
-            self.knows(frame.x(step.position), frame.y(now))?;
-            if step.position == 0 {
-                self.knows(frame.x(tale.ring.len()), frame.y(now))?;
-            }
+        }
+        Ok(())
+    }
+
+    // The line of a position from a delivery on, and of the first one where it stands again.
+    fn learned(&mut self, tale: &Tale, position: usize, now: u64) -> Result<(), AllocError> {
+        let y = self.frame.y(now);
+        self.knows(self.frame.x(position), y)?;
+        if position == 0 {
+            self.knows(self.frame.x(tale.ring.len()), y)?;
         }
         Ok(())
     }
@@ -288,38 +311,38 @@ impl Drawing {
 
     // The numbers of the deliveries, and who knew the leader by them.
     fn notes(&mut self, tale: &Tale) -> Result<(), AllocError> {
-        let frame = self.frame;
-        self.words(58, frame.y(0).saturating_add(4), "tick", "start")?;
+        let y = self.frame.y(0).saturating_add(4);
+        self.words(58, y, "tick", "start")?;
         let mut now = 0u64;
         for step in &tale.steps {
             now = now.saturating_add(1);
-            let y = frame.y(now).saturating_add(4);
-            self.tick(y, now)?;
-            if let (Some(member), Some(leader)) = (tale.member(step.position), step.learned) {
-                self.note(y, member, leader)?;
-            }
+            self.note(tale, step, now)?;
         }
         self.end(tale)
     }
 
-    // The number of a delivery.
-    fn tick(&mut self, y: u64, now: u64) -> Result<(), AllocError> {
-        writeln!(
-            self.out,
-            "<text class=\"tick\" x=\"58\" y=\"{y}\">{now}</text>"
-        )
+    // The number of a delivery, and who knew the leader by it.
+    fn note(&mut self, tale: &Tale, step: &Step, now: u64) -> Result<(), AllocError> {
+        let y = self.frame.y(now).saturating_add(4);
+        self.tick(y, now)?;
+        match (tale.member(step.position), step.learned) {
+            (Some(member), Some(leader)) => self.knowledge(y, member, leader),
+            _ => Ok(()),
+        }
     }
 
-    // Who knew the leader by it.
-    fn note(&mut self, y: u64, member: NodeId, leader: NodeId) -> Result<(), AllocError> {
-        let x = self.frame.x_margin();
-        let alloc = *self.out.allocator();
-        let member = label::of_member(alloc, member)?;
-        let leader = label::of_member(alloc, leader)?;
-        writeln!(
-            self.out,
-            "<text class=\"note\" x=\"{x}\" y=\"{y}\">{member} knows {leader}</text>"
-        )
+    // The number of a delivery.
+    fn tick(&mut self, y: u64, now: u64) -> Result<(), AllocError> {
+        self.begin_words(58, y, "tick")?;
+        write!(self.out, "{now}")?;
+        self.end_words()
+    }
+
+    // Who knew the leader by a delivery.
+    fn knowledge(&mut self, y: u64, member: NodeId, leader: NodeId) -> Result<(), AllocError> {
+        self.begin_words(self.frame.x_margin(), y, "note")?;
+        label::add_knows(&mut self.out, member, leader)?;
+        self.end_words()
     }
 
     // The line above what is in flight at the end.

@@ -6,7 +6,7 @@ use std::alloc::{AllocError, Global};
 use std::str;
 
 /// What kind of packet an arrow is.
-#[derive(Clone, Copy, Debug, PartialEq, Eq)]
+#[derive(Clone, Copy)]
 pub enum Kind {
     /// A message of the algorithm.
     Message,
@@ -16,7 +16,7 @@ pub enum Kind {
 
 /// A packet between two columns. Columns are the positions of the ring from 0 on, and behind the
 /// last stands the first member again, so that each packet goes to the next column.
-#[derive(Debug, Drop)]
+#[derive(Drop)]
 pub struct Arrow {
     pub from: usize,
     pub to: usize,
@@ -27,7 +27,7 @@ pub struct Arrow {
 }
 
 /// A delivery: the arrow that it ended, and what its receiver then knew for the first time.
-#[derive(Debug, Drop)]
+#[derive(Drop)]
 pub struct Step {
     pub arrow: Arrow,
     pub position: usize,
@@ -35,7 +35,7 @@ pub struct Step {
 }
 
 /// All that happened in a term.
-#[derive(Debug, Drop)]
+#[derive(Drop)]
 pub struct Tale {
     pub group: GroupName,
     pub term: u16,
@@ -74,34 +74,45 @@ impl Tale {
 
     /// The line above a picture.
     pub fn title(&self, alloc: Global) -> Result<String, AllocError> {
-        let name = label::of_algorithm(self.algorithm);
-        let mut title = format!(in alloc; "{name}, ring")?;
-        for member in &self.ring {
-            write!(title, " {}", label::of_member(alloc, *member)?)?;
-        }
-        write!(title, ", term {} of group {}", self.term, self.group_text())?;
+        let mut title = String::new(alloc);
+        self.add_title(&mut title)?;
         Ok(title)
     }
 
-    /// The line below it: what came of the term.
-    pub fn outcome(&self, alloc: Global) -> Result<String, AllocError> {
-        let mut outcome = self.known(alloc)?;
-        write!(outcome, " after {} deliveries", self.steps.len())?;
-        match self.flying.len() {
-            0 => outcome.push_str("; nothing in flight")?,
-            flying => write!(outcome, "; {flying} in flight at the end")?,
+    /// Adds the line above a picture.
+    pub fn add_title(&self, text: &mut String) -> Result<(), AllocError> {
+        text.push_str(label::of_algorithm(self.algorithm))?;
+        text.push_str(", ring")?;
+        for member in &self.ring {
+            text.push(' ')?;
+            label::add_member(text, *member)?;
         }
-        Ok(outcome)
+        write!(text, ", term {} of group {}", self.term, self.group_text())
     }
 
-    // Who leads, and how many members knew it.
-    fn known(&self, alloc: Global) -> Result<String, AllocError> {
+    /// Adds the line below it: what came of the term.
+    pub fn add_outcome(&self, text: &mut String) -> Result<(), AllocError> {
+        self.add_known(text)?;
+        write!(text, " after {} deliveries", self.steps.len())?;
+        match self.flying.len() {
+            0 => text.push_str("; nothing in flight"),
+            flying => write!(text, "; {flying} in flight at the end"),
+        }
+    }
+
+    // Adds who leads, and how many members knew it.
+    fn add_known(&self, text: &mut String) -> Result<(), AllocError> {
         let Some(leader) = self.leader() else {
-            return String::from_str(alloc, "undecided");
+            return text.push_str("undecided");
         };
-        let leader = label::of_member(alloc, leader)?;
-        let (informed, size) = (self.informed(), self.ring.len());
-        format!(in alloc; "leader {leader}, known to {informed} of {size}")
+        text.push_str("leader ")?;
+        label::add_member(text, leader)?;
+        write!(
+            text,
+            ", known to {} of {}",
+            self.informed(),
+            self.ring.len()
+        )
     }
 
     /// How many characters the longest name of a member has.

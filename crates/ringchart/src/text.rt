@@ -4,7 +4,7 @@ use crate::tale::{Arrow, Step, Tale};
 use ring_id::NodeId;
 use std::alloc::{AllocError, Global};
 
-// How many characters stand left of the first column.
+// How many characters stand left of the first column: eight of a row's name, and two spaces.
 const LEFT: usize = 10;
 
 // What stands in a gap between two columns.
@@ -25,9 +25,7 @@ pub fn draw(alloc: Global, tale: &Tale) -> Result<String, AllocError> {
         size: tale.ring.len(),
         knows: Vec::new(alloc),
     };
-    drawing.knows.resize(tale.ring.len(), false)?;
-    drawing.head(tale)?;
-    drawing.rows(tale)?;
+    drawing.all(tale)?;
     Ok(drawing.out)
 }
 
@@ -41,40 +39,53 @@ struct Drawing {
 }
 
 impl Drawing {
-    // The title, what came of the term, and an empty line.
-    fn head(&mut self, tale: &Tale) -> Result<(), AllocError> {
-        let alloc = *self.out.allocator();
-        self.end(tale.title(alloc)?.as_str())?;
-        self.end(tale.outcome(alloc)?.as_str())?;
-        self.end("")
-    }
-
-    // The names, and all rows below them.
-    fn rows(&mut self, tale: &Tale) -> Result<(), AllocError> {
+    // What stands above the members, and all rows.
+    fn all(&mut self, tale: &Tale) -> Result<(), AllocError> {
+        self.knows.resize(self.size, false)?;
+        self.head(tale)?;
         self.names(tale)?;
         self.steps(tale)?;
         self.flying(tale)
     }
 
+    // The title, what came of the term, and an empty line.
+    fn head(&mut self, tale: &Tale) -> Result<(), AllocError> {
+        tale.add_title(&mut self.out)?;
+        self.out.push('\n')?;
+        tale.add_outcome(&mut self.out)?;
+        self.out.push_str("\n\n")
+    }
+
     // The members above their columns; the leader in brackets.
     fn names(&mut self, tale: &Tale) -> Result<(), AllocError> {
-        let alloc = *self.out.allocator();
         let mut before = LEFT;
         for column in 0..=self.size {
-            let Some(member) = tale.member(column) else {
-                continue;
-            };
-            self.spaces(before)?;
-            let name = name(alloc, member, tale.leader() == Some(member))?;
-            self.out.push_str(name.as_str())?;
-            before = self.gap.saturating_add(1).saturating_sub(name.len());
+            if let Some(member) = tale.member(column) {
+                self.spaces(before)?;
+                let width = self.name(member, tale.leader() == Some(member))?;
+                before = self.gap.saturating_add(1).saturating_sub(width);
+            }
         }
-        self.end("")
+        self.out.push('\n')
+    }
+
+    // The name of a member; how many characters it has.
+    fn name(&mut self, member: NodeId, leads: bool) -> Result<usize, AllocError> {
+        let before = self.out.len();
+        if leads {
+            self.out.push('[')?;
+        }
+        label::add_member(&mut self.out, member)?;
+        if leads {
+            self.out.push(']')?;
+        }
+        Ok(self.out.len().saturating_sub(before))
     }
 
     // A row for the start, and one for each delivery.
     fn steps(&mut self, tale: &Tale) -> Result<(), AllocError> {
-        self.row("start", Gap::Empty, "")?;
+        self.row("start", Gap::Empty)?;
+        self.out.push('\n')?;
         let mut now = 0u64;
         for step in &tale.steps {
             now = now.saturating_add(1);
@@ -85,41 +96,61 @@ impl Drawing {
 
     // The row of a delivery.
     fn step(&mut self, tale: &Tale, step: &Step, now: u64) -> Result<(), AllocError> {
-        let alloc = *self.out.allocator();
         if step.learned.is_some()
             && let Some(knows) = self.knows.get_mut(step.position)
         {
             *knows = true;
         }
-        let note = note(alloc, tale, step, now)?;
-        let number = format!(in alloc; "{now}")?;
-        self.row(number.as_str(), Gap::Taken(&step.arrow), note.as_str())
+        write!(self.out, "{now:>8}  ")?;
+        self.columns(Gap::Taken(&step.arrow))?;
+        self.note(tale, step, now)
+    }
+
+    // The words beside a delivery: by which one its packet was sent, unless by the one before, and who
+    // knew the leader by it.
+    fn note(&mut self, tale: &Tale, step: &Step, now: u64) -> Result<(), AllocError> {
+        let waited = step.arrow.sent.saturating_add(1) < now;
+        if waited {
+            self.sent_at(step.arrow.sent)?;
+        }
+        if let (Some(member), Some(leader)) = (tale.member(step.position), step.learned) {
+            self.out.push_str(if waited { ", " } else { "   " })?;
+            label::add_knows(&mut self.out, member, leader)?;
+        }
+        self.out.push('\n')
     }
 
     // A row for each packet in flight at the end.
     fn flying(&mut self, tale: &Tale) -> Result<(), AllocError> {
-        let alloc = *self.out.allocator();
         for arrow in &tale.flying {
-            let note = sent_at(alloc, arrow.sent)?;
-            self.row("flying", Gap::Flying(arrow), note.as_str())?;
+            self.row("flying", Gap::Flying(arrow))?;
+            self.sent_at(arrow.sent)?;
+            self.out.push('\n')?;
         }
         Ok(())
     }
 
-    // A row: its name, the columns with what stands in one gap, and a note.
-    fn row(&mut self, name: &str, gap: Gap<'_>, note: &str) -> Result<(), AllocError> {
-        self.spaces(LEFT.saturating_sub(2).saturating_sub(name.len()))?;
-        self.out.push_str(name)?;
-        self.spaces(2)?;
+    // By which delivery a packet was sent.
+    fn sent_at(&mut self, sent: u64) -> Result<(), AllocError> {
+        match sent {
+            0 => self.out.push_str("   sent at the start"),
+            sent => write!(self.out, "   sent at {sent}"),
+        }
+    }
+
+    // A row without its note: its name, and the columns with what stands in one gap.
+    fn row(&mut self, name: &str, gap: Gap<'_>) -> Result<(), AllocError> {
+        write!(self.out, "{name:>8}  ")?;
+        self.columns(gap)
+    }
+
+    // The columns of a row, with what stands in one gap.
+    fn columns(&mut self, gap: Gap<'_>) -> Result<(), AllocError> {
         for column in 0..self.size {
             self.column(column)?;
             self.gap(column, gap)?;
         }
-        self.column(0)?;
-        if !note.is_empty() {
-            self.spaces(3)?;
-        }
-        self.end(note)
+        self.column(0)
     }
 
     // A column's sign: whether its member knows the leader.
@@ -136,35 +167,26 @@ impl Drawing {
             Gap::Taken(arrow) | Gap::Flying(arrow) if arrow.from.min(arrow.to) != column => {
                 self.spaces(self.gap)
             }
-            Gap::Taken(arrow) => self.arrow(arrow, '-', true),
-            Gap::Flying(arrow) => self.arrow(arrow, '.', false),
+            Gap::Taken(arrow) => self.arrow(arrow, '-', head_of(arrow)),
+            Gap::Flying(arrow) => self.arrow(arrow, '.', ' '),
             Gap::Empty => self.spaces(self.gap),
         }
     }
 
     // An arrow with its label, as wide as a gap.
-    fn arrow(&mut self, arrow: &Arrow, shaft: char, lands: bool) -> Result<(), AllocError> {
+    fn arrow(&mut self, arrow: &Arrow, shaft: char, head: char) -> Result<(), AllocError> {
         let shafts = self.gap.saturating_sub(arrow.label.len()).saturating_sub(1);
         let before = shafts / 2;
-        let tip = if lands { shaft } else { ' ' };
-        let goes_right = arrow.from < arrow.to;
-        self.out.push(if goes_right {
-            shaft
-        } else if lands {
-            '<'
+        let (first, last) = if arrow.from < arrow.to {
+            (shaft, head)
         } else {
-            tip
-        })?;
+            (head, shaft)
+        };
+        self.out.push(first)?;
         self.fill(before.saturating_sub(1), shaft)?;
         self.out.push_str(arrow.label.as_str())?;
         self.fill(shafts.saturating_sub(before), shaft)?;
-        self.out.push(if !goes_right {
-            shaft
-        } else if lands {
-            '>'
-        } else {
-            tip
-        })
+        self.out.push(last)
     }
 
     fn spaces(&mut self, count: usize) -> Result<(), AllocError> {
@@ -177,56 +199,9 @@ impl Drawing {
         }
         Ok(())
     }
-
-    fn end(&mut self, text: &str) -> Result<(), AllocError> {
-        self.out.push_str(text)?;
-        self.out.push('\n')
-    }
 }
 
-// The words beside a delivery: by which one its packet was sent, unless by the one before, and who knew the leader
-// by it.
-fn note(alloc: Global, tale: &Tale, step: &Step, now: u64) -> Result<String, AllocError> {
-    let mut note = if step.arrow.sent.saturating_add(1) < now {
-        sent_at(alloc, step.arrow.sent)?
-    } else {
-        String::new(alloc)
-    };
-    if let (Some(member), Some(leader)) = (tale.member(step.position), step.learned) {
-        if !note.is_empty() {
-            note.push_str(", ")?;
-        }
-        add_knows(alloc, &mut note, member, leader)?;
-    }
-    Ok(note)
-}
-
-// By which delivery a packet was sent.
-fn sent_at(alloc: Global, sent: u64) -> Result<String, AllocError> {
-    match sent {
-        0 => String::from_str(alloc, "sent at the start"),
-        sent => format!(in alloc; "sent at {sent}"),
-    }
-}
-
-// Says that a member knows the leader.
-fn add_knows(
-    alloc: Global,
-    note: &mut String,
-    member: NodeId,
-    leader: NodeId,
-) -> Result<(), AllocError> {
-    let member = label::of_member(alloc, member)?;
-    let leader = label::of_member(alloc, leader)?;
-    write!(note, "{member} knows {leader}")
-}
-
-// The name of a member.
-fn name(alloc: Global, member: NodeId, leads: bool) -> Result<String, AllocError> {
-    let name = label::of_member(alloc, member)?;
-    if leads {
-        format!(in alloc; "[{name}]")
-    } else {
-        Ok(name)
-    }
+// The head of an arrow that was delivered.
+fn head_of(arrow: &Arrow) -> char {
+    if arrow.from < arrow.to { '>' } else { '<' }
 }

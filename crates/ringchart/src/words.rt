@@ -15,7 +15,7 @@ which they were started. With --into each goes to a file of its own, DIR/GROUP-T
 the names are printed. With --text they are drawn with characters.";
 
 /// What the words ask the program to do.
-#[derive(Debug, Drop)]
+#[derive(Drop)]
 pub struct Order {
     /// The file of the schedule; standard input where there is none.
     pub path: Option<String>,
@@ -54,21 +54,20 @@ impl From<AllocError> for WordsFault {
 
 // The program's command line.
 fn command<'a>(alloc: Global) -> Result<Command<'a>, AllocError> {
-    let command = bare_command(alloc).arg(schedule_arg(alloc))?;
-    with_pictures(alloc, command)
-}
-
-// It without its words.
-fn bare_command<'a>(alloc: Global) -> Command<'a> {
-    Command::new(alloc, "ringchart")
+    let into = into_arg(alloc)?;
+    let command = Command::new(alloc, "ringchart")
         .about("Draws what a schedule does: a picture of each term, message by message")
         .after_help(NOTES)
+        .arg(schedule_arg(alloc));
+    with_arg(with_arg(command, into), text_arg(alloc))
 }
 
-// A command line, with the words for where the pictures go and how they are drawn.
-fn with_pictures<'a>(alloc: Global, command: Command<'a>) -> Result<Command<'a>, AllocError> {
-    let into = into_arg(alloc)?;
-    command.arg(into)?.arg(text_arg(alloc))
+// The command with one more argument, where memory wasn't refused before.
+fn with_arg<'a>(
+    command: Result<Command<'a>, AllocError>,
+    arg: Arg<'a>,
+) -> Result<Command<'a>, AllocError> {
+    command?.arg(arg)
 }
 
 // The file of the schedule.

@@ -3,7 +3,7 @@ ghost use Rattle.std.specs.Prelude.{◌≡◌, ◌≢◌, ◌++◌, ℕ, List, I
 ghost use Rattle.ringctl.specs.Replies.{IsRefusal, line_of};
 
 /// A reply of the service.
-#[derive(Clone, Copy, Debug, PartialEq, Eq)]
+#[derive(Clone, Copy)]
 pub enum Reply<'a> {
     /// The command was done. The whole line, without its LF.
     Done(&'a str),

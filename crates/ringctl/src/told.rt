@@ -4,7 +4,7 @@ ghost use Rattle.std.specs.Prelude.{◌≡◌, ◌<◌, ◌↔◌, IsTrue, max};
 use ring_id::NodeId;
 
 /// A term in a reply to `terms`: its number, and its leader if it is known.
-#[derive(Clone, Copy, Debug, PartialEq, Eq)]
+#[derive(Clone, Copy)]
 pub struct Term {
     pub number: u16,
     pub leader: Option<NodeId>,
@@ -38,7 +38,7 @@ fn read_identity(word: &str) -> Option<NodeId> {
 }
 
 /// What is new in a term.
-#[derive(Clone, Copy, Debug, PartialEq, Eq)]
+#[derive(Clone, Copy)]
 pub struct News {
     /// It has started.
     pub started: bool,
@@ -47,7 +47,7 @@ pub struct News {
 }
 
 /// The last term that was told, and whether its leader was.
-#[derive(Clone, Copy, Debug)]
+#[derive(Clone, Copy)]
 pub struct Told {
     term: u16,
     is_decided: bool,

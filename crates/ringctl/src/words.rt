@@ -37,14 +37,14 @@ error) or reading, writing or memory failed, 2 for words that are none of these,
 no service answers.";
 
 /// What the words ask for, and of which service.
-#[derive(Debug, Drop)]
+#[derive(Drop)]
 pub struct Asked {
     pub address: String,
     pub order: Order,
 }
 
 /// What the words ask the program to do.
-#[derive(Debug, Drop)]
+#[derive(Drop)]
 pub enum Order {
     /// Each line of standard input.
     Session,
