@@ -79,3 +79,16 @@ fn a_ring_shows_its_members_and_neighbours(rt: HostRuntime) {
     assert!(rt; three.same(&ring(&rt, alloc, &[3, 1, 2])));
     assert!(rt; !three.same(&ring(&rt, alloc, &[1, 2, 3])));
 }
+
+#[test]
+fn a_ring_may_have_several_owners(rt: HostRuntime) {
+    let alloc = rt.alloc();
+    let three = ring(&rt, alloc, &[3, 1, 2]);
+    let again = three.shared().expect(&rt, "no memory");
+    assert!(rt; again.same(&three));
+    drop(three);
+    for (numbers, is_same) in [([3, 1, 2].as_slice(), true), (&[1, 2, 3], false), (&[3, 1], false)] {
+        let members = identities(&rt, alloc, numbers);
+        assert_eq!(rt; again.is_of(&members), is_same);
+    }
+}

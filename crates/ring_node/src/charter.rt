@@ -40,8 +40,8 @@ impl<E: RingElection> Charter<E> {
         Ok(shared)
     }
 
-    /// The charter of the same term and ring, which this algorithm decides. Refused for want of memory
-    /// alone.
+    /// The charter of the same term, which this algorithm decides; both share the ring. Refused for want of
+    /// memory alone.
     pub fn under<F: RingElection>(
         &self,
         alloc: Global,
@@ -49,7 +49,7 @@ impl<E: RingElection> Charter<E> {
     ) -> Result<Arc<Charter<F>>, NoMemory>
         ensures { IfOk result (λ c. c.value ≡ record { group = self.now.group; term = self.now.term; algorithm = algorithm; roster = self.now.roster }) }
     {
-        let roster = self.roster.copied(alloc)?;
+        let roster = self.roster.shared()?;
         Charter::new(alloc, self.group, self.term, algorithm, roster)
     }
 

@@ -31,14 +31,6 @@ impl Guesses {
         Ok(guesses)
     }
 
-    /// The same guesses once more.
-    pub(crate) fn copied(&self, alloc: Global) -> Result<Guesses, NoMemory> {
-        let Ok(positions) = Vec::from_slice(alloc, &self.positions) else {
-            return Err(NoMemory);
-        };
-        Ok(Guesses { positions })
-    }
-
     /// The guess for a number.
     pub(crate) fn of(&self, node: NodeNo) -> u8 {
         match self.positions.get(self.place(node)) {

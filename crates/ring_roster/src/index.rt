@@ -1,4 +1,4 @@
-ghost use Rattle.std.specs.Prelude.{◌≡◌, ◌≤◌, ℕ, IfOk, List, length};
+ghost use Rattle.std.specs.Prelude.{◌≡◌, ◌≤◌, IfOk, length};
 ghost use Rattle.ring_roster.specs.Ring.{IsRing, position_of};
 ghost use Rattle.ring_roster.specs.private.Index.{IsIndexOf};
 
@@ -30,20 +30,6 @@ impl Index {
         }
         let order = order_of(alloc, members)?;
         let guesses = Guesses::new(alloc, members)?;
-        Ok(Index::Many { order, guesses })
-    }
-
-    /// The same index once more.
-    pub(crate) fn copied(&self, alloc: Global) -> Result<Index, NoMemory>
-        ensures { IfOk result (λ index. (ring : List ℕ) → IsIndexOf ring self.now → IsIndexOf ring index) }
-    {
-        let Index::Many { order, guesses } = self else {
-            return Ok(Index::Few);
-        };
-        let Ok(order) = Vec::from_slice(alloc, order) else {
-            return Err(NoMemory);
-        };
-        let guesses = guesses.copied(alloc)?;
         Ok(Index::Many { order, guesses })
     }
 

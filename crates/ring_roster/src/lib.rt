@@ -6,6 +6,7 @@
 
 mod guesses;
 mod index;
+mod members;
 mod order;
 mod roster;
 

@@ -1,34 +1,30 @@
-ghost use Rattle.std.specs.Prelude.{◌≡◌, ◌<◌, ◌≤◌, ◌↔◌, IsTrue, IfOk, IfErr, None, true, length, slice_get};
+ghost use Rattle.std.specs.Prelude.{◌≡◌, ◌<◌, ◌↔◌, IsTrue, IfOk, IfErr, None, true, length, slice_get};
 ghost use Rattle.std.specs.List.{list_any};
 ghost use Rattle.ring_id.specs.Refusals.{IsRefusal};
 ghost use Rattle.ring_roster.specs.Ring.{IsRing, has_number, has_repeat, neighbour, position_of, ring_refusal};
 
-use crate::index::Index;
-use ring_id::{NoMemory, NodeId, NodeNo, Refusal, Side, same_ids};
+use crate::members::Members;
+use ring_id::{NoMemory, NodeId, NodeNo, Refusal, Side};
 use std::alloc::Global;
 use std::marker::Model;
+use std::sync::Arc;
 
 /// The ring of a term: a list of 1 to 256 identities with different numbers, in joining order. Two
 /// of one number are refused, whatever their weights.
 ///
 /// Contracts see a roster as the list of its identities (Lynch, Distributed Algorithms, 3.1).
-/// None of the calls but `from_members`, `of_ring` and `copied` takes memory.
+/// None of the calls but `from_members` and `of_ring` takes memory: a ring may have several owners.
 #[derive(Debug, Drop)]
 pub struct Roster {
-    members: Vec<NodeId>,
-    index: Index,
+    members: Arc<Members>,
 }
 
 impl Model for Roster {
     ghost use Rattle.std.specs.Prelude.{List, ℕ};
-    ghost use Rattle.ring_roster.specs.private.Index.{IsIndexOf};
-    ghost use Rattle.ring_roster.specs.Ring.{IsRing};
 
     ghost Value = { List ℕ };
 
-    ghost view = { λ a. a.members.items };
-
-    ghost invariant = { λ a. IsRing a.members.items × IsIndexOf a.members.items a.index };
+    ghost view = { λ a. a.members.value };
 }
 
 impl Roster {
@@ -64,22 +60,21 @@ impl Roster {
         requires { IsRing members.now }
         ensures { IfOk result (λ ring. ring ≡ members.now) }
     {
-        let index = Index::new(alloc, members)?;
-        let Ok(members) = Vec::from_slice(alloc, members) else {
+        let Ok(members) = Arc::new(alloc, Members::new(alloc, members)?) else {
             return Err(NoMemory);
         };
-        Ok(Roster { members, index })
+        Ok(Roster { members })
     }
 
-    /// The same ring once more. Refused for want of memory alone.
-    pub fn copied(&self, alloc: Global) -> Result<Roster, NoMemory>
+    /// The same ring, which shares what this one has. Refused for want of memory alone, where it has too
+    /// many owners.
+    pub fn shared(&self) -> Result<Roster, NoMemory>
         ensures { IfOk result (λ ring. ring ≡ self.now) }
     {
-        let index = self.index.copied(alloc)?;
-        let Ok(members) = Vec::from_slice(alloc, &self.members) else {
+        let Ok(members) = Arc::try_clone(&self.members) else {
             return Err(NoMemory);
         };
-        Ok(Roster { members, index })
+        Ok(Roster { members })
     }
 
     /// The number of members, from 1 to 256.
@@ -95,14 +90,14 @@ impl Roster {
         ensures value { result ≡ slice_get self.now position }
         ensures ring { IsRing self.now }
     {
-        self.members.get(position).copied()
+        self.members.at(position)
     }
 
     /// The position of the member with this number; none where there is no such member.
     pub fn position(&self, node: NodeNo) -> Option<usize>
         ensures { result ≡ position_of node self.now }
     {
-        self.index.find(&self.members, node)
+        self.members.position(node)
     }
 
     /// The position next to this one at that side. In a ring of one it is the node itself; in a
@@ -112,20 +107,21 @@ impl Roster {
         ensures value { result ≡ neighbour (length self.now) position side }
         ensures inside { result < length self.now }
     {
-        let last = self.members.len() - 1;
-        match side {
-            Side::Left if position == 0 => last,
-            Side::Left => position - 1,
-            Side::Right if position == last => 0,
-            Side::Right => position + 1,
-        }
+        self.members.neighbour(position, side)
     }
 
     /// Whether two rings have the same members in the same order.
     pub fn same(&self, other: &Roster) -> bool
         ensures { IsTrue result ↔ (self.now ≡ other.now) }
     {
-        same_ids(&self.members, &other.members)
+        self.members.same(&other.members)
+    }
+
+    /// Whether these are the members, in this order.
+    pub fn is_of(&self, members: &[NodeId]) -> bool
+        ensures { IsTrue result ↔ (self.now ≡ members.now) }
+    {
+        self.members.are(members)
     }
 }
 

@@ -1,4 +1,4 @@
-ghost use Rattle.std.specs.Prelude.{◌≡◌, ◌+◌, ◌<◌, ◌≤◌, None, OnErr, OnOk, Some, filter, length, map, not, slice_index, true, false};
+ghost use Rattle.std.specs.Prelude.{◌≡◌, ◌+◌, ◌<◌, ◌≤◌, IfOk, None, OnErr, OnOk, Some, filter, length, map, not, slice_index, true, false};
 ghost use Rattle.std.specs.List.{list_any};
 ghost use Rattle.ring_roster.specs.Ring.{is_numbered};
 ghost use Rattle.ring_terms.specs.Object.{new_group, leaders};
@@ -119,13 +119,27 @@ impl<E: RingElection> Group<E> {
         let Some(term) = TermNo::new((self.terms.len() + 1) as u16) else {
             return Err(Refusal::TermLimit);
         };
-        let Ok(roster) = Roster::of_ring(alloc, &self.members) else {
+        let Ok(roster) = self.ring(alloc) else {
             return Err(Refusal::NoMemory);
         };
         let Ok(charter) = Charter::new(alloc, self.name, term, self.algorithm, roster) else {
             return Err(Refusal::NoMemory);
         };
         Ok(charter)
+    }
+
+    /// The ring of the members, of whom there are some; shared with the last term where that has the same.
+    fn ring(&self, alloc: Global) -> Result<Roster, NoMemory>
+        requires kept { IsGroupOf E.winner self.now.name self.now }
+        requires some { 0 < length self.now.members.items }
+        ensures { IfOk result (λ ring. ring ≡ self.now.members.items) }
+    {
+        match self.terms.last() {
+            Some(term) if term.charter().roster().is_of(&self.members) => {
+                term.charter().roster().shared()
+            }
+            _ => Roster::of_ring(alloc, &self.members),
+        }
     }
 
     /// Starts a term, whose ring is the member list.
