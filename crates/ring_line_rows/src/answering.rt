@@ -1,6 +1,7 @@
-use ring_lines::{FromRead, Outlet, ToWrite, WriteFailed};
+use crate::memory::{put, text};
+use ring_lines::{FromRead, LineFault, Outlet, ToWrite, WriteFailed};
 use ring_schedule::replay;
-use std::alloc::{AllocError, Global};
+use std::alloc::Global;
 use std::cell::RefCell;
 use std::io;
 use std::io::{Read, Write};
@@ -20,11 +21,11 @@ impl Read for Asking<'_> {
     ghost remaining = { λ _. None };
 
     fn read(&mut self, buffer: &mut [u8]) -> io::Result<usize> {
-        let Some(piece) = self.pieces.get(self.next) else {
-            note(self.log, b"<", b"")?;
-            return Ok(0);
+        let piece = match self.pieces.get(self.next) {
+            Some(piece) => *piece,
+            None => b"".as_slice(),
         };
-        note(self.log, b"<", piece)?;
+        note(self.log, b"<", piece);
         let len = piece.len().min(buffer.len());
         buffer[..len].copy_from_slice(&piece[..len]);
         self.next = self.next.saturating_add(1);
@@ -44,7 +45,7 @@ impl Write for Telling<'_> {
     ghost contents = { λ _. None };
 
     fn write(&mut self, bytes: &[u8]) -> io::Result<usize> {
-        note(self.log, b">", bytes)?;
+        note(self.log, b">", bytes);
         Ok(bytes.len())
     }
 
@@ -53,35 +54,41 @@ impl Write for Telling<'_> {
     }
 }
 
-// Notes a call: its mark, and its bytes.
-fn note(log: &RefCell<Vec<u8>>, mark: &[u8], bytes: &[u8]) -> io::Result<()> {
-    let Ok(mut log) = log.try_borrow_mut() else {
-        return Err(io::Error::other("the log is in use"));
-    };
-    if log.extend_from_slice(mark).is_err() || log.extend_from_slice(bytes).is_err() {
-        return Err(io::Error::other("no memory"));
+// Notes a call: its mark, and its bytes. Nothing where memory is refused.
+fn note(log: &RefCell<Vec<u8>>, mark: &[u8], bytes: &[u8]) {
+    if let Ok(mut log) = log.try_borrow_mut() {
+        let _ = log.extend_from_slice(mark);
+        let _ = log.extend_from_slice(bytes);
     }
-    Ok(())
 }
 
-// Whether a mux that answers these pieces comes to so many lines, by these calls in this order.
-fn comes(alloc: Global, pieces: &[&[u8]], lines: u64, wanted: &[u8]) -> Result<bool, AllocError> {
-    let log = RefCell::new(Vec::with_capacity(alloc, 200)?);
+// What a replay of these pieces comes to, whose calls are noted.
+fn replayed<'a>(
+    alloc: Global,
+    log: &'a RefCell<Vec<u8>>,
+    pieces: &'a [&'a [u8]],
+) -> Result<u64, LineFault> {
     let mut reader = FromRead(Asking {
-        log: &log,
+        log,
         pieces,
         next: 0,
     });
-    let mut writer = ToWrite(Telling { log: &log });
-    let answer = replay(alloc, &mut reader, &mut writer, 1000);
-    Ok(answer == Ok(lines) && log.into_inner().as_slice() == wanted)
+    replay(alloc, &mut reader, &mut ToWrite(Telling { log }), 1000)
+}
+
+// Whether a mux that answers these pieces comes to so many lines, by these calls in this order. It may not where memory is
+// refused.
+fn comes(rt: &impl Abort, alloc: Global, pieces: &[&[u8]], lines: u64, wanted: &[u8]) -> bool {
+    let log = RefCell::new(text(rt, alloc, 200));
+    let answer = replayed(alloc, &log, pieces);
+    let log = log.into_inner();
+    answer == Ok(lines) && log.as_slice() == wanted
 }
 
 // The same, tried again where memory is refused.
 fn assert_order(rt: &(impl Abort + AllocGlobal), pieces: &[&[u8]], lines: u64, wanted: &[u8]) {
     let alloc = rt.alloc();
-    let first = comes(alloc, pieces, lines, wanted);
-    assert!(rt; first == Ok(true) || comes(alloc, pieces, lines, wanted) == Ok(true));
+    assert!(rt; comes(rt, alloc, pieces, lines, wanted) || comes(rt, alloc, pieces, lines, wanted));
 }
 
 #[test]
@@ -102,42 +109,39 @@ fn replies_are_written_before_the_next_read(rt: HostRuntime) {
 }
 
 // Puts the names of a hundred groups behind a text, each between these.
-fn put_names(text: &mut Vec<u8>, before: &[u8], behind: &[u8]) -> Result<(), AllocError> {
-    for first in b'a'..b'k' {
-        for second in b'a'..b'k' {
-            text.extend_from_slice(before)?;
-            text.extend_from_slice(&[first, second])?;
-            text.extend_from_slice(behind)?;
-        }
+fn put_names(rt: &impl Abort, text: &mut Vec<u8>, before: &[u8], behind: &[u8]) {
+    for number in 0..100u8 {
+        put(rt, text, before);
+        put(rt, text, &[b'a' + number / 10, b'a' + number % 10]);
+        put(rt, text, behind);
     }
-    Ok(())
 }
 
 // Puts a line behind a text so many times.
-fn put_times(text: &mut Vec<u8>, line: &[u8], times: u32) -> Result<(), AllocError> {
+fn put_times(rt: &impl Abort, text: &mut Vec<u8>, line: &[u8], times: u32) {
     for _ in 0..times {
-        text.extend_from_slice(line)?;
+        put(rt, text, line);
     }
-    Ok(())
 }
 
 // The lines by which the groups are created, and then 400 that ask for them.
-fn crowd(alloc: Global) -> Result<Vec<u8>, AllocError> {
+fn crowd(rt: &impl Abort, alloc: Global) -> Vec<u8> {
     let mut lines = Vec::new(alloc);
-    put_names(&mut lines, b"create ", b" chang\n")?;
-    put_times(&mut lines, b"groups\n", 400)?;
-    Ok(lines)
+    put_names(rt, &mut lines, b"create ", b" chang\n");
+    put_times(rt, &mut lines, b"groups\n", 400);
+    lines
 }
 
 // What is answered to them.
-fn told(alloc: Global) -> Result<Vec<u8>, AllocError> {
-    let mut line = Vec::from_slice(alloc, b"groups")?;
-    put_names(&mut line, b" ", b"")?;
-    line.push(b'\n')?;
+fn told(rt: &impl Abort, alloc: Global) -> Vec<u8> {
+    let mut line = Vec::new(alloc);
+    put(rt, &mut line, b"groups");
+    put_names(rt, &mut line, b" ", b"");
+    put(rt, &mut line, b"\n");
     let mut text = Vec::new(alloc);
-    put_times(&mut text, b"ok\n", 100)?;
-    put_times(&mut text, &line, 400)?;
-    Ok(text)
+    put_times(rt, &mut text, b"ok\n", 100);
+    put_times(rt, &mut text, &line, 400);
+    text
 }
 
 // A writer that takes all, and knows its longest call.
@@ -159,23 +163,22 @@ impl Outlet for Measuring {
     }
 }
 
-// Whether the replies to lines that are read together, which are many times the page, are all written, in calls that
-// are no longer than it.
-fn passes_the_page(alloc: Global) -> Result<bool, AllocError> {
-    let lines = crowd(alloc)?;
-    let wanted = told(alloc)?;
+// Whether the replies to these lines, which are read together and many times the page, are all written, in calls that
+// are no longer than it. They may not be where memory is refused.
+fn pass_the_page(alloc: Global, lines: &[u8], wanted: &[u8]) -> bool {
     let mut writer = Measuring {
         text: Vec::new(alloc),
         longest: 0,
     };
-    let answer = replay(alloc, &mut FromRead(lines.as_slice()), &mut writer, 1000);
+    let answer = replay(alloc, &mut FromRead(lines), &mut writer, 1000);
     let longest = writer.longest;
-    let whole = answer == Ok(500) && writer.text.as_slice() == wanted.as_slice();
-    Ok(whole && longest <= 65536 && longest > 60000)
+    let whole = answer == Ok(500) && writer.text.as_slice() == wanted;
+    whole && longest <= 65536 && longest > 60000
 }
 
 #[test]
 fn replies_to_one_read_may_be_longer_than_the_page(rt: HostRuntime) {
-    let first = passes_the_page(rt.alloc());
-    assert!(rt; first == Ok(true) || passes_the_page(rt.alloc()) == Ok(true));
+    let alloc = rt.alloc();
+    let (lines, wanted) = (crowd(&rt, alloc), told(&rt, alloc));
+    assert!(rt; pass_the_page(alloc, &lines, &wanted) || pass_the_page(alloc, &lines, &wanted));
 }

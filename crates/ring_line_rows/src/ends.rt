@@ -1,14 +1,7 @@
-use ring_lines::{DripOut, Outlet, ToWrite, WriteFailed, put};
-use std::alloc::{AllocError, Global};
-use std::test::Fail;
-
-// A writer that drips; asked for again where memory is refused.
-fn drip_out(alloc: Global, room: usize, fault_at: u64) -> Result<DripOut, AllocError> {
-    match DripOut::new(alloc, room, fault_at) {
-        Ok(drip) => Ok(drip),
-        Err(_) => DripOut::new(alloc, room, fault_at),
-    }
-}
+use crate::memory::drip_out;
+use ring_lines::{Outlet, ToWrite, WriteFailed, put};
+use std::alloc::Global;
+use std::process::Abort;
 
 // Puts a text twice.
 fn put_twice<W: Outlet>(out: &mut W) -> Result<(), WriteFailed> {
@@ -19,28 +12,27 @@ fn put_twice<W: Outlet>(out: &mut W) -> Result<(), WriteFailed> {
 // Whether that is answered so by a writer with so much room that fails at the call with this number, and leaves these
 // bytes there; the same for a writer of std.
 fn is_put(
+    rt: &impl Abort,
     alloc: Global,
     room: usize,
     fault_at: u64,
     answer: Result<(), WriteFailed>,
     taken: &[u8],
-) -> Result<bool, AllocError> {
-    let mut out = drip_out(alloc, room, fault_at)?;
-    let mut by_std = ToWrite(drip_out(alloc, room, fault_at)?);
+) -> bool {
+    let mut out = drip_out(rt, alloc, room, fault_at);
+    let mut by_std = ToWrite(drip_out(rt, alloc, room, fault_at));
     let answers = put_twice(&mut out) == answer && put_twice(&mut by_std) == answer;
-    Ok(answers && out.taken() == taken && by_std.0.taken() == taken)
+    answers && out.taken() == taken && by_std.0.taken() == taken
 }
 
 #[test]
-fn bytes_are_put_until_a_write_fails(rt: HostRuntime) -> Result<(), Fail> {
+fn bytes_are_put_until_a_write_fails(rt: HostRuntime) {
     let alloc = rt.alloc();
-    assert!(rt; is_put(alloc, 100, 0, Ok(()), b"ok\nok\n")?);
-    assert!(rt; is_put(alloc, 100, 5, Err(WriteFailed), b"ok\no")?);
-    Ok(())
+    assert!(rt; is_put(&rt, alloc, 100, 0, Ok(()), b"ok\nok\n"));
+    assert!(rt; is_put(&rt, alloc, 100, 5, Err(WriteFailed), b"ok\no"));
 }
 
 #[test]
-fn a_writer_that_takes_no_byte_has_failed(rt: HostRuntime) -> Result<(), Fail> {
-    assert!(rt; is_put(rt.alloc(), 2, 0, Err(WriteFailed), b"ok")?);
-    Ok(())
+fn a_writer_that_takes_no_byte_has_failed(rt: HostRuntime) {
+    assert!(rt; is_put(&rt, rt.alloc(), 2, 0, Err(WriteFailed), b"ok"));
 }

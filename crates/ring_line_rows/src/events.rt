@@ -1,12 +1,12 @@
+use crate::memory::{add, text};
 use ring_any::Any;
 use ring_any_traffic::AnyTraffic;
 use ring_grammar::{
     SinkFailed, parse_event, print_groups, print_members, print_reply, print_terms,
 };
-use ring_id::NoMemory;
 use ring_mux::{Event, Mux, Reply};
-use std::alloc::{AllocFailed, Global};
-use std::test::Fail;
+use std::alloc::Global;
+use std::process::Abort;
 
 // A ring on which a link is cut, and its next term.
 const LINES: [&[u8]; 18] = [
@@ -34,27 +34,13 @@ const REPLIES: &[u8] = b"no no-group\nok\nok\nok\nok\nok\nok\nterm 1\nok\nidle\n
     drained 2 left 2\npending 2\nterm 2\ndrained 8 left 0\nleader 2 3\nmembers 3 1 2\nterms 1:- 2:3\n\
     groups a\n";
 
-// Adds an event to a list; once more where memory is refused.
-fn add(events: &mut Vec<Event<Any>>, event: Event<Any>) -> Result<(), NoMemory> {
-    match events.push(event) {
-        Ok(()) => Ok(()),
-        Err(AllocFailed { value }) => match events.push(value) {
-            Ok(()) => Ok(()),
-            Err(_) => Err(NoMemory),
-        },
-    }
-}
-
 // The events that the lines spell.
-fn events(alloc: Global) -> Result<Vec<Event<Any>>, Fail> {
+fn events(rt: &impl Abort, alloc: Global) -> Vec<Event<Any>> {
     let mut events = Vec::new(alloc);
-    for line in LINES {
-        match parse_event(line) {
-            Some(event) => add(&mut events, event)?,
-            None => return Err("no event".into()),
-        }
+    for line in &LINES {
+        add(rt, &mut events, parse_event(line).expect(rt, "no event"));
     }
-    Ok(events)
+    events
 }
 
 // Puts the line of a reply, that of a list by the call for such lists alone.
@@ -67,29 +53,27 @@ fn put(reply: &Reply, text: &mut Vec<u8>) -> Result<(), SinkFailed> {
     }
 }
 
-// What a mux answers to these events in one list, as a text of lines; none where memory is refused.
-fn answers(alloc: Global, events: &[Event<Any>]) -> Option<Vec<u8>> {
-    let mut mux: Mux<Any, AnyTraffic> = Mux::new(alloc).ok()?;
-    let replies = mux.run(alloc, events).ok()?;
-    let mut text = Vec::new(alloc);
-    for reply in &replies {
-        put(reply, &mut text).ok()?;
+// The text of the lines of these replies.
+fn lines_of(rt: &impl Abort, alloc: Global, replies: &[Reply]) -> Vec<u8> {
+    let mut lines = text(rt, alloc, 300);
+    for reply in replies {
+        assert!(rt; put(reply, &mut lines).is_ok());
     }
-    Some(text)
+    lines
 }
 
-// Whether they are the replies.
-fn are_answered(alloc: Global, events: &[Event<Any>]) -> bool {
-    match answers(alloc, events) {
-        Some(text) => text.as_slice() == REPLIES,
-        None => false,
+// Whether a mux answers these events in one list by the replies. It may not where memory is refused.
+fn are_answered(rt: &impl Abort, alloc: Global, events: &[Event<Any>]) -> bool {
+    let mut mux: Mux<Any, AnyTraffic> = Mux::new(alloc).expect(rt, "no mux");
+    match mux.run(alloc, events) {
+        Ok(replies) => lines_of(rt, alloc, &replies).as_slice() == REPLIES,
+        Err(_) => false,
     }
 }
 
 #[test]
-fn a_list_of_events_is_answered_as_its_lines_are(rt: HostRuntime) -> Result<(), Fail> {
+fn a_list_of_events_is_answered_as_its_lines_are(rt: HostRuntime) {
     let alloc = rt.alloc();
-    let events = events(alloc)?;
-    assert!(rt; are_answered(alloc, &events) || are_answered(alloc, &events));
-    Ok(())
+    let events = events(&rt, alloc);
+    assert!(rt; are_answered(&rt, alloc, &events) || are_answered(&rt, alloc, &events));
 }

@@ -10,6 +10,8 @@ mod ends;
 #[cfg(test)]
 mod events;
 #[cfg(test)]
+mod memory;
+#[cfg(test)]
 mod page;
 #[cfg(test)]
 mod parsing;

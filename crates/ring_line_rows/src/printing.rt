@@ -1,7 +1,9 @@
+use crate::memory::text;
 use ring_grammar::{Sink, SinkFailed, print_reply};
 use ring_id::Refusal;
 use ring_mux::{Count, Reply};
 use std::alloc::Global;
+use std::process::Abort;
 
 // A list of bytes that takes so many pieces and no more.
 #[derive(Drop)]
@@ -31,16 +33,10 @@ impl Sink for Pieces {
     }
 }
 
-// Whether a reply is printed so; printed again where memory is refused.
-fn is_printed(alloc: Global, reply: &Reply, text: &[u8]) -> bool {
-    let mut out = Vec::new(alloc);
-    if print_reply(reply, &mut out).is_err() {
-        out.clear();
-        if print_reply(reply, &mut out).is_err() {
-            return false;
-        }
-    }
-    out.as_slice() == text
+// A reply is printed so.
+fn prints(rt: &impl Abort, alloc: Global, reply: Reply, wanted: &[u8]) {
+    let mut out = text(rt, alloc, 64);
+    assert!(rt; print_reply(&reply, &mut out).is_ok() && out.as_slice() == wanted);
 }
 
 // A drain that was refused memory.
@@ -56,24 +52,29 @@ fn starved(done: u32, left: u128) -> Reply {
 fn replies_that_no_schedule_gets(rt: HostRuntime) {
     let alloc = rt.alloc();
     let text = b"pending 340282366920938463463374607431768211455\n";
-    assert!(rt; is_printed(alloc, &Reply::Pending(Count::new(u128::MAX)), text));
+    prints(&rt, alloc, Reply::Pending(Count::new(u128::MAX)), text);
     let text = b"drained 0 left 3 no-memory\n";
-    assert!(rt; is_printed(alloc, &starved(0, 3), text));
+    prints(&rt, alloc, starved(0, 3), text);
     let text = b"no no-memory\n";
-    assert!(rt; is_printed(alloc, &Reply::Refused(Refusal::NoMemory), text));
+    prints(&rt, alloc, Reply::Refused(Refusal::NoMemory), text);
     let text = b"no seat-spent\n";
-    assert!(rt; is_printed(alloc, &Reply::Refused(Refusal::SeatSpent), text));
+    prints(&rt, alloc, Reply::Refused(Refusal::SeatSpent), text);
+}
+
+// A sink that takes so many pieces of a reply has a front of it then.
+fn has_front(rt: &impl Abort, alloc: Global, reply: &Reply, room: usize) {
+    let mut out = Pieces {
+        bytes: Vec::new(alloc),
+        room,
+    };
+    assert!(rt; print_reply(reply, &mut out) == Err(SinkFailed));
+    assert!(rt; b"drained 0 left 3 no-memory".starts_with(&out.bytes));
 }
 
 #[test]
 fn a_failed_sink_leaves_a_front(rt: HostRuntime) {
     let reply = starved(0, 3);
     for room in 0..6 {
-        let mut out = Pieces {
-            bytes: Vec::new(rt.alloc()),
-            room,
-        };
-        assert!(rt; print_reply(&reply, &mut out) == Err(SinkFailed));
-        assert!(rt; b"drained 0 left 3 no-memory".starts_with(&out.bytes));
+        has_front(&rt, rt.alloc(), &reply, room);
     }
 }

@@ -1,6 +1,7 @@
+use crate::memory::{TWICE, text};
 use ring_grammar::{Sink, SinkFailed};
 use ring_lines::{Answerer, Intake, Outlet, Queued, ReadFault, Spell, WriteFailed, answer_lines};
-use std::alloc::{AllocError, Global};
+use std::alloc::Global;
 use std::cell::RefCell;
 use std::process::Abort;
 use std::sync::{Mutex, Wait};
@@ -135,32 +136,53 @@ impl Outlet for Taking<'_> {
     }
 }
 
-// Whether these marks are noted while the lines of these pieces are answered by a text of so many bytes.
-fn notes<R: Wait + AllocGlobal>(
+// So many zeros.
+fn zeros(rt: &impl Abort, alloc: Global, len: usize) -> Vec<u8> {
+    match vec![in alloc; 0; len] {
+        Ok(zeros) => zeros,
+        Err(_) => vec![in alloc; 0; len].expect(rt, TWICE),
+    }
+}
+
+// Whether the lines of these pieces are answered by this text.
+fn are_answered<'a, R: Wait + AllocGlobal>(
+    rt: &'a R,
+    watched: &'a Watched,
+    pieces: &'a [&'a [u8]],
+    text: &'a [u8],
+) -> bool {
+    let queueing = Queueing { rt, watched, text };
+    let mut reader = Pieces {
+        watched,
+        pieces,
+        next: 0,
+    };
+    let mut writer = Taking { watched };
+    answer_lines(
+        rt.alloc(),
+        &queueing,
+        &mut (),
+        &mut reader,
+        &mut writer,
+        100,
+    )
+    .is_ok()
+}
+
+// Whether these marks are noted while the lines of these pieces are answered by a text of so many bytes. They may not be
+// where memory is refused.
+fn notes<R: Wait + Abort + AllocGlobal>(
     rt: &R,
     pieces: &[&[u8]],
     len: usize,
     wanted: &[u8],
-) -> Result<bool, AllocError> {
-    let alloc = rt.alloc();
-    let text = vec![in alloc; 0; len]?;
+) -> bool {
+    let zeros = zeros(rt, rt.alloc(), len);
     let watched = Watched {
         door: Mutex::new(()),
-        log: RefCell::new(Vec::with_capacity(alloc, 210)?),
+        log: RefCell::new(text(rt, rt.alloc(), 210)),
     };
-    let queueing = Queueing {
-        rt,
-        watched: &watched,
-        text: &text,
-    };
-    let mut reader = Pieces {
-        watched: &watched,
-        pieces,
-        next: 0,
-    };
-    let mut writer = Taking { watched: &watched };
-    let answered = answer_lines(alloc, &queueing, &mut (), &mut reader, &mut writer, 100);
-    Ok(answered.is_ok() && watched.log.into_inner().as_slice() == wanted)
+    are_answered(rt, &watched, pieces, &zeros) && watched.log.into_inner().as_slice() == wanted
 }
 
 // The same, tried again where memory is refused.
@@ -170,8 +192,7 @@ fn assert_notes<R: Wait + Abort + AllocGlobal>(
     len: usize,
     wanted: &[u8],
 ) {
-    let first = notes(rt, pieces, len, wanted);
-    assert!(rt; first == Ok(true) || notes(rt, pieces, len, wanted) == Ok(true));
+    assert!(rt; notes(rt, pieces, len, wanted) || notes(rt, pieces, len, wanted));
 }
 
 #[test]

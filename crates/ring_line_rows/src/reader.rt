@@ -1,9 +1,9 @@
+use crate::memory::TWICE;
 use ring_lines::{DripIn, FromRead, Intake, LineFault, LineReader, Next};
-use std::alloc::{AllocError, Global};
+use std::alloc::{AllocFailed, Global};
 use std::io;
 use std::io::{ErrorKind, Read};
 use std::process::Abort;
-use std::test::Fail;
 
 // A reader over memory that is interrupted at every other call.
 #[derive(Drop)]
@@ -24,13 +24,17 @@ impl Read for Stutter<'_> {
 
 // The lines of a reader; asked for again where memory is refused, with the reader that came back.
 fn lines_of<R: Intake + Drop>(
+    rt: &impl Abort,
     alloc: Global,
     reader: R,
     reads: u32,
-) -> Result<LineReader<R>, AllocError> {
+) -> LineReader<R> {
     match LineReader::new(alloc, reader, reads) {
-        Ok(lines) => Ok(lines),
-        Err(refused) => Ok(LineReader::new(alloc, refused.value, reads)?),
+        Ok(lines) => lines,
+        Err(AllocFailed { value }) => {
+            let again = LineReader::new(alloc, value, reads).ok();
+            again.expect(rt, TWICE)
+        }
     }
 }
 
@@ -59,14 +63,13 @@ fn is_read<R: Intake + Drop>(
     reader: R,
     reads: u32,
     answers: &[&[u8]],
-) -> Result<(), AllocError> {
-    let mut lines = lines_of(rt.alloc(), reader, reads)?;
+) {
+    let mut lines = lines_of(rt, rt.alloc(), reader, reads);
     gives(rt, &mut lines, answers);
-    Ok(())
 }
 
 #[test]
-fn an_end_needs_no_lf_and_adds_no_line(rt: HostRuntime) -> Result<(), Fail> {
+fn an_end_needs_no_lf_and_adds_no_line(rt: HostRuntime) {
     let unended = DripIn::new(b"create a chang\njoin a 3", 0);
     let answers = [
         b"create a chang".as_slice(),
@@ -74,29 +77,27 @@ fn an_end_needs_no_lf_and_adds_no_line(rt: HostRuntime) -> Result<(), Fail> {
         b"<end>",
         b"<end>",
     ];
-    is_read(&rt, unended, 1000, &answers)?;
-    is_read(&rt, DripIn::new(b"", 0), 1000, &[b"<end>"])?;
+    is_read(&rt, unended, 1000, &answers);
+    is_read(&rt, DripIn::new(b"", 0), 1000, &[b"<end>"]);
     let ended = FromRead(b"a\n\nb\n".as_slice());
-    is_read(&rt, ended, 1000, &[b"a", b"", b"b", b"<end>"])?;
-    Ok(())
+    is_read(&rt, ended, 1000, &[b"a", b"", b"b", b"<end>"]);
 }
 
 #[test]
-fn a_line_is_held_once_it_was_read(rt: HostRuntime) -> Result<(), Fail> {
-    let mut lines = lines_of(rt.alloc(), FromRead(b"a\n\nb\n".as_slice()), 1000)?;
+fn a_line_is_held_once_it_was_read(rt: HostRuntime) {
+    let mut lines = lines_of(&rt, rt.alloc(), FromRead(b"a\n\nb\n".as_slice()), 1000);
     assert!(rt; !lines.has_line());
     gives(&rt, &mut lines, &[b"a"]);
     assert!(rt; lines.has_line());
     gives(&rt, &mut lines, &[b"", b"b"]);
     assert!(rt; !lines.has_line());
-    Ok(())
 }
 
 #[test]
-fn a_longer_line_than_128_bytes_is_answered_once(rt: HostRuntime) -> Result<(), Fail> {
+fn a_longer_line_than_128_bytes_is_answered_once(rt: HostRuntime) {
     let text = [b'x'; 129];
-    is_read(&rt, FromRead(&text[..128]), 1000, &[&text[..128], b"<end>"])?;
-    is_read(&rt, FromRead(text.as_slice()), 1000, &[b"<long>", b"<end>"])?;
+    is_read(&rt, FromRead(&text[..128]), 1000, &[&text[..128], b"<end>"]);
+    is_read(&rt, FromRead(text.as_slice()), 1000, &[b"<long>", b"<end>"]);
     let long = io::repeat(b'x').take(100000);
     let text = b"a\n".as_slice().chain(long).chain(b"\nb\n".as_slice());
     is_read(
@@ -104,12 +105,11 @@ fn a_longer_line_than_128_bytes_is_answered_once(rt: HostRuntime) -> Result<(), 
         FromRead(text),
         1000,
         &[b"a", b"<long>", b"b", b"<end>"],
-    )?;
-    Ok(())
+    );
 }
 
 #[test]
-fn a_failed_read_drops_the_line_that_it_cuts(rt: HostRuntime) -> Result<(), Fail> {
+fn a_failed_read_drops_the_line_that_it_cuts(rt: HostRuntime) {
     let text = b"create a chang\njoin a 3\njoi".as_slice();
     let answers = [
         b"create a chang".as_slice(),
@@ -117,9 +117,8 @@ fn a_failed_read_drops_the_line_that_it_cuts(rt: HostRuntime) -> Result<(), Fail
         b"<read>",
         b"<read>",
     ];
-    is_read(&rt, DripIn::new(text, 28), 1000, &answers)?;
-    is_read(&rt, FromRead(DripIn::new(text, 28)), 1000, &answers)?;
-    Ok(())
+    is_read(&rt, DripIn::new(text, 28), 1000, &answers);
+    is_read(&rt, FromRead(DripIn::new(text, 28)), 1000, &answers);
 }
 
 // A reader that is interrupted at the first call, and at every other call then.
@@ -131,13 +130,12 @@ fn stuttering() -> FromRead<Stutter<'static>> {
 }
 
 #[test]
-fn read_calls_are_counted(rt: HostRuntime) -> Result<(), Fail> {
+fn read_calls_are_counted(rt: HostRuntime) {
     let text = b"create a chang\n".as_slice();
     let endless = [b"create a chang".as_slice(), b"<endless>", b"<endless>"];
-    is_read(&rt, DripIn::new(text, 0), 15, &endless)?;
+    is_read(&rt, DripIn::new(text, 0), 15, &endless);
     let ended = [b"create a chang".as_slice(), b"<end>", b"<end>"];
-    is_read(&rt, DripIn::new(text, 0), 16, &ended)?;
-    is_read(&rt, stuttering(), 5, &[b"a", b"<endless>"])?;
-    is_read(&rt, stuttering(), 6, &[b"a", b"<end>"])?;
-    Ok(())
+    is_read(&rt, DripIn::new(text, 0), 16, &ended);
+    is_read(&rt, stuttering(), 5, &[b"a", b"<endless>"]);
+    is_read(&rt, stuttering(), 6, &[b"a", b"<end>"]);
 }

@@ -1,8 +1,8 @@
-use ring_lines::{DripIn, DripOut, FromRead, LineFault, ToWrite};
+use crate::memory::drip_out;
+use ring_lines::{DripIn, FromRead, LineFault, ToWrite};
 use ring_schedule::replay;
-use std::alloc::{AllocError, Global};
+use std::alloc::Global;
 use std::process::Abort;
-use std::test::Fail;
 
 // A group, its term, and its leader.
 const LINES: &[u8] =
@@ -29,20 +29,22 @@ fn whole(input: &[u8]) -> Given<'_> {
 }
 
 // Whether a replay comes to this answer and writes these bytes; the same where its ends are a reader and a writer of std.
+// It may not where memory is refused.
 fn comes(
+    rt: &impl Abort,
     alloc: Global,
     given: Given,
     answer: Result<u64, LineFault>,
     written: &[u8],
-) -> Result<bool, AllocError> {
+) -> bool {
     let mut reader = DripIn::new(given.input, given.read_fault);
-    let mut writer = DripOut::new(alloc, 100, given.write_fault)?;
+    let mut writer = drip_out(rt, alloc, 100, given.write_fault);
     let first = replay(alloc, &mut reader, &mut writer, given.reads);
     let mut reader = FromRead(DripIn::new(given.input, given.read_fault));
-    let mut by_std = ToWrite(DripOut::new(alloc, 100, given.write_fault)?);
+    let mut by_std = ToWrite(drip_out(rt, alloc, 100, given.write_fault));
     let second = replay(alloc, &mut reader, &mut by_std, given.reads);
     let answers = first == answer && second == answer;
-    Ok(answers && writer.taken() == written && by_std.0.taken() == written)
+    answers && writer.taken() == written && by_std.0.taken() == written
 }
 
 // The same, replayed again where memory is refused.
@@ -52,8 +54,10 @@ fn assert_comes(
     answer: Result<u64, LineFault>,
     written: &[u8],
 ) {
-    let first = comes(rt.alloc(), given, answer, written);
-    assert!(rt; first == Ok(true) || comes(rt.alloc(), given, answer, written) == Ok(true));
+    let alloc = rt.alloc();
+    assert!(rt;
+        comes(rt, alloc, given, answer, written) || comes(rt, alloc, given, answer, written)
+    );
 }
 
 // The first bytes of a text.

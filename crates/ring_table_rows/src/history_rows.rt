@@ -4,14 +4,23 @@ use ring_any::Any;
 use ring_events::{Command, Reply};
 use ring_id::{GroupName, Refusal};
 use ring_table::{Entry, History, Table};
-use std::test::Fail;
+use std::ops::Range;
+use std::process::Abort;
 
-// Makes a call of this session, which is refused since there are no groups. Says whether it was.
-fn is_refused(table: &mut Table<Any>, session: u32, group: GroupName) -> bool {
-    matches!(
-        table.call(session, Command::Members(group)),
-        Reply::Refused(Refusal::NoGroup)
-    )
+// Whether a call was refused since there are no groups.
+fn is_refused(reply: &Reply) -> bool {
+    match reply {
+        Reply::Refused(refusal) => *refusal == Refusal::NoGroup,
+        _ => false,
+    }
+}
+
+// Makes a call of each of these sessions, which is refused since there are no groups.
+fn ask(rt: &impl Abort, table: &mut Table<Any>, group: GroupName, sessions: Range<u32>) {
+    for session in sessions {
+        let reply = table.call(session, Command::Members(group));
+        assert!(rt; is_refused(&reply));
+    }
 }
 
 // Whether an entry is a call of this session.
@@ -36,19 +45,13 @@ fn has_calls(history: &History<Any>, count: u32) -> bool {
 }
 
 #[test]
-fn entries_stand_in_order_over_several_chunks(rt: HostRuntime) -> Result<(), Fail> {
-    let group = GroupName::from_bytes(b"a").map_err(|_| "no name")?;
+fn entries_stand_in_order_over_several_chunks(rt: HostRuntime) {
+    let group = GroupName::from_bytes(b"a").expect(&rt, "no name");
     let mut table = Table::new(rt.alloc());
     assert!(rt; table.history().is_empty() && table.history().last().is_none());
-    for session in 1..10_001_u32 {
-        assert!(rt; is_refused(&mut table, session, group));
-        if session == 8192 {
-            assert!(rt;
-                table.history().get(8192).is_none(),
-                "a full chunk ends the history"
-            );
-        }
-    }
+    ask(&rt, &mut table, group, 1..8193);
+    // a full chunk ends the history
+    assert!(rt; table.history().get(8192).is_none());
+    ask(&rt, &mut table, group, 8193..10_001);
     assert!(rt; has_calls(table.history(), 10_000) && is_call(table.history().last(), 10_000));
-    Ok(())
 }

@@ -1,39 +1,64 @@
-//! What the rows of tables and of seats share: how something is spelled, and the election of a ring of one member.
+//! What the rows of tables and of seats share: how something is spelled, and the election of a ring of one member. What
+//! is refused memory is asked for once more; whatever else goes wrong stops the test where it does.
 
 use ring_any::Any;
-use ring_id::Side;
+use ring_id::{NoMemory, Side};
 use ring_lines::Spell;
-use ring_node::{Charter, Node};
+use ring_node::{Charter, Node, Report, TakeFault};
 use std::alloc::Global;
+use std::process::Abort;
 use std::sync::Arc;
 
-/// Says whether a reply or an answer is spelled by this line. None where it is not, and where memory is refused.
-pub fn spells<S: Spell>(alloc: Global, told: &S, line: &[u8]) -> Option<()> {
-    let Ok(mut text) = Vec::with_capacity(alloc, 64) else {
-        return None;
-    };
-    let Ok(()) = told.spell(&mut text) else {
-        return None;
-    };
-    if text.as_slice() == line {
-        Some(())
-    } else {
-        None
+/// What a test says that stops where memory was refused twice.
+pub const TWICE: &str = "memory was refused twice";
+
+/// Room for a line.
+fn room(rt: &impl Abort, alloc: Global) -> Vec<u8> {
+    match Vec::with_capacity(alloc, 64) {
+        Ok(text) => text,
+        Err(_) => Vec::with_capacity(alloc, 64).expect(rt, TWICE),
     }
 }
 
-/// The node of the one member of a charter's ring, once it knows that it leads. None where there are more, and where
-/// memory is refused.
-pub fn elect(alloc: Global, charter: &Arc<Charter<Any>>) -> Option<Node<Any>> {
-    if charter.roster().len() != 1 {
-        return None;
+/// Whether a reply or an answer is spelled by this line.
+pub fn is_spelled<S: Spell>(rt: &impl Abort, alloc: Global, told: &S, line: &[u8]) -> bool {
+    let mut text = room(rt, alloc);
+    told.spell(&mut text).is_ok() && text.as_slice() == line
+}
+
+/// The node of the one member of a charter's ring, which has received nothing.
+fn seated_once(
+    rt: &impl Abort,
+    alloc: Global,
+    charter: &Arc<Charter<Any>>,
+) -> Result<Node<Any>, NoMemory> {
+    assert!(rt; charter.roster().len() == 1);
+    Node::seat(alloc, Arc::try_clone(charter).expect(rt, "no copy"), 0)
+}
+
+/// The same, asked for once more where memory was refused.
+fn seated(rt: &impl Abort, alloc: Global, charter: &Arc<Charter<Any>>) -> Node<Any> {
+    match seated_once(rt, alloc, charter) {
+        Ok(node) => node,
+        Err(NoMemory) => seated_once(rt, alloc, charter).expect(rt, TWICE),
     }
-    let Ok(mut node) = Node::seat(alloc, Arc::try_clone(charter).ok()?, 0) else {
-        return None;
+}
+
+/// The node of the one member of a charter's ring, once it knows that it leads.
+pub fn elect(rt: &impl Abort, alloc: Global, charter: &Arc<Charter<Any>>) -> Node<Any> {
+    let mut node = seated(rt, alloc, charter);
+    let copy = Arc::try_clone(node.charter()).expect(rt, "no copy");
+    let envelope = node.envelope(copy, Side::Right, 0);
+    let taken = match node.take(envelope.expect(rt, "nothing was sent")) {
+        Err((TakeFault::NoMemory, back)) => node.take(back),
+        taken => taken,
     };
-    let envelope = node.envelope(Arc::try_clone(charter).ok()?, Side::Right, 0)?;
-    let Ok(Some(_)) = node.take(envelope) else {
-        return None;
-    };
-    Some(node)
+    assert!(rt; matches!(taken, Ok(Some(_))));
+    node
+}
+
+/// What a node tells that knows the leader.
+pub fn told_by(rt: &impl Abort, node: &Node<Any>) -> Report<Any> {
+    let copy = Arc::try_clone(node.charter()).expect(rt, "no copy");
+    node.report(copy).expect(rt, "it knows no leader")
 }

@@ -1,22 +1,25 @@
-//! Rows of one seat, by a turn lock and by a locked table: which places its calls get, and how many turns it has.
+//! Rows of one seat, by a turn lock and by a locked table: which places its calls get, and how many turns it has. What
+//! is refused memory is asked for once more.
 ghost use Rattle.std.specs.Prelude.{◌≡◌, ◌*◌, ◌^◌, ◌<◌};
 
-use crate::rings_of_one::{elect, spells};
+use crate::rings_of_one::{TWICE, elect, is_spelled, told_by};
 use ring_any::Any;
-use ring_id::GroupName;
+use ring_id::{GroupName, NoMemory, Refusal};
 use ring_lines::parse_command;
 use ring_node::{Charter, Report};
-use ring_table::{Access, Filed, LockedTable, Table};
+use ring_table::{Access, Answer, Filed, LockedTable, Table};
 use ring_turn::TurnLock;
 use std::alloc::Global;
 use std::marker::Model;
+use std::process::Abort;
 use std::sync::{Arc, Wait};
 
-/// An access to a table that had no groups, and a seat of it.
+/// An access to a table that had no groups, a seat of it, and whether a call was made once more by that seat.
 #[derive(Drop)]
 struct Bench<A: Access<Any> + Drop> {
     access: A,
     seat: A::Seat,
+    again: bool,
 }
 
 impl<A: Access<Any> + Drop> Model for Bench<A> {
@@ -28,119 +31,171 @@ impl<A: Access<Any> + Drop> Model for Bench<A> {
 }
 
 impl<A: Access<Any> + Drop> Bench<A> {
-    // Says whether a line of a session is answered so, with its place. None where it is not, here and below also where
-    // memory is refused.
-    fn tells<R: Wait>(
+    // What is answered to a line of a session.
+    fn ask<R: Wait + Abort>(&mut self, rt: &R, session: u32, line: &[u8]) -> Answer {
+        let command = parse_command(line).expect(rt, "no command");
+        self.access.call(rt, &mut self.seat, session, command)
+    }
+
+    // A line of a session is answered so, with its place.
+    fn tells<R: Wait + Abort>(
         &mut self,
         rt: &R,
         alloc: Global,
         session: u32,
         line: &[u8],
         told: &[u8],
-    ) -> Option<()> {
-        let answer = self
-            .access
-            .call(rt, &mut self.seat, session, parse_command(line)?);
-        spells(alloc, &answer, told)
+    ) {
+        let answer = match self.ask(rt, session, line) {
+            Answer::Unplaced(Refusal::NoMemory) => {
+                self.again = true;
+                self.ask(rt, session, line)
+            }
+            answer => answer,
+        };
+        assert!(rt; is_spelled(rt, alloc, &answer, told));
     }
 
-    // Whether a start of the group `a` is answered so, with its place: the charters.
-    fn starts<R: Wait>(
+    // Whether a line of session 1 is answered so, with its place, where it is asked once.
+    fn is_told<R: Wait + Abort>(
+        &mut self,
+        rt: &R,
+        alloc: Global,
+        line: &[u8],
+        told: &[u8],
+    ) -> bool {
+        is_spelled(rt, alloc, &self.ask(rt, 1, line), told)
+    }
+
+    // A start of the group `a` is answered so, with its place: the charters.
+    fn starts<R: Wait + Abort>(
         &mut self,
         rt: &R,
         alloc: Global,
         told: &[u8],
-    ) -> Option<Vec<Arc<Charter<Any>>>> {
-        let group = GroupName::from_bytes(b"a").ok()?;
-        let (answer, charters) = self.access.begin(rt, &mut self.seat, 1, group, 1);
-        spells(alloc, &answer, told)?;
-        Some(charters)
+    ) -> Vec<Arc<Charter<Any>>> {
+        let group = GroupName::from_bytes(b"a").expect(rt, "no name");
+        let (answer, charters) = match self.access.begin(rt, &mut self.seat, 1, group, 1) {
+            (Answer::Unplaced(Refusal::NoMemory), _) => {
+                self.again = true;
+                self.access.begin(rt, &mut self.seat, 1, group, 1)
+            }
+            started => started,
+        };
+        assert!(rt; is_spelled(rt, alloc, &answer, told));
+        charters
     }
 
-    // What becomes of a report.
-    fn files<R: Wait>(&mut self, rt: &R, report: &Report<Any>) -> Filed {
-        self.access.report(rt, &mut self.seat, report)
+    // This becomes of a report.
+    fn files<R: Wait + Abort>(&mut self, rt: &R, report: &Report<Any>, became: Filed) {
+        let filed = match self.access.report(rt, &mut self.seat, report) {
+            Filed::Refused(Refusal::NoMemory) => {
+                self.again = true;
+                self.access.report(rt, &mut self.seat, report)
+            }
+            filed => filed,
+        };
+        assert!(rt; filed == became);
     }
 }
 
 // Starts a term of one member after a start that is refused and has no charter: the report that it comes to.
-fn begin<R: Wait, A: Access<Any> + Drop>(
+fn begin<R: Wait + Abort, A: Access<Any> + Drop>(
     rt: &R,
     alloc: Global,
     bench: &mut Bench<A>,
-) -> Option<Report<Any>> {
-    let none = bench.starts(rt, alloc, b"1 no no-group\n")?;
-    bench.tells(rt, alloc, 1, b"create a chang", b"2 ok\n")?;
-    bench.tells(rt, alloc, 1, b"join a 7", b"3 ok\n")?;
-    let one = bench.starts(rt, alloc, b"4 term 1\n")?;
-    if !none.is_empty() || one.len() != 1 {
-        return None;
-    }
-    let node = elect(alloc, one.first()?)?;
-    node.report(Arc::try_clone(node.charter()).ok()?)
+) -> Report<Any> {
+    assert!(rt; bench.starts(rt, alloc, b"1 no no-group\n").is_empty());
+    bench.tells(rt, alloc, 1, b"create a chang", b"2 ok\n");
+    bench.tells(rt, alloc, 1, b"join a 7", b"3 ok\n");
+    let one = bench.starts(rt, alloc, b"4 term 1\n");
+    assert!(rt; one.len() == 1);
+    told_by(rt, &elect(rt, alloc, &one[0]))
 }
 
-// The row of ten calls, of which each is an entry at its place. None where one is answered otherwise.
-fn row<R: Wait, A: Access<Any> + Drop>(rt: &R, alloc: Global, mut bench: Bench<A>) -> Option<()> {
-    let report = begin(rt, alloc, &mut bench)?;
-    if bench.files(rt, &report) != Filed::Noted || bench.files(rt, &report) != Filed::Known {
-        return None;
-    }
-    bench.tells(rt, alloc, 2, b"who a 7", b"7 leader 1 7\n")?;
-    bench.tells(rt, alloc, 1, b"start a", b"8 term 2\n")?;
-    if bench.files(rt, &report) != Filed::Stale {
-        return None;
-    }
-    bench.tells(rt, alloc, 1, b"groups", b"10 groups a\n")
+// The row of ten calls, of which each is an entry at its place: the seat after it, and whether a call was made once more.
+fn row<R: Wait + Abort, A: Access<Any> + Drop>(
+    rt: &R,
+    alloc: Global,
+    mut bench: Bench<A>,
+) -> (A::Seat, bool) {
+    let report = begin(rt, alloc, &mut bench);
+    bench.files(rt, &report, Filed::Noted);
+    bench.files(rt, &report, Filed::Known);
+    bench.tells(rt, alloc, 2, b"who a 7", b"7 leader 1 7\n");
+    bench.tells(rt, alloc, 1, b"start a", b"8 term 2\n");
+    bench.files(rt, &report, Filed::Stale);
+    bench.tells(rt, alloc, 1, b"groups", b"10 groups a\n");
+    (bench.seat, bench.again)
 }
 
 // A turn lock with one seat, which has so many turns.
-fn in_turn(alloc: Global, turns: u64) -> Option<Bench<TurnLock<Any>>>
+fn opened_in_turn(
+    rt: &impl Abort,
+    alloc: Global,
+    turns: u64,
+) -> Result<Bench<TurnLock<Any>>, NoMemory>
     requires { (0 < turns) × (turns < 2 ^ 64) }
 {
     let Ok((access, mut seats)) = TurnLock::new(alloc, Table::new(alloc), 1, turns) else {
-        return None;
+        return Err(NoMemory);
     };
-    let seat = seats.pop()?;
-    let bench = Bench { access, seat };
-    Some(bench)
+    let seat = seats.pop().expect(rt, "no seat");
+    let bench = Bench {
+        access,
+        seat,
+        again: false,
+    };
+    Ok(bench)
+}
+
+// The same, asked for once more where memory was refused.
+fn in_turn(rt: &impl Abort, alloc: Global, turns: u64) -> Bench<TurnLock<Any>>
+    requires { (0 < turns) × (turns < 2 ^ 64) }
+{
+    match opened_in_turn(rt, alloc, turns) {
+        Ok(bench) => bench,
+        Err(NoMemory) => opened_in_turn(rt, alloc, turns).expect(rt, TWICE),
+    }
 }
 
 // A locked table with one seat.
-fn under_lock(alloc: Global) -> Option<Bench<LockedTable<Any>>> {
-    let Ok((access, mut seats)) = LockedTable::new(alloc, Table::new(alloc), 1) else {
-        return None;
+fn under_lock(rt: &impl Abort, alloc: Global) -> Bench<LockedTable<Any>> {
+    let (access, mut seats) = match LockedTable::new(alloc, Table::new(alloc), 1) {
+        Ok(made) => made,
+        Err(NoMemory) => LockedTable::new(alloc, Table::new(alloc), 1).expect(rt, TWICE),
     };
-    let seat = seats.pop()?;
-    Some(Bench { access, seat })
-}
-
-// The row by both.
-fn both<R: Wait>(rt: &R, alloc: Global) -> Option<()> {
-    row(rt, alloc, in_turn(alloc, 10)?)?;
-    row(rt, alloc, under_lock(alloc)?)
+    let seat = seats.pop().expect(rt, "no seat");
+    Bench {
+        access,
+        seat,
+        again: false,
+    }
 }
 
 #[test]
 fn each_entry_has_its_place(rt: HostRuntime) {
     let alloc = rt.alloc();
-    assert!(rt; both(&rt, alloc).is_some() || both(&rt, alloc).is_some());
+    // a call that is refused memory uses a turn: the one behind the ten
+    let (seat, again) = row(&rt, alloc, in_turn(&rt, alloc, 11));
+    assert!(rt; seat.is_spent() == again);
+    row(&rt, alloc, under_lock(&rt, alloc));
 }
 
-// The row of a seat with two turns, of which each call uses one. None where it has others, or memory is refused.
-fn two_turns<R: Wait>(rt: &R, alloc: Global) -> Option<()> {
-    let mut bench = in_turn(alloc, 2)?;
-    bench.tells(rt, alloc, 1, b"create a chang", b"1 ok\n")?;
+// Whether a seat with two turns has them, of which each call uses one. It hasn't where a call was refused memory, which
+// uses one too.
+fn has_two_turns<R: Wait + Abort>(rt: &R, alloc: Global) -> bool {
+    let mut bench = in_turn(rt, alloc, 2);
+    let created = bench.is_told(rt, alloc, b"create a chang", b"1 ok\n");
     let early = bench.seat.is_spent();
-    bench.tells(rt, alloc, 1, b"join a 5", b"2 ok\n")?;
-    if early || !bench.seat.is_spent() {
-        return None;
-    }
-    bench.tells(rt, alloc, 1, b"members a", b"- no seat-spent\n")
+    let joined = bench.is_told(rt, alloc, b"join a 5", b"2 ok\n");
+    let spent = bench.seat.is_spent();
+    let refused = bench.is_told(rt, alloc, b"members a", b"- no seat-spent\n");
+    created & joined & refused & spent & !early
 }
 
 #[test]
 fn a_seat_has_as_many_turns_as_it_was_given(rt: HostRuntime) {
     let alloc = rt.alloc();
-    assert!(rt; two_turns(&rt, alloc).is_some() || two_turns(&rt, alloc).is_some());
+    assert!(rt; has_two_turns(&rt, alloc) || has_two_turns(&rt, alloc));
 }

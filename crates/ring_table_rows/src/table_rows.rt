@@ -1,41 +1,64 @@
-//! Rows of a table that one caller has alone: its calls, its reports, and what it files at the end.
+//! Rows of a table that one caller has alone: its calls, its reports, and what it files at the end. What is refused
+//! memory is asked for once more.
 
-use crate::rings_of_one::{elect, spells};
+use crate::rings_of_one::{elect, is_spelled, told_by};
 use ring_any::Any;
-use ring_id::GroupName;
+use ring_events::Reply;
+use ring_id::{GroupName, Refusal};
 use ring_lines::parse_command;
-use ring_node::Node;
+use ring_node::{Charter, Node, Report};
 use ring_table::{Entry, Filed, Table};
 use ring_terms::Noting;
 use std::alloc::Global;
+use std::process::Abort;
 use std::slice;
 use std::sync::Arc;
 
-// Says whether a line of a session is answered so. None where it is not, here and below also where memory is refused.
+// What is answered to a line of a session.
+fn ask(rt: &impl Abort, table: &mut Table<Any>, session: u32, line: &[u8]) -> Reply {
+    table.call(session, parse_command(line).expect(rt, "no command"))
+}
+
+// A line of a session is answered so.
 fn tells(
+    rt: &impl Abort,
     alloc: Global,
     table: &mut Table<Any>,
     session: u32,
     line: &[u8],
     reply: &[u8],
-) -> Option<()> {
-    spells(alloc, &table.call(session, parse_command(line)?), reply)
+) {
+    let told = match ask(rt, table, session, line) {
+        Reply::Refused(Refusal::NoMemory) => ask(rt, table, session, line),
+        told => told,
+    };
+    assert!(rt; is_spelled(rt, alloc, &told, reply));
 }
 
-// Starts the term of one member, with two copies of its charter, after a start that is refused and has none: the node
-// that it elects.
-fn begin(alloc: Global, table: &mut Table<Any>) -> Option<Node<Any>> {
-    let group = GroupName::from_bytes(b"a").ok()?;
-    let (refused, none) = table.begin(1, group, 2);
-    spells(alloc, &refused, b"no no-group\n")?;
-    tells(alloc, table, 1, b"create a chang", b"ok\n")?;
-    tells(alloc, table, 1, b"join a 7", b"ok\n")?;
-    let (told, two) = table.begin(1, group, 2);
-    spells(alloc, &told, b"term 1\n")?;
-    if !none.is_empty() || two.len() != 2 {
-        return None;
-    }
-    elect(alloc, two.first()?)
+// A start of the group `a`, with two copies of the new term's charter, is answered so: the charters.
+fn starts(
+    rt: &impl Abort,
+    alloc: Global,
+    table: &mut Table<Any>,
+    reply: &[u8],
+) -> Vec<Arc<Charter<Any>>> {
+    let group = GroupName::from_bytes(b"a").expect(rt, "no name");
+    let (told, charters) = match table.begin(1, group, 2) {
+        (Reply::Refused(Refusal::NoMemory), _) => table.begin(1, group, 2),
+        started => started,
+    };
+    assert!(rt; is_spelled(rt, alloc, &told, reply));
+    charters
+}
+
+// Starts the term of one member after a start that is refused and has no charter: the node that it elects.
+fn begin(rt: &impl Abort, alloc: Global, table: &mut Table<Any>) -> Node<Any> {
+    assert!(rt; starts(rt, alloc, table, b"no no-group\n").is_empty());
+    tells(rt, alloc, table, 1, b"create a chang", b"ok\n");
+    tells(rt, alloc, table, 1, b"join a 7", b"ok\n");
+    let two = starts(rt, alloc, table, b"term 1\n");
+    assert!(rt; two.len() == 2);
+    elect(rt, alloc, &two[0])
 }
 
 // Whether the last entry is a filing that became this.
@@ -46,33 +69,32 @@ fn ends_with(table: &Table<Any>, became: Noting) -> bool {
     }
 }
 
-// Files what a node knows as news, as known and, after the start of another term, as stale: how many entries the table
-// has then.
-fn file(alloc: Global, table: &mut Table<Any>, node: &Node<Any>) -> Option<usize> {
-    let report = node.report(Arc::try_clone(node.charter()).ok()?)?;
-    let Ok(()) = table.finish(slice::from_ref(node)) else {
-        return None;
+// This becomes of a report.
+fn files(rt: &impl Abort, table: &mut Table<Any>, report: &Report<Any>, became: Filed) {
+    let filed = match table.report(report) {
+        Filed::Refused(Refusal::NoMemory) => table.report(report),
+        filed => filed,
     };
-    if !ends_with(table, Noting::Noted) || table.report(&report) != Filed::Known {
-        return None;
-    }
-    tells(alloc, table, 2, b"who a 7", b"leader 1 7\n")?;
-    tells(alloc, table, 1, b"start a", b"term 2\n")?;
-    if table.report(&report) != Filed::Stale {
-        return None;
-    }
-    Some(table.history().len())
+    assert!(rt; filed == became);
 }
 
-// How many entries a table has after all of that.
-fn entries(alloc: Global) -> Option<usize> {
-    let mut table = Table::new(alloc);
-    let node = begin(alloc, &mut table)?;
-    file(alloc, &mut table, &node)
+// Files what a node knows as news, as known and, after the start of another term, as stale.
+fn file(rt: &impl Abort, alloc: Global, table: &mut Table<Any>, node: &Node<Any>) {
+    let report = told_by(rt, node);
+    let all = slice::from_ref(node);
+    assert!(rt; table.finish(all).is_ok() || table.finish(all).is_ok());
+    assert!(rt; ends_with(table, Noting::Noted));
+    files(rt, table, &report, Filed::Known);
+    tells(rt, alloc, table, 2, b"who a 7", b"leader 1 7\n");
+    tells(rt, alloc, table, 1, b"start a", b"term 2\n");
+    files(rt, table, &report, Filed::Stale);
 }
 
 #[test]
 fn every_call_and_report_is_an_entry(rt: HostRuntime) {
     let alloc = rt.alloc();
-    assert!(rt; entries(alloc) == Some(9) || entries(alloc) == Some(9));
+    let mut table = Table::new(alloc);
+    let node = begin(&rt, alloc, &mut table);
+    file(&rt, alloc, &mut table, &node);
+    assert!(rt; table.history().len() == 9);
 }

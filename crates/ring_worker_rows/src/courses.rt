@@ -1,13 +1,17 @@
-//! Courses of one worker, in one thread: what comes to it, when it ends, and what it comes to.
+//! Courses of one worker, in one thread: what comes to it, when it ends, and what it comes to. What is refused memory
+//! outside the worker is asked for once more.
+ghost use Rattle.std.specs.Prelude.{◌<◌};
 
 use crate::gates::{Answers, EndGate, Until};
-use crate::rings::{Ring, charter, first_packet, store};
+use crate::rings::{Ring, TWICE, charter, first_packet, stores};
 use ring_election::RingElection;
 use ring_inbox::{ReceiverPass, SenderPass, inbox};
 use ring_node::Node;
-use ring_workers::{Filed, Gate, Handed, Item, OpenGate, Why, Worker, run_worker};
+use ring_workers::{Filed, Gate, Handed, Item, OpenGate, Rest, Why, Worker, run_worker};
 use ring_world::{Settlement, settle};
 use std::alloc::Global;
+use std::mem;
+use std::process::Abort;
 use std::sync::Wait;
 use std::time::Clock;
 
@@ -24,22 +28,22 @@ pub struct Course<'a> {
     pub filed: Filed,
 }
 
-/// Puts what comes to a worker into its inbox; none where memory was refused.
-fn filled<E: RingElection, R: Wait>(
+/// Puts what comes to a worker into its inbox.
+fn fill<E: RingElection, R: Abort + Wait>(
     rt: &R,
     alloc: Global,
     algorithm: E,
     course: &Course,
     to: &mut SenderPass<Item<E>>,
-) -> Option<()> {
+) {
     for ring in course.begins {
-        store(rt, to, Item::Begin(charter(alloc, algorithm, *ring)?))?;
+        let charter = charter(rt, alloc, algorithm, *ring);
+        assert!(rt; stores(rt, to, Item::Begin(charter)));
     }
     for ring in course.packets {
-        let charter = charter(alloc, algorithm, *ring)?;
-        store(rt, to, first_packet(alloc, &charter)?)?;
+        let charter = charter(rt, alloc, algorithm, *ring);
+        assert!(rt; stores(rt, to, first_packet(rt, alloc, charter)));
     }
-    Some(())
 }
 
 /// A worker's inbox, and its passes to the inboxes of all workers.
@@ -49,63 +53,80 @@ pub struct Place<E: RingElection> {
     pub senders: Vec<SenderPass<Item<E>>>,
 }
 
-/// Runs the worker of this number, one of as many as it has passes; none where there are no more than its number.
-pub fn worked<E: RingElection, R: Wait + Clock, G: Gate>(
+impl<E: RingElection> Place<E> {
+    /// An inbox of this capacity, and so many passes, all to itself. Asked for once more where memory was refused.
+    pub fn opened(rt: &impl Abort, alloc: Global, capacity: usize, senders: usize) -> Place<E>
+        requires capacity { 0 < capacity }
+        requires senders { 0 < senders }
+    {
+        let (receiver, senders) = match inbox::<Item<E>>(alloc, capacity, senders) {
+            Ok(opened) => opened,
+            Err(_) => inbox::<Item<E>>(alloc, capacity, senders).expect(rt, TWICE),
+        };
+        Place { receiver, senders }
+    }
+}
+
+/// Runs the worker of this number, one of as many as it has passes.
+pub fn worked<E: RingElection, R: Abort + Wait + Clock, G: Gate>(
     rt: &R,
     alloc: Global,
     number: usize,
-    place: Place<E>,
+    mut place: Place<E>,
     gate: &G,
     filed: Filed,
-) -> Option<Handed<E>> {
-    let Place {
-        mut receiver,
-        mut senders,
-    } = place;
-    let workers = senders.len();
-    if number >= workers {
-        return None;
-    }
+) -> Handed<E> {
+    let workers = place.senders.len();
+    assert!(rt; number < workers);
     let worker = Worker::new(alloc, number, workers);
-    Some(run_worker(
+    let handed = run_worker(
         rt,
         worker,
-        &mut receiver,
-        &mut senders,
+        &mut place.receiver,
+        &mut place.senders,
         gate,
         Answers(filed),
-    ))
+    );
+    drop(place);
+    handed
 }
 
-/// Runs a worker on its course; none where memory was refused before it began.
-fn handed<E: RingElection, R: Wait + Clock + Copy>(
+/// Runs a worker on its course.
+fn handed<E: RingElection, R: Abort + Wait + Clock + Copy>(
     rt: &R,
     alloc: Global,
     algorithm: E,
     course: &Course,
-) -> Option<Handed<E>> {
-    let (receiver, mut senders) = inbox::<Item<E>>(alloc, 64, 2).ok()?;
-    let mut own = senders.pop()?;
-    filled(rt, alloc, algorithm, course, &mut own)?;
+) -> Handed<E> {
+    let mut place = Place::opened(rt, alloc, 64, 2);
+    let mut own = place.senders.pop().expect(rt, "two passes");
+    fill(rt, alloc, algorithm, course, &mut own);
     let gate = EndGate::new(*rt, course.until, own);
-    worked(
-        rt,
-        alloc,
-        0,
-        Place { receiver, senders },
-        &gate,
-        course.filed,
-    )
+    worked(rt, alloc, 0, place, &gate, course.filed)
 }
 
-/// Why a worker ends whose inbox has no senders left; none where memory was refused before it began.
-pub fn why_alone<E: RingElection, R: Wait + Clock>(rt: &R, alloc: Global) -> Option<Why> {
-    let (receiver, gone) = inbox::<Item<E>>(alloc, 1, 1).ok()?;
-    drop(gone);
-    let (_other, senders) = inbox::<Item<E>>(alloc, 1, 1).ok()?;
-    let place = Place { receiver, senders };
-    let handed = worked(rt, alloc, 0, place, &OpenGate, Filed::Noted)?;
-    Some(handed.why)
+/// Why a worker ends whose inbox has no senders left. Its own pass is to another inbox.
+pub fn why_alone<E: RingElection, R: Abort + Wait + Clock>(rt: &R, alloc: Global) -> Why {
+    let mut place = Place::<E>::opened(rt, alloc, 1, 1);
+    let mut other = Place::<E>::opened(rt, alloc, 1, 1);
+    mem::swap(&mut place.senders, &mut other.senders);
+    other.senders.clear();
+    let handed = worked(rt, alloc, 0, place, &OpenGate, Filed::Noted);
+    let why = handed.why;
+    drop((handed, other));
+    why
+}
+
+/// Moves the nodes of a worker behind a list, and gives the rest. Asked for once more where memory was refused.
+pub fn moved<E: RingElection>(
+    rt: &impl Abort,
+    handed: Handed<E>,
+    nodes: &mut Vec<Node<E>>,
+) -> Rest<E> {
+    match handed.append_to(nodes) {
+        Ok(rest) => rest,
+        Err(back) => back.append_to(nodes).ok().expect(rt, TWICE),
+    }
 }
 
 /// What a worker comes to.
@@ -126,19 +147,17 @@ pub struct Run<E: RingElection> {
     pub nodes: Vec<Node<E>>,
 }
 
-/// Runs a worker on its course, and judges its nodes by the charter of a ring; none where memory was refused before it
-/// began, or when it had ended.
-fn ran<E: RingElection, R: Wait + Clock + Copy>(
+/// Runs a worker on its course, and judges its nodes by the charter of a ring.
+pub fn ran<E: RingElection, R: Abort + Wait + Clock + Copy>(
     rt: &R,
     alloc: Global,
     algorithm: E,
     course: &Course,
     ring: Ring,
-) -> Option<Run<E>> {
-    let charter = charter(alloc, algorithm, ring)?;
+) -> Run<E> {
+    let charter = charter(rt, alloc, algorithm, ring);
     let mut nodes = Vec::new(alloc);
-    let handed = handed(rt, alloc, algorithm, course)?;
-    let rest = handed.append_to(&mut nodes).ok()?;
+    let rest = moved(rt, handed(rt, alloc, algorithm, course), &mut nodes);
     let end = End {
         why: rest.why,
         dropped: rest.dropped,
@@ -147,31 +166,6 @@ fn ran<E: RingElection, R: Wait + Clock + Copy>(
         nodes: nodes.len(),
         settlement: settle(&charter, &nodes),
     };
-    Some(Run { end, nodes })
-}
-
-/// The end of such a run.
-pub fn ended<E: RingElection, R: Wait + Clock + Copy>(
-    rt: &R,
-    alloc: Global,
-    algorithm: E,
-    course: &Course,
-    ring: Ring,
-) -> Option<End> {
-    let run = ran(rt, alloc, algorithm, course, ring)?;
-    Some(run.end)
-}
-
-/// Such a run, made once more where it was refused memory outside its worker.
-pub fn ran_again<E: RingElection, R: Wait + Clock + Copy>(
-    rt: &R,
-    alloc: Global,
-    algorithm: E,
-    course: &Course,
-    ring: Ring,
-) -> Option<Run<E>> {
-    match ran(rt, alloc, algorithm, course, ring) {
-        Some(run) => Some(run),
-        None => ran(rt, alloc, algorithm, course, ring),
-    }
+    drop((rest, charter));
+    Run { end, nodes }
 }

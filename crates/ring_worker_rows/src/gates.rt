@@ -1,5 +1,6 @@
 //! Gates that end a worker at one of its items, and desks that answer alike.
 
+use crate::rings::stores;
 use ring_election::RingElection;
 use ring_inbox::SenderPass;
 use ring_node::Report;
@@ -56,7 +57,7 @@ impl<E: RingElection, R: Wait> Gate for EndGate<E, R> {
     fn leave(&self, _worker: usize, turn: u64) {
         match self.until {
             Until::Stop(after) if after == turn => {
-                let _ = self.to.lock(&self.rt).put(&self.rt, Item::Stop);
+                stores(&self.rt, &mut self.to.lock(&self.rt), Item::Stop);
             }
             _ => {}
         }

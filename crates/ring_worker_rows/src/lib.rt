@@ -6,6 +6,8 @@
 #[cfg(test)]
 mod courses;
 #[cfg(test)]
+mod equal;
+#[cfg(test)]
 mod gates;
 #[cfg(test)]
 mod inbox;

@@ -1,7 +1,8 @@
 //! One worker, in one thread, on the election of Chang and Roberts: how it settles a ring, what it drops, and how it
 //! ends.
 
-use crate::courses::{Course, End, ended, why_alone};
+use crate::courses::{Course, End, ran, why_alone};
+use crate::equal::equal;
 use crate::gates::Until;
 use crate::rings::Ring;
 use ring_chang::Chang;
@@ -37,7 +38,17 @@ fn settled(nodes: usize, dropped: u64) -> End {
     }
 }
 
-/// A worker comes to this end on its course, its nodes judged by the charter of a ring.
+/// The end of a worker on its course, its nodes judged by the charter of a ring.
+fn ended<R: Abort + Wait + Clock + Copy>(
+    rt: &R,
+    alloc: Global,
+    course: &Course,
+    ring: Ring,
+) -> End {
+    ran(rt, alloc, Chang, course, ring).end
+}
+
+/// A worker comes to this end on its course.
 fn comes_to<R: Abort + Wait + Clock + Copy>(
     rt: &R,
     alloc: Global,
@@ -45,7 +56,7 @@ fn comes_to<R: Abort + Wait + Clock + Copy>(
     ring: Ring,
     end: End,
 ) {
-    assert_eq!(rt; ended(rt, alloc, Chang, course, ring), Some(end));
+    equal(rt, "the end", ended(rt, alloc, course, ring), end);
 }
 
 #[test]
@@ -121,11 +132,14 @@ fn a_halted_worker_has_not_handled_all(rt: HostRuntime) {
             until: Until::Halt(turn),
             filed: Filed::Noted,
         };
-        let Some(end) = ended(&rt, rt.alloc(), Chang, &course, RING) else {
-            panic!(rt; "no memory");
-        };
-        assert_eq!(rt; end.why, Why::Halted, "at turn {turn}");
-        assert_eq!(rt; end.settlement, Settlement::Incomplete, "at turn {turn}");
+        let end = ended(&rt, rt.alloc(), &course, RING);
+        let wanted = (turn, Why::Halted, Settlement::Incomplete);
+        equal(
+            &rt,
+            "the end at a turn",
+            (turn, end.why, end.settlement),
+            wanted,
+        );
     }
 }
 
@@ -144,11 +158,13 @@ fn keeps_reports<R: Abort + Wait + Clock + Copy>(
         until: Until::Stop(ITEMS),
         filed: Filed::Refused(refusal),
     };
-    let Some(end) = ended(rt, alloc, Chang, &course, ring) else {
-        panic!(rt; "no memory");
-    };
-    assert_eq!(rt; end.why, why);
-    assert_eq!(rt; end.unfiled, unfiled);
+    let end = ended(rt, alloc, &course, ring);
+    equal(
+        rt,
+        "why, and how many reports",
+        (end.why, end.unfiled),
+        (why, unfiled),
+    );
 }
 
 #[test]
@@ -162,5 +178,5 @@ fn a_refused_report_stays_with_the_worker(rt: HostRuntime) {
 #[test]
 fn a_worker_without_senders_ends_closed(rt: HostRuntime) {
     let why = why_alone::<Chang, HostRuntime>(&rt, rt.alloc());
-    assert_eq!(rt; why, Some(Why::Closed));
+    equal(&rt, "why", why, Why::Closed);
 }

@@ -1,16 +1,17 @@
 //! One worker that may be refused memory, on the election of LeLann, whose nodes keep a list: what it hands over then.
 //!
-//! A run that is refused memory before its worker begins, or when that has ended, is made once more, so the row comes to
-//! its end whichever growth is refused, if it is one alone: a sweep refuses each in turn.
+//! What is refused memory before the worker begins, or when that has ended, is asked for once more, so the row comes to its
+//! end whichever growth is refused, if it is one alone: a sweep refuses each in turn.
 
-use crate::courses::{Course, End, ran_again};
+use crate::courses::{Course, End, Run, ran};
+use crate::equal::equal;
 use crate::gates::Until;
 use crate::rings::Ring;
 use ring_lelann::LeLann;
 use ring_node::Node;
 use ring_workers::{Filed, Why};
 use ring_world::Settlement;
-use std::test::Fail;
+use std::process::Abort;
 
 /// The ring of the row.
 const RING: Ring = Ring(1, &[3, 1, 2]);
@@ -45,22 +46,25 @@ fn begins_its_peer(node: &Node<LeLann>, whole: &[Node<LeLann>]) -> bool {
     false
 }
 
+/// What the nodes of one run received is a first part of what those of another received, which met no refusal.
+fn is_first_part(rt: &impl Abort, part: &Run<LeLann>, whole: &Run<LeLann>) {
+    equal(rt, "why the whole run ended", whole.end.why, Why::Stopped);
+    assert!(rt; is_whole_or_starved(&whole.end));
+    assert!(rt; is_whole_or_starved(&part.end));
+    for node in &part.nodes {
+        assert!(rt; begins_its_peer(node, &whole.nodes));
+    }
+}
+
 /// Of two runs one at least meets no refusal. Where the other is starved, what its nodes received is a first part of what
 /// they would have received.
 #[test]
-fn a_starved_worker_has_handled_a_first_part(rt: HostRuntime) -> Result<(), Fail> {
-    let first = ran_again(&rt, rt.alloc(), LeLann, &COURSE, RING).ok_or("no run")?;
-    let second = ran_again(&rt, rt.alloc(), LeLann, &COURSE, RING).ok_or("no run")?;
-    let (whole, other) = if first.end.why == Why::Starved {
-        (second, first)
+fn a_starved_worker_has_handled_a_first_part(rt: HostRuntime) {
+    let first = ran(&rt, rt.alloc(), LeLann, &COURSE, RING);
+    let second = ran(&rt, rt.alloc(), LeLann, &COURSE, RING);
+    if first.end.why == Why::Starved {
+        is_first_part(&rt, &first, &second);
     } else {
-        (first, second)
-    };
-    assert_eq!(rt; whole.end.why, Why::Stopped);
-    assert!(rt; is_whole_or_starved(&whole.end));
-    assert!(rt; is_whole_or_starved(&other.end));
-    for node in &other.nodes {
-        assert!(rt; begins_its_peer(node, &whole.nodes));
+        is_first_part(&rt, &second, &first);
     }
-    Ok(())
 }

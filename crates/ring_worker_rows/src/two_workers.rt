@@ -2,20 +2,22 @@
 //! and 3.
 ghost use Rattle.std.specs.Prelude.{◌<◌};
 
-use crate::courses::{Place, worked};
+use crate::courses::{Place, moved, worked};
+use crate::equal::equal;
 use crate::gates::{LOOKS, Meeting, wait_for_a_look};
-use crate::rings::{Ring, charter, store};
+use crate::rings::{Ring, charter, stores};
 use ring_election::RingElection;
-use ring_inbox::{SenderPass, inbox};
+use ring_inbox::SenderPass;
 use ring_node::{Charter, Node};
 use ring_peterson::Peterson;
 use ring_workers::{Filed, Handed, Item, Why};
 use ring_world::{Settlement, settle};
 use std::alloc::Global;
+use std::process::Abort;
 use std::sync::{Arc, Wait};
-use std::thread;
 use std::thread::Threads;
 use std::time::Clock;
+use std::{mem, thread};
 
 /// How many workers there are.
 const WORKERS: usize = 2;
@@ -23,124 +25,105 @@ const WORKERS: usize = 2;
 /// How many items they handle: a charter each, 24 messages and 4 announcements.
 const ITEMS: u64 = 30;
 
-/// The places of two workers, and one more pass to the inbox of each.
-type Places<E> = (Place<E>, Place<E>, Vec<SenderPass<Item<E>>>);
-
-/// One pass of each inbox.
-fn taken<T: Drop>(alloc: Global, zero: &mut Vec<T>, one: &mut Vec<T>) -> Option<Vec<T>> {
-    let mut passes = Vec::new(alloc);
-    passes.push(zero.pop()?).ok()?;
-    passes.push(one.pop()?).ok()?;
-    Some(passes)
-}
-
-/// The places of two workers with inboxes of this capacity.
-fn placed<E: RingElection>(alloc: Global, capacity: usize) -> Option<Places<E>>
-    requires { 0 < capacity }
-{
-    let (first, mut zero) = inbox::<Item<E>>(alloc, capacity, WORKERS + 1).ok()?;
-    let (last, mut one) = inbox::<Item<E>>(alloc, capacity, WORKERS + 1).ok()?;
-    let own = taken(alloc, &mut zero, &mut one)?;
-    let first = Place {
-        receiver: first,
-        senders: taken(alloc, &mut zero, &mut one)?,
-    };
-    let last = Place {
-        receiver: last,
-        senders: taken(alloc, &mut zero, &mut one)?,
-    };
-    Some((first, last, own))
-}
-
 /// Puts the word to stop, until it is stored.
 fn stop<E: RingElection, R: Wait + Clock>(rt: &R, to: &mut SenderPass<Item<E>>) {
     for _ in 0..LOOKS {
-        if store(rt, to, Item::Stop).is_some() {
+        if stores(rt, to, Item::Stop) {
             return;
         }
         wait_for_a_look(rt);
     }
 }
 
-/// Waits until the workers have handled all items, and stops them. The answer is whether they have.
-fn watch<E: RingElection, R: Wait + Clock>(
+/// Waits until the workers have handled all items, and stops them.
+fn watch<E: RingElection, R: Abort + Wait + Clock>(
     rt: &R,
     gate: &Meeting<R>,
-    own: &mut Vec<SenderPass<Item<E>>>,
-) -> bool {
-    let all = gate.waits_for(ITEMS);
-    for pass in own {
-        stop(rt, pass);
-    }
-    all
+    zero: &mut SenderPass<Item<E>>,
+    one: &mut SenderPass<Item<E>>,
+) {
+    assert!(rt; gate.waits_for(ITEMS));
+    stop(rt, zero);
+    stop(rt, one);
 }
 
-/// Moves the nodes of a worker that stopped behind a list; none where it did not end well.
-fn take_nodes<E: RingElection>(handed: Option<Handed<E>>, nodes: &mut Vec<Node<E>>) -> Option<()> {
-    let rest = handed?.append_to(nodes).ok()?;
-    if rest.why == Why::Stopped && rest.dropped == 0 && rest.outbox.is_empty() {
-        Some(())
-    } else {
-        None
-    }
+/// Moves the nodes of a worker behind a list, which stopped with nothing left.
+fn take_nodes<E: RingElection>(rt: &impl Abort, handed: Handed<E>, nodes: &mut Vec<Node<E>>) {
+    let rest = moved(rt, handed, nodes);
+    let end = (rest.why, rest.dropped, rest.outbox.len());
+    equal(rt, "why, dropped, and left", end, (Why::Stopped, 0, 0));
 }
 
-/// Whether the nodes of two workers settle; none where the workers did not end well.
-fn judged<E: RingElection>(
-    alloc: Global,
-    charter: &Charter<E>,
-    zero: Option<Handed<E>>,
-    one: Option<Handed<E>>,
-) -> Option<Settlement> {
-    let mut nodes = Vec::new(alloc);
-    take_nodes(zero, &mut nodes)?;
-    take_nodes(one, &mut nodes)?;
-    Some(settle(charter, &nodes))
-}
-
-/// Puts the item by which a charter begins into each inbox; none where one did not store it.
-fn begin<E: RingElection, R: Wait>(
+/// A place with two passes to its own inbox, which has this capacity and holds the item by which a charter begins; and
+/// one more pass to that inbox.
+fn begun<E: RingElection, R: Abort + Wait>(
     rt: &R,
+    alloc: Global,
     charter: &Arc<Charter<E>>,
-    own: &mut Vec<SenderPass<Item<E>>>,
-) -> Option<()> {
-    for pass in own {
-        store(rt, pass, Item::Begin(Arc::try_clone(charter).ok()?))?;
-    }
-    Some(())
+    capacity: usize,
+) -> (Place<E>, SenderPass<Item<E>>)
+    requires { 0 < capacity }
+{
+    let mut place = Place::opened(rt, alloc, capacity, WORKERS + 1);
+    let mut own = place.senders.pop().expect(rt, "three passes");
+    let copy = Arc::try_clone(charter).expect(rt, "no copy");
+    assert!(rt; stores(rt, &mut own, Item::Begin(copy)));
+    (place, own)
 }
 
-/// Whether the nodes of the two workers settle, with inboxes of this capacity; none where the workers did not end well.
-fn settlement<R: Threads + Wait + Clock + Copy + Send + Sync>(
+/// Exchanges a pass of two places that have two each, all to their own inbox: then each has one to each inbox.
+fn exchange<E: RingElection>(rt: &impl Abort, zero: &mut Place<E>, one: &mut Place<E>) {
+    assert!(rt; zero.senders.len() == WORKERS && one.senders.len() == WORKERS);
+    mem::swap(&mut zero.senders[1], &mut one.senders[0]);
+}
+
+/// Runs both workers, and gives their nodes.
+fn both<R: Abort + Threads + Wait + Clock + Copy + Send + Sync>(
+    rt: &R,
+    alloc: Global,
+    first: Place<Peterson>,
+    last: Place<Peterson>,
+    gate: &Meeting<R>,
+) -> Vec<Node<Peterson>> {
+    let (zero, one) = thread::join(
+        rt,
+        || worked(rt, alloc, 0, first, gate, Filed::Noted),
+        || worked(rt, alloc, 1, last, gate, Filed::Noted),
+    );
+    let mut nodes = Vec::new(alloc);
+    take_nodes(rt, zero, &mut nodes);
+    take_nodes(rt, one, &mut nodes);
+    nodes
+}
+
+/// The nodes of the two workers settle, with inboxes of this capacity.
+fn settles<R: Abort + Threads + Wait + Clock + Copy + Send + Sync>(
     rt: &R,
     alloc: Global,
     capacity: usize,
-) -> Option<Settlement>
+)
     requires { 0 < capacity }
 {
-    let charter = charter(alloc, Peterson, Ring(1, &[4, 1, 3, 2]))?;
-    let (first, last, mut own) = placed(alloc, capacity)?;
-    begin(rt, &charter, &mut own)?;
+    let charter = charter(rt, alloc, Peterson, Ring(1, &[4, 1, 3, 2]));
+    let (mut first, mut to_first) = begun(rt, alloc, &charter, capacity);
+    let (mut last, mut to_last) = begun(rt, alloc, &charter, capacity);
+    exchange(rt, &mut first, &mut last);
     let gate = Meeting::new(*rt, 2);
-    let ((zero, one), all) = thread::join(
+    let (nodes, _) = thread::join(
         rt,
-        || thread::join(
-            rt,
-            || worked(rt, alloc, 0, first, &gate, Filed::Noted),
-            || worked(rt, alloc, 1, last, &gate, Filed::Noted),
-        ),
-        || watch(rt, &gate, &mut own),
+        || both(rt, alloc, first, last, &gate),
+        || watch(rt, &gate, &mut to_first, &mut to_last),
     );
-    if !all {
-        return None;
-    }
-    judged(alloc, &charter, zero, one)
+    let settlement = settle(&charter, &nodes);
+    equal(rt, "the nodes", settlement, Settlement::Settled);
+    drop((to_first, to_last));
+    drop((charter, nodes));
 }
 
 #[test]
 fn two_workers_settle_a_ring(rt: HostRuntime) {
     for _ in 0..100 {
-        assert_eq!(rt; settlement(&rt, rt.alloc(), 64), Some(Settlement::Settled));
-        assert_eq!(rt; settlement(&rt, rt.alloc(), 1), Some(Settlement::Settled));
+        settles(&rt, rt.alloc(), 64);
+        settles(&rt, rt.alloc(), 1);
     }
 }

@@ -1,8 +1,9 @@
+use crate::equal::equal;
+use crate::inbox::alone;
 use ring_inbox::{Put, ReceiverPass, SenderPass, Take, TryTake, inbox};
 use std::alloc::Global;
 use std::process::Abort;
 use std::sync::{Arc, Wait};
-use std::test::Fail;
 
 // Fills an empty inbox of two by two senders, and empties it.
 fn fill_and_empty<R: Abort + Wait>(
@@ -12,17 +13,19 @@ fn fill_and_empty<R: Abort + Wait>(
     second: &mut SenderPass<u64>,
     item: u64,
 ) {
-    assert_eq!(rt; receiver.try_take(rt), TryTake::Empty);
-    assert_eq!(rt; first.put(rt, item), Put::Stored);
-    assert_eq!(rt; second.put(rt, 10), Put::Stored);
-    assert_eq!(rt; first.put(rt, 11), Put::Full(11));
-    assert_eq!(rt; receiver.try_take(rt), TryTake::Taken(0, item));
-    assert_eq!(rt; receiver.take(rt), Take::Taken(1, 10));
+    equal(rt, "none", receiver.try_take(rt), TryTake::Empty);
+    equal(rt, "room for two", first.put(rt, item), Put::Stored);
+    equal(rt, "room for one", second.put(rt, 10), Put::Stored);
+    equal(rt, "no room", first.put(rt, 11), Put::Full(11));
+    let wanted = TryTake::Taken(0, item);
+    equal(rt, "the first", receiver.try_take(rt), wanted);
+    equal(rt, "the second", receiver.take(rt), Take::Taken(1, 10));
 }
 
 #[test]
-fn a_full_inbox_gives_back_and_an_empty_one_has_nothing(rt: HostRuntime) -> Result<(), Fail> {
-    let (mut receiver, mut senders) = inbox::<u64>(rt.alloc(), 2, 2)?;
+fn a_full_inbox_gives_back_and_an_empty_one_has_nothing(rt: HostRuntime) {
+    let opened = inbox::<u64>(rt.alloc(), 2, 2);
+    let (mut receiver, mut senders) = opened.expect(&rt, "no memory");
     let mut second = senders.pop().expect(&rt, "an inbox of two senders");
     let mut first = senders.pop().expect(&rt, "an inbox of two senders");
     for item in 0..5 {
@@ -30,23 +33,21 @@ fn a_full_inbox_gives_back_and_an_empty_one_has_nothing(rt: HostRuntime) -> Resu
     }
     drop((receiver, senders));
     drop((first, second));
-    Ok(())
 }
 
 #[test]
-fn a_call_says_that_the_other_end_is_gone(rt: HostRuntime) -> Result<(), Fail> {
-    let (mut receiver, mut senders) = inbox::<u64>(rt.alloc(), 2, 1)?;
-    assert_eq!(rt; senders.len(), 1);
-    assert_eq!(rt; senders[0].put(&rt, 5), Put::Stored);
-    drop(senders);
-    assert_eq!(rt; receiver.take(&rt), Take::Taken(0, 5));
-    assert_eq!(rt; receiver.take(&rt), Take::Closed);
-    assert_eq!(rt; receiver.try_take(&rt), TryTake::Empty);
-    let (receiver, mut senders) = inbox::<u64>(rt.alloc(), 2, 1)?;
-    assert_eq!(rt; senders.len(), 1);
+fn a_call_says_that_the_other_end_is_gone(rt: HostRuntime) {
+    let (mut receiver, mut sender) = alone::<u64>(&rt, rt.alloc());
+    equal(&rt, "room", sender.put(&rt, 5), Put::Stored);
+    drop(sender);
+    equal(&rt, "one is left", receiver.take(&rt), Take::Taken(0, 5));
+    equal(&rt, "none is left", receiver.take(&rt), Take::Closed);
+    equal(&rt, "none", receiver.try_take(&rt), TryTake::Empty);
     drop(receiver);
-    assert_eq!(rt; senders[0].put(&rt, 6), Put::Gone(6));
-    Ok(())
+    let (receiver, mut sender) = alone::<u64>(&rt, rt.alloc());
+    drop(receiver);
+    equal(&rt, "no receiver", sender.put(&rt, 6), Put::Gone(6));
+    drop(sender);
 }
 
 // Puts one more owner of a value by each sender.
@@ -57,19 +58,19 @@ fn put_owners<R: Abort + Wait>(
 ) {
     for sender in senders {
         let owner = Arc::try_clone(kept).expect(rt, "no memory");
-        assert!(rt; sender.put(rt, owner) == Put::Stored);
+        equal(rt, "room", sender.put(rt, owner), Put::Stored);
     }
 }
 
 #[test]
-fn an_inbox_drops_what_it_holds(rt: HostRuntime) -> Result<(), Fail> {
-    let kept = Arc::new(rt.alloc(), 7u64)?;
+fn an_inbox_drops_what_it_holds(rt: HostRuntime) {
+    let kept = Arc::new(rt.alloc(), 7u64).expect(&rt, "no memory");
     let opened = inbox::<Arc<u64, Global>>(rt.alloc(), 3, 3);
     let (receiver, mut senders) = opened.expect(&rt, "no memory");
     put_owners(&rt, &mut senders, &kept);
-    assert_eq!(rt; Arc::strong_count(&kept), 4);
+    equal(&rt, "owners", Arc::strong_count(&kept), 4);
     drop(receiver);
     drop(senders);
-    assert_eq!(rt; Arc::strong_count(&kept), 1);
-    Ok(())
+    equal(&rt, "owners left", Arc::strong_count(&kept), 1);
+    drop(kept);
 }

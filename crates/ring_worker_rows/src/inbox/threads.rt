@@ -1,10 +1,11 @@
-ghost use Rattle.std.specs.Prelude.{◌≡◌, ◌<◌, IfSome};
+ghost use Rattle.std.specs.Prelude.{◌≡◌, ◌<◌};
 
+use crate::equal::equal;
+use crate::inbox::alone;
 use ring_inbox::{Put, ReceiverPass, SenderPass, Take, TryTake, inbox};
 use std::alloc::Global;
 use std::process::Abort;
 use std::sync::{Arc, Wait};
-use std::test::Fail;
 use std::thread;
 use std::thread::Threads;
 
@@ -34,17 +35,15 @@ fn put_once<R: Wait>(rt: &R, pass: &mut SenderPass<Item>, item: Item) -> bool
     unreachable!()
 }
 
-// Stores the numbers below ITEMS in order. A sender that can't is dropped, so that the receiver does not wait for it.
-fn put_all<R: Wait>(rt: &R, alloc: Global, mut pass: SenderPass<Item>) -> Option<SenderPass<Item>>
-    ensures { IfSome result (λ p. p.inbox ≡ pass.inbox) }
+// Stores the numbers below ITEMS in order.
+fn put_all<R: Abort + Wait>(rt: &R, alloc: Global, mut pass: SenderPass<Item>) -> SenderPass<Item>
+    ensures { result.inbox ≡ pass.inbox }
 {
     for number in 0..ITEMS {
-        let item = Arc::new(alloc, number).ok()?;
-        if !put_once(rt, &mut pass, item) {
-            return None;
-        }
+        let item = Arc::new(alloc, number).expect(rt, "no memory");
+        assert!(rt; put_once(rt, &mut pass, item));
     }
-    Some(pass)
+    pass
 }
 
 // The next item, where it is awaited if there is none.
@@ -87,34 +86,33 @@ fn take_all<R: Wait>(rt: &R, receiver: &mut ReceiverPass<Item>, most: u64) -> Co
     counts
 }
 
-// Whether each of three threads stores its items in an inbox of this capacity, and this one takes them in the order of
-// each. None where memory was refused or a thread could not be made.
-fn passes_through<R: Threads + Wait + Copy + Send + 'static>(
+// Each of three threads stores its items in an inbox of this capacity, and this one takes them in the order of each.
+fn passes_through<R: Abort + Threads + Wait + Copy + Send + 'static>(
     rt: R,
     alloc: Global,
     capacity: usize,
-) -> Option<bool>
+)
     requires { 0 < capacity }
 {
-    let (mut receiver, senders) = inbox::<Item>(alloc, capacity, SENDERS).ok()?;
+    let opened = inbox::<Item>(alloc, capacity, SENDERS);
+    let (mut receiver, senders) = opened.expect(&rt, "no memory");
     let mut workers = Vec::new(alloc);
     for pass in senders {
-        let worker = thread::spawn(&rt, move || put_all(&rt, alloc, pass).is_some()).ok()?;
-        workers.push(worker).ok()?;
+        let worker = thread::spawn(&rt, move || drop(put_all(&rt, alloc, pass)));
+        assert!(rt; workers.push(worker.expect(&rt, "no thread")).is_ok());
     }
     let counts = take_all(&rt, &mut receiver, u64::MAX);
     drop(receiver);
-    let mut stored = true;
     for worker in workers {
-        stored &= worker.join(&rt);
+        worker.join(&rt);
     }
-    Some(stored && counts == [ITEMS; SENDERS])
+    equal(&rt, "how many of each", counts, [ITEMS; SENDERS]);
 }
 
 #[test]
 fn three_threads_store_in_inboxes_of_two_and_of_one(rt: HostRuntime) {
-    assert_eq!(rt; passes_through(rt, rt.alloc(), 2), Some(true));
-    assert_eq!(rt; passes_through(rt, rt.alloc(), 1), Some(true));
+    passes_through(rt, rt.alloc(), 2);
+    passes_through(rt, rt.alloc(), 1);
 }
 
 // Stores one item in an empty inbox, and takes it.
@@ -127,21 +125,18 @@ fn pass_one<R: Abort + Wait>(
     let item = Arc::new(alloc, 3).expect(rt, "no memory");
     let wanted = TryTake::Taken(0, Arc::new(alloc, 3).expect(rt, "no memory"));
     assert!(rt; put_once(rt, sender, item));
-    assert_eq!(rt; receiver.try_take(rt), wanted);
-    assert_eq!(rt; receiver.try_take(rt), TryTake::Empty);
+    equal(rt, "the one", receiver.try_take(rt), wanted);
+    equal(rt, "none", receiver.try_take(rt), TryTake::Empty);
 }
 
 #[test]
-fn a_sender_meets_the_receiver_after_two_threads(rt: HostRuntime) -> Result<(), Fail> {
+fn a_sender_meets_the_receiver_after_two_threads(rt: HostRuntime) {
     let alloc = rt.alloc();
-    let (mut receiver, mut senders) = inbox::<Item>(alloc, 2, 1)?;
-    assert_eq!(rt; senders.len(), 1);
-    let sender = senders.remove(0);
-    drop(senders);
-    let (sender, taken) = thread::join(
+    let (mut receiver, sender) = alone::<Item>(&rt, alloc);
+    let (mut sender, taken) = thread::join(
         &rt,
-        move || -> Option<SenderPass<Item>>
-            ensures { IfSome result (λ p. p.inbox ≡ sender.inbox) }
+        move || -> SenderPass<Item>
+            ensures { result.inbox ≡ sender.inbox }
         { put_all(&rt, alloc, sender) },
         move || -> (ReceiverPass<Item>, Counts)
             ensures { result.0.inbox ≡ receiver.inbox }
@@ -151,10 +146,8 @@ fn a_sender_meets_the_receiver_after_two_threads(rt: HostRuntime) -> Result<(), 
         },
     );
     let (receiver, counts) = taken;
-    assert_eq!(rt; counts, [ITEMS, 0, 0]);
-    let mut sender = sender.expect(&rt, "the sender did not store all");
+    equal(&rt, "how many of each", counts, [ITEMS, 0, 0]);
     let mut receiver = sender.meet(receiver);
     pass_one(&rt, alloc, &mut sender, &mut receiver);
     drop((sender, receiver));
-    Ok(())
 }

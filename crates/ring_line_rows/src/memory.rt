@@ -1,0 +1,39 @@
+//! What is refused memory is asked for once more: so each row comes to its end whichever growth is refused, where it is
+//! one alone. A sweep refuses each in turn. Whatever else goes wrong stops the test where it does.
+
+use ring_lines::DripOut;
+use std::alloc::{AllocFailed, Global};
+use std::process::Abort;
+
+/// What a test says that stops where memory was refused twice.
+pub const TWICE: &str = "memory was refused twice";
+
+/// Adds an item to a list, and once more where memory was refused.
+pub fn add<T: Drop>(rt: &impl Abort, list: &mut Vec<T>, item: T) {
+    if let Err(AllocFailed { value }) = list.push(item) {
+        assert!(rt; list.push(value).is_ok());
+    }
+}
+
+/// A text of no bytes with room for so many. Asked for once more where memory was refused, as all that follows.
+pub fn text(rt: &impl Abort, alloc: Global, room: usize) -> Vec<u8> {
+    match Vec::with_capacity(alloc, room) {
+        Ok(text) => text,
+        Err(_) => Vec::with_capacity(alloc, room).expect(rt, TWICE),
+    }
+}
+
+/// Puts bytes behind a text.
+pub fn put(rt: &impl Abort, text: &mut Vec<u8>, bytes: &[u8]) {
+    if text.extend_from_slice(bytes).is_err() {
+        assert!(rt; text.extend_from_slice(bytes).is_ok());
+    }
+}
+
+/// A writer that drips.
+pub fn drip_out(rt: &impl Abort, alloc: Global, room: usize, fault_at: u64) -> DripOut {
+    match DripOut::new(alloc, room, fault_at) {
+        Ok(out) => out,
+        Err(_) => DripOut::new(alloc, room, fault_at).expect(rt, TWICE),
+    }
+}
