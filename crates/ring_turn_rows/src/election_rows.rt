@@ -1,7 +1,7 @@
-//! Rows of elections that the workers of a service decide.
+//! Rows of elections that the workers of a service decide. Where memory is refused, the test ends.
 ghost use Rattle.std.specs.Prelude.{◌≤◌};
 
-use crate::grounds::{Ended, Ground};
+use crate::grounds::{Ended, Ground, shared};
 use crate::meetings::{new_meeting, reaches};
 use crate::telling::{FOUR, FOUR_ITEMS, FOUR_TOLD, all_know_two, nodes_of, repeated};
 use ring_any::Any;
@@ -13,6 +13,7 @@ use ring_terms::Noting;
 use ring_workers::OpenGate;
 use std::alloc::Global;
 use std::collections::VecDeque;
+use std::process::Abort;
 use std::sync::{Arc, Wait};
 use std::thread::Threads;
 use std::time::Clock;
@@ -32,58 +33,59 @@ fn known(table: &Table<Any>) -> usize {
     known
 }
 
-// Whether the reports of four settled nodes are all filed anew, and known already.
-fn finishes_known(table: &mut Table<Any>, nodes: &[Node<Any>]) -> bool {
+// The reports of four settled nodes are all filed anew, and known already.
+fn finish_known(rt: &impl Abort, table: &mut Table<Any>, nodes: &[Node<Any>]) {
     let (before, told) = (table.history().len(), known(table));
-    table.finish(nodes).is_ok()
-        && known(table) == told.saturating_add(4)
-        && table.history().len() == before.saturating_add(4)
+    assert!(rt; table.finish(nodes).is_ok());
+    assert!(rt; known(table) == told.saturating_add(4));
+    assert!(rt; table.history().len() == before.saturating_add(4));
 }
 
-// Two workers that must both run decide a term of four members, with inboxes of this capacity: whether all came to
-// rest and the table knows what they know, also where the nodes are filed once more when all is done. None where
-// memory is refused.
-fn decides<R: Threads + Wait + Clock + Copy + Send + Sync + Drop + 'static>(
+// Two workers that must both run decide a term of four members, with inboxes of this capacity: all come to rest, and
+// the table knows what they know, also where the nodes are filed once more when all is done.
+fn decide<R: Abort + Threads + Wait + Clock + Copy + Send + Sync + Drop + 'static>(
     rt: &R,
     alloc: Global,
     inbox: usize,
-) -> Option<bool>
+)
     requires { (1 ≤ inbox) × (inbox ≤ 65536) }
 {
-    let gate = new_meeting(rt, alloc)?;
-    let copy = Arc::try_clone(&gate).ok()?;
-    let mut ground = Ground::open(rt, alloc, 2, inbox, copy)?;
-    let told = ground.tells(rt, alloc, 1, FOUR, FOUR_TOLD)
-        && reaches(rt, &gate.left, FOUR_ITEMS)
-        && ground.tells(rt, alloc, 1, b"terms a\n", b"terms 1:2\n");
+    let gate = new_meeting(rt, alloc);
+    let copy = Arc::try_clone(&gate).expect(rt, "no copy");
+    let mut ground = Ground::open(rt, alloc, 2, inbox, copy).expect(rt, "no service");
+    ground.tells(rt, alloc, 1, FOUR, FOUR_TOLD);
+    assert!(rt; reaches(rt, &gate.left, FOUR_ITEMS));
+    ground.tells(rt, alloc, 1, b"terms a\n", b"terms 1:2\n");
     let Ended {
         mut table,
         handed,
         waiting: _,
-    } = ground.end(rt)?;
-    let nodes = nodes_of(alloc, handed)?;
-    Some(told && all_know_two(&nodes) && finishes_known(&mut table, &nodes))
+    } = ground.end(rt);
+    let nodes = nodes_of(rt, alloc, handed);
+    all_know_two(rt, &nodes);
+    finish_known(rt, &mut table, &nodes);
 }
 
 #[test]
 fn two_workers_decide_a_term_by_a_lock(rt: HostRuntime) {
     let alloc = rt.alloc();
     for inbox in [64, 1] {
-        let first = decides(&rt, alloc, inbox);
-        assert!(rt; first == Some(true) || decides(&rt, alloc, inbox) == Some(true));
+        decide(&rt, alloc, inbox);
     }
 }
 
 // The lines by which twenty groups of the members 1 and 2 are made, and each is started once.
-fn twenty_groups(alloc: Global) -> Option<Vec<u8>> {
+fn twenty_groups(rt: &impl Abort, alloc: Global) -> Vec<u8> {
     let mut lines = Vec::new(alloc);
     for number in 0..20 {
         let line = format!(in alloc;
             "create g{number} chang\njoin g{number} 1\njoin g{number} 2\nstart g{number}\n"
-        ).ok()?;
-        lines.extend_from_slice(line.as_bytes()).ok()?;
+        ).expect(rt, "no memory");
+        lines
+            .extend_from_slice(line.as_bytes())
+            .expect(rt, "no memory");
     }
-    Some(lines)
+    lines
 }
 
 // Whether a node is that of a group's member whose worker, of two, has this number.
@@ -102,46 +104,44 @@ fn has_begun(
     nodes: &[Node<Any>],
     waiting: &VecDeque<Waiting>,
 ) -> bool {
-    nodes.iter().any(|node| is_node_of(node, group, worker))
-        || waiting.iter().any(|begin| {
-            begin.worker == worker as usize && begin.charter.group() == group
-        })
-}
-
-// Whether both workers have begun each of the twenty groups.
-fn all_begun(alloc: Global, nodes: &[Node<Any>], waiting: &VecDeque<Waiting>) -> Option<bool> {
-    let mut all = true;
-    for number in 0..20 {
-        let name = format!(in alloc; "g{number}").ok()?;
-        let group = GroupName::from_bytes(name.as_bytes()).ok()?;
-        all = all && has_begun(group, 0, nodes, waiting) && has_begun(group, 1, nodes, waiting);
+    for node in nodes {
+        if is_node_of(node, group, worker) {
+            return true;
+        }
     }
-    Some(all)
+    for begin in waiting {
+        if begin.worker == worker as usize && begin.charter.group() == group {
+            return true;
+        }
+    }
+    false
 }
 
-// Twenty groups are started while each inbox holds one item: whether no begin is lost, and nobody shares the table any
-// more when the service is ended. None where memory is refused.
-fn begins_twenty<R: Threads + Wait + Clock + Copy + Send + Drop + 'static>(
-    rt: &R,
-    alloc: Global,
-) -> Option<bool> {
-    let lines = twenty_groups(alloc)?;
-    let told = repeated(alloc, b"ok\nok\nok\nterm 1\n", 20)?;
-    let gate = Arc::new(alloc, OpenGate).ok()?;
-    let mut ground = Ground::open(rt, alloc, 2, 1, gate)?;
-    let is_told = ground.tells(rt, alloc, 1, &lines, &told);
+// Both workers have begun each of the twenty groups.
+fn all_begun(rt: &impl Abort, alloc: Global, nodes: &[Node<Any>], waiting: &VecDeque<Waiting>) {
+    for number in 0..20 {
+        let name = format!(in alloc; "g{number}").expect(rt, "no memory");
+        let group = GroupName::from_bytes(name.as_bytes()).expect(rt, "no name");
+        assert!(rt; has_begun(group, 0, nodes, waiting));
+        assert!(rt; has_begun(group, 1, nodes, waiting));
+    }
+}
+
+// Twenty groups are started while each inbox holds one item: no begin is lost, and nobody shares the table any more when
+// the service is ended.
+#[test]
+fn no_begin_is_lost(rt: HostRuntime) {
+    let alloc = rt.alloc();
+    let lines = twenty_groups(&rt, alloc);
+    let told = repeated(&rt, alloc, b"ok\nok\nok\nterm 1\n", 20);
+    let gate = shared(&rt, alloc, OpenGate);
+    let mut ground = Ground::open(&rt, alloc, 2, 1, gate).expect(&rt, "no service");
+    ground.tells(&rt, alloc, 1, &lines, &told);
     let Ended {
         table: _,
         handed,
         waiting,
-    } = ground.end(rt)?;
-    let nodes = nodes_of(alloc, handed)?;
-    Some(is_told && all_begun(alloc, &nodes, &waiting)?)
-}
-
-#[test]
-fn no_begin_is_lost(rt: HostRuntime) {
-    let alloc = rt.alloc();
-    let first = begins_twenty(&rt, alloc);
-    assert!(rt; first == Some(true) || begins_twenty(&rt, alloc) == Some(true));
+    } = ground.end(&rt);
+    let nodes = nodes_of(&rt, alloc, handed);
+    all_begun(&rt, alloc, &nodes, &waiting);
 }

@@ -1,15 +1,15 @@
 //! A service over an access, with the seats of its callers, and the ground of the rows by a locked table.
-ghost use Rattle.std.specs.Prelude.{◌≤◌, All};
+ghost use Rattle.std.specs.Prelude.{◌≡◌, ◌≤◌, All};
 
-use crate::telling::is_told;
+use crate::telling::tells;
 use ring_any::Any;
-use ring_lines::{Intake, LineFault, Outlet};
 use ring_service::{Closing, Service, Waiting};
 use ring_table::{Access, LockedSeat, LockedTable, Table};
 use ring_workers::{Gate, Handed};
-use std::alloc::Global;
+use std::alloc::{AllocFailed, Global};
 use std::collections::VecDeque;
 use std::marker::Model;
+use std::process::Abort;
 use std::sync::{Arc, Wait};
 use std::thread::Threads;
 use std::time::Clock;
@@ -33,8 +33,20 @@ impl<A: Access<Any> + Drop> Model for Opened<A> {
     ghost invariant = { λ opened. A.has_seat opened.service opened.one × A.has_seat opened.service opened.other };
 }
 
+/// A value that many own. Asked for once more where memory was refused.
+pub fn shared<T>(rt: &impl Abort, alloc: Global, value: T) -> Arc<T>
+    ensures { result.value ≡ value }
+{
+    match Arc::new(alloc, value) {
+        Ok(shared) => shared,
+        Err(AllocFailed { value }) => {
+            Arc::new(alloc, value).expect(rt, "memory was refused twice")
+        }
+    }
+}
+
 /// The service at an access, the last two of whose seats are the callers' and the others the workers'. None where
-/// there are too few or too many seats, and where it cannot be started.
+/// memory is refused or a thread cannot be made.
 pub fn open<A, G, R>(
     rt: &R,
     alloc: Global,
@@ -47,48 +59,33 @@ where
     A: Access<Any> + Send + Sync + Drop + 'static,
     A::Seat: Send + 'static,
     G: Gate + Send + Sync + Drop + 'static,
-    R: Threads + Wait + Clock + Copy + Send + Drop + 'static,
+    R: Abort + Threads + Wait + Clock + Copy + Send + Drop + 'static,
     requires seats { All (A.has_seat access) seats.items }
     requires inbox { (1 ≤ inbox) × (inbox ≤ 65536) }
 {
     let mut seats = seats;
-    let (one, other) = (seats.pop()?, seats.pop()?);
+    let one = seats.pop().expect(rt, "no seat for a caller");
+    let other = seats.pop().expect(rt, "one seat for two callers");
     let workers = seats.len();
-    if workers < 1 || workers > 8 {
-        return None;
+    assert!(rt; workers >= 1 && workers <= 8);
+    let access = shared(rt, alloc, access);
+    match Service::gated(rt, alloc, access, seats, workers, inbox, gate) {
+        Ok(service) => Some(Opened {
+            service,
+            one,
+            other,
+        }),
+        Err(_) => None,
     }
-    let access = Arc::new(alloc, access).ok()?;
-    let service = Service::gated(rt, alloc, access, seats, workers, inbox, gate).ok()?;
-    Some(Opened {
-        service,
-        one,
-        other,
-    })
-}
-
-// The service at a locked table, with so many workers.
-fn open_locked<G, R>(
-    rt: &R,
-    alloc: Global,
-    workers: usize,
-    inbox: usize,
-    gate: Arc<G>,
-) -> Option<Opened<LockedTable<Any>>>
-where
-    G: Gate + Send + Sync + Drop + 'static,
-    R: Threads + Wait + Clock + Copy + Send + Drop + 'static,
-    requires workers { workers ≤ 8 }
-    requires inbox { (1 ≤ inbox) × (inbox ≤ 65536) }
-{
-    let (table, seats) = LockedTable::new(alloc, Table::new(alloc), workers + 2).ok()?;
-    open(rt, alloc, table, seats, inbox, gate)
 }
 
 /// A service at a locked table that had no groups, and a seat by which all its sessions are served.
 #[derive(Drop)]
 pub struct Ground {
-    service: Service<LockedTable<Any>>,
-    seat: LockedSeat<Any>,
+    /// The service.
+    pub service: Service<LockedTable<Any>>,
+    /// The seat.
+    pub seat: LockedSeat<Any>,
 }
 
 /// What a service leaves that was ended.
@@ -113,57 +110,51 @@ impl Ground {
     ) -> Option<Ground>
     where
         G: Gate + Send + Sync + Drop + 'static,
-        R: Threads + Wait + Clock + Copy + Send + Drop + 'static,
+        R: Abort + Threads + Wait + Clock + Copy + Send + Drop + 'static,
         requires workers { workers ≤ 8 }
         requires inbox { (1 ≤ inbox) × (inbox ≤ 65536) }
     {
-        let Opened {
-            service,
-            one: seat,
-            other: _,
-        } = open_locked(rt, alloc, workers, inbox, gate)?;
-        Some(Ground { service, seat })
+        let Ok((table, seats)) = LockedTable::new(alloc, Table::new(alloc), workers + 2) else {
+            return None;
+        };
+        match open(rt, alloc, table, seats, inbox, gate) {
+            Some(
+                Opened {
+                    service,
+                    one: seat,
+                    other: _,
+                },
+            ) => Some(Ground { service, seat }),
+            None => None,
+        }
     }
 
-    /// One session, of at most so many read calls.
-    pub fn serve<R: Wait, I: Intake, O: Outlet>(
-        &mut self,
-        rt: &R,
-        session: u32,
-        reader: &mut I,
-        writer: &mut O,
-        reads: u32,
-    ) -> Result<u64, LineFault> {
-        let front = self.service.front();
-        front.serve(rt, &mut self.seat, session, reader, writer, reads)
-    }
-
-    /// Whether a session over memory comes to its end and is told this.
-    pub fn tells<R: Wait>(
+    /// A session over memory comes to its end and is told this.
+    pub fn tells<R: Abort + Wait>(
         &mut self,
         rt: &R,
         alloc: Global,
         session: u32,
         lines: &[u8],
         told: &[u8],
-    ) -> bool {
+    ) {
         let front = self.service.front();
-        is_told(rt, alloc, front, &mut self.seat, session, lines, told)
+        tells(rt, alloc, front, &mut self.seat, session, lines, told);
     }
 
-    /// Ends the service: what it leaves. None where somebody shares the table still.
-    pub fn end<R: Threads + Wait>(self, rt: &R) -> Option<Ended> {
+    /// Ends the service: what it leaves. Nobody shares the table then.
+    pub fn end<R: Abort + Threads + Wait>(self, rt: &R) -> Ended {
         let Ground { service, seat: _ } = self;
         let Closing {
             access,
             handed,
             waiting,
         } = service.close(rt);
-        let table = Arc::into_inner(access)?.into_table();
-        Some(Ended {
-            table,
+        let locked = Arc::into_inner(access).expect(rt, "somebody shares the table still");
+        Ended {
+            table: locked.into_table(),
             handed,
             waiting,
-        })
+        }
     }
 }

@@ -1,7 +1,9 @@
 //! A gate at which two workers wait for each other.
 
+use crate::grounds::shared;
 use ring_workers::{Gate, Pass};
 use std::alloc::Global;
+use std::process::Abort;
 use std::sync::Arc;
 use std::sync::atomic::{AtomicU64, Ordering};
 use std::thread;
@@ -50,11 +52,11 @@ impl<R: Clock> Gate for Meeting<R> {
 }
 
 /// A gate that nobody has entered.
-pub fn new_meeting<R: Copy>(rt: &R, alloc: Global) -> Option<Arc<Meeting<R>>> {
+pub fn new_meeting<R: Abort + Copy>(rt: &R, alloc: Global) -> Arc<Meeting<R>> {
     let gate = Meeting {
         rt: *rt,
         entered: AtomicU64::new(0),
         left: AtomicU64::new(0),
     };
-    Arc::new(alloc, gate).ok()
+    shared(rt, alloc, gate)
 }

@@ -1,14 +1,13 @@
-//! Rows of services: what they answer, and what they leave that end or cannot be started.
+//! Rows of services: what they answer, and what they leave that end or cannot be started. Where memory is refused to what
+//! a row needs besides, the test ends.
 
-use crate::grounds::{Ended, Ground};
+use crate::grounds::{Ended, Ground, shared};
 use ring_any::Any;
-use ring_service::{Service, StartFault};
+use ring_service::Service;
 use ring_table::{Entry, LockedTable, Table};
 use ring_workers::OpenGate;
-use std::alloc::Global;
-use std::sync::{Arc, Wait};
-use std::thread::Threads;
-use std::time::Clock;
+use std::process::Abort;
+use std::sync::Arc;
 
 const FIRST: &[u8] = b"create a chang\njoin a 5\nstart a\nmembers a\ndrain a 1\n";
 
@@ -29,55 +28,32 @@ fn calls(table: &Table<Any>) -> usize {
     calls
 }
 
-// A service with one worker answers two sessions, one after the other, and is ended: whether each line got its reply,
-// each command its entry, the worker handed over, and no begin waits. None where memory is refused.
-fn hands_over<R: Threads + Wait + Clock + Copy + Send + Drop + 'static>(
-    rt: &R,
-    alloc: Global,
-) -> Option<bool> {
-    let gate = Arc::new(alloc, OpenGate).ok()?;
-    let mut ground = Ground::open(rt, alloc, 1, 64, gate)?;
-    let told = ground.tells(rt, alloc, 1, FIRST, FIRST_TOLD)
-        && ground.tells(rt, alloc, 2, SECOND, SECOND_TOLD);
-    let Ended {
-        table,
-        handed,
-        waiting,
-    } = ground.end(rt)?;
-    Some(told && handed.len() == 1 && waiting.is_empty() && calls(&table) == 6)
-}
-
+// A service with one worker answers two sessions, one after the other, and is ended: each line got its reply, each
+// command its entry, the worker handed over, and no begin waits.
 #[test]
 fn a_service_answers_each_line_and_hands_over(rt: HostRuntime) {
     let alloc = rt.alloc();
-    let first = hands_over(&rt, alloc);
-    assert!(rt; first == Some(true) || hands_over(&rt, alloc) == Some(true));
+    let gate = shared(&rt, alloc, OpenGate);
+    let mut ground = Ground::open(&rt, alloc, 1, 64, gate).expect(&rt, "no service");
+    ground.tells(&rt, alloc, 1, FIRST, FIRST_TOLD);
+    ground.tells(&rt, alloc, 2, SECOND, SECOND_TOLD);
+    let ended = ground.end(&rt);
+    assert!(rt; ended.handed.len() == 1);
+    assert!(rt; ended.waiting.is_empty());
+    assert!(rt; calls(&ended.table) == 6);
 }
 
-// Starts a service and closes it, or is told why it can't be started: whether nothing of it is left to
-// share the table. None where memory is refused before that.
-fn leaves_nothing<R: Threads + Wait + Clock + Copy + Send + Drop + 'static>(
-    rt: &R,
-    alloc: Global,
-) -> Option<bool> {
-    let (table, seats) = LockedTable::new(alloc, Table::<Any>::new(alloc), 3).ok()?;
-    if seats.len() != 3 {
-        return None;
-    }
-    let access = Arc::new(alloc, table).ok()?;
-    let copy = Arc::try_clone(&access).ok()?;
-    match Service::new(rt, alloc, copy, seats, 3, 1) {
-        Ok(service) => {
-            let _ = service.close(rt);
-        }
-        Err(StartFault::NoMemory | StartFault::Thread) => {}
-    }
-    Some(Arc::into_inner(access).is_some())
-}
-
+// Starts a service and closes it, or is told why it can't be started: nothing of it is left to share the table.
 #[test]
 fn a_service_that_ends_or_cannot_start_leaves_nothing(rt: HostRuntime) {
     let alloc = rt.alloc();
-    let first = leaves_nothing(&rt, alloc);
-    assert!(rt; first == Some(true) || leaves_nothing(&rt, alloc) == Some(true));
+    let made = LockedTable::new(alloc, Table::<Any>::new(alloc), 3);
+    let (table, seats) = made.expect(&rt, "no table");
+    assert!(rt; seats.len() == 3);
+    let access = shared(&rt, alloc, table);
+    let copy = Arc::try_clone(&access).expect(&rt, "no copy");
+    if let Ok(service) = Service::new(&rt, alloc, copy, seats, 3, 1) {
+        drop(service.close(&rt));
+    }
+    drop(Arc::into_inner(access).expect(&rt, "something shares the table still"));
 }

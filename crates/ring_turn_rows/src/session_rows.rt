@@ -1,11 +1,11 @@
 //! Rows of sessions: what each line is answered, at the end of the input and at a fault.
 
-use crate::grounds::Ground;
+use crate::grounds::{Ground, shared};
 use crate::telling::ShutGate;
 use ring_lines::{DripIn, DripOut, LineFault};
 use std::alloc::Global;
 use std::process::Abort;
-use std::sync::{Arc, Wait};
+use std::sync::Wait;
 use std::thread::Threads;
 use std::time::Clock;
 
@@ -19,24 +19,35 @@ struct Drip {
     reads: u32,
 }
 
-// Whether such a session comes to this answer and these replies. The worker does nothing. None where memory is refused.
+// A writer that fails at the call with this number. Asked for once more where memory was refused.
+fn writer(rt: &impl Abort, alloc: Global, fault_at: u64) -> DripOut {
+    match DripOut::new(alloc, 100, fault_at) {
+        Ok(writer) => writer,
+        Err(_) => DripOut::new(alloc, 100, fault_at).expect(rt, "memory was refused twice"),
+    }
+}
+
+// Whether such a session comes to this answer and these replies. The worker does nothing. It doesn't where memory is
+// refused.
 fn comes<R>(
     rt: &R,
     alloc: Global,
     drip: Drip,
     answer: Result<u64, LineFault>,
     replies: &[u8],
-) -> Option<bool>
+) -> bool
 where
-    R: Threads + Wait + Clock + Copy + Send + Drop + 'static,
+    R: Abort + Threads + Wait + Clock + Copy + Send + Drop + 'static,
 {
-    let mut writer = DripOut::new(alloc, 100, drip.faults[1]).ok()?;
+    let Some(mut ground) = Ground::open(rt, alloc, 1, 64, shared(rt, alloc, ShutGate)) else {
+        return false;
+    };
+    let mut writer = writer(rt, alloc, drip.faults[1]);
     let mut reader = DripIn::new(LINES, drip.faults[0]);
-    let gate = Arc::new(alloc, ShutGate).ok()?;
-    let mut ground = Ground::open(rt, alloc, 1, 64, gate)?;
-    let served = ground.serve(rt, 1, &mut reader, &mut writer, drip.reads);
-    let _ = ground.end(rt);
-    Some(served == answer && writer.taken() == replies)
+    let (front, seat) = (ground.service.front(), &mut ground.seat);
+    let served = front.serve(rt, seat, 1, &mut reader, &mut writer, drip.reads);
+    drop(ground.end(rt));
+    served == answer && writer.taken() == replies
 }
 
 // The same, tried again where memory is refused.
@@ -46,7 +57,7 @@ where
 {
     let alloc = rt.alloc();
     let first = comes(rt, alloc, drip, answer, replies);
-    assert!(rt; first == Some(true) || comes(rt, alloc, drip, answer, replies) == Some(true));
+    assert!(rt; first || comes(rt, alloc, drip, answer, replies));
 }
 
 #[test]

@@ -1,4 +1,5 @@
-//! What the rows of both accesses share: what a session is told, and the nodes that workers hand over.
+//! What the rows of both accesses share: what a session is told, and the nodes that workers hand over. Where memory is
+//! refused, the test ends.
 
 use ring_any::Any;
 use ring_id::NodeId;
@@ -9,10 +10,11 @@ use ring_table::Access;
 use ring_workers::{Gate, Handed, Pass, Why};
 use ring_world::{Settlement, settle};
 use std::alloc::Global;
+use std::process::Abort;
 use std::sync::Wait;
 
-/// Whether a session over memory, by a seat, comes to its end and is told this.
-pub fn is_told<R: Wait, A: Access<Any> + Drop>(
+/// A session over memory, by a seat, comes to its end and is told this.
+pub fn tells<R: Abort + Wait, A: Access<Any> + Drop>(
     rt: &R,
     alloc: Global,
     front: &Front<A>,
@@ -20,17 +22,18 @@ pub fn is_told<R: Wait, A: Access<Any> + Drop>(
     session: u32,
     lines: &[u8],
     told: &[u8],
-) -> bool
+)
     requires { A.has_seat front.now seat.old }
     ensures { A.has_seat front.now seat.new }
 {
     let mut writer = ToWrite(Vec::new(alloc));
     let served = front.serve(rt, seat, session, &mut FromRead(lines), &mut writer, 1000);
-    served.is_ok() && writer.0.as_slice() == told
+    assert!(rt; served.is_ok());
+    assert!(rt; writer.0.as_slice() == told);
 }
 
 /// The same, where each reply is told with its place.
-pub fn is_told_placed<R: Wait, A: Access<Any> + Drop>(
+pub fn tells_placed<R: Abort + Wait, A: Access<Any> + Drop>(
     rt: &R,
     alloc: Global,
     front: &Front<A>,
@@ -38,37 +41,36 @@ pub fn is_told_placed<R: Wait, A: Access<Any> + Drop>(
     session: u32,
     lines: &[u8],
     told: &[u8],
-) -> bool
+)
     requires { A.has_seat front.now seat.old }
     ensures { A.has_seat front.now seat.new }
 {
     let mut writer = ToWrite(Vec::new(alloc));
     let served = front.serve_placed(rt, seat, session, &mut FromRead(lines), &mut writer, 1000);
-    served.is_ok() && writer.0.as_slice() == told
+    assert!(rt; served.is_ok());
+    assert!(rt; writer.0.as_slice() == told);
 }
 
-/// A text so many times. None where memory is refused.
-pub fn repeated(alloc: Global, text: &[u8], times: u32) -> Option<Vec<u8>> {
+/// A text so many times.
+pub fn repeated(rt: &impl Abort, alloc: Global, text: &[u8], times: u32) -> Vec<u8> {
     let mut all = Vec::new(alloc);
     for _ in 0..times {
-        all.extend_from_slice(text).ok()?;
+        all.extend_from_slice(text).expect(rt, "no memory");
     }
-    Some(all)
+    all
 }
 
-/// The nodes that all workers handed over, each of which was told to stop. None where one was not, and where memory is
-/// refused.
-pub fn nodes_of(alloc: Global, handed: Vec<Handed<Any>>) -> Option<Vec<Node<Any>>> {
+/// The nodes that all workers handed over, each of which was told to stop.
+pub fn nodes_of(rt: &impl Abort, alloc: Global, handed: Vec<Handed<Any>>) -> Vec<Node<Any>> {
     let mut nodes = Vec::new(alloc);
     for one in handed {
-        if one.why != Why::Stopped {
-            return None;
+        assert!(rt; one.why == Why::Stopped);
+        match one.append_to(&mut nodes) {
+            Ok(_rest) => {}
+            Err(_) => panic!(rt; "no memory"),
         }
-        let Ok(_) = one.append_to(&mut nodes) else {
-            return None;
-        };
     }
-    Some(nodes)
+    nodes
 }
 
 /// The lines by which a term of four members is started.
@@ -80,15 +82,15 @@ pub const FOUR_TOLD: &[u8] = b"ok\nok\nok\nok\nok\nterm 1\n";
 /// How many items two workers handle in that term: a begin each, 24 messages and 4 announcements.
 pub const FOUR_ITEMS: u64 = 30;
 
-/// Whether these are the four nodes of that term, settled, which all know 2.
-pub fn all_know_two(nodes: &[Node<Any>]) -> bool {
-    let Some(first) = nodes.first() else {
-        return false;
-    };
+/// These are the four nodes of that term, settled, which all know 2.
+pub fn all_know_two(rt: &impl Abort, nodes: &[Node<Any>]) {
+    let first = nodes.first().expect(rt, "no node");
+    assert!(rt; nodes.len() == 4);
+    assert!(rt; settle(first.charter(), nodes) == Settlement::Settled);
     let two = NodeId::new(2);
-    nodes.len() == 4
-        && settle(first.charter(), nodes) == Settlement::Settled
-        && nodes.iter().all(|node| node.known() == two)
+    for node in nodes {
+        assert!(rt; node.known() == two);
+    }
 }
 
 /// A gate at which each worker halts.

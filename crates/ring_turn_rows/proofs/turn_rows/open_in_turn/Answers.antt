@@ -11,5 +11,5 @@ open-requires-sync-A g c κs within = record { shared = table_sync.shared }
 -- its seats are its own
 pub open-requires-clause-seats : goal.open-requires-clause-seats
 open-requires-clause-seats g c κs within =
-    let fresh : c.in_ok-lock.seats.items ≡ fresh_seats c.in_ok-lock.lock.id c.args.turns [] 4 = search rules in
-    all_are_of_lock c.in_ok-lock.lock.id c.args.turns 4 [] c.in_ok-lock.seats.items fresh
+    let fresh : c.expect-lock.result.1.items ≡ fresh_seats c.expect-lock.result.0.id c.args.turns [] 4 = search rules in
+    all_are_of_lock c.expect-lock.result.0.id c.args.turns 4 [] c.expect-lock.result.1.items fresh

@@ -5,7 +5,7 @@ use Rattle.ring_turn_rows.proofs.thread_rows.TurnLockAnyShared.end.Goals as goal
 
 -- the three seats stand in a row
 pub close-requires : goal.close-requires
-close-requires c =
+close-requires g c =
     let seats = c.args.seats in
     let all : c.push_reserved-3.new.self.items ≡ seats.0 ∷ seats.1 ∷ seats.2 ∷ [] = search rules in
     let are = c.requires.seats in
