@@ -87,7 +87,11 @@ fn a_ring_may_have_several_owners(rt: HostRuntime) {
     let again = three.shared().expect(&rt, "no memory");
     assert!(rt; again.same(&three));
     drop(three);
-    for (numbers, is_same) in [([3, 1, 2].as_slice(), true), (&[1, 2, 3], false), (&[3, 1], false)] {
+    for (numbers, is_same) in [
+        ([3, 1, 2].as_slice(), true),
+        (&[1, 2, 3], false),
+        (&[3, 1], false),
+    ] {
         let members = identities(&rt, alloc, numbers);
         assert_eq!(rt; again.is_of(&members), is_same);
     }
