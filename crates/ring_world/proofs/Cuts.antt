@@ -2,6 +2,7 @@
 -- cut changes no journal.
 use Rattle.std.proofs.Common.{◌≡◌, ◌≢◌, ◌+◌, ◌*◌, ◌<◌, ◌≤◌, ◌==◌, ℕ, zero, suc, Bool, true, false, cond, nat_lt, List, [], ◌∷◌, length, replicate, Some, None, Result, Ok, Err, slice_get, slice_set, get_or, refl, sym, ap, ap₂, ◌∙◌, arith, get_or-set_other, get_or-set_same}
 use Rattle.std.proofs.Math.ListN.{length-set}
+use Rattle.std.proofs.lemmas.List.{get_or-replicate}
 use Rattle.std.specs.Prelude.{not}
 use Rattle.std.proofs.lemmas.Bool.Decides.{nat_tests}
 use Rattle.ring_id.specs.declared.refusal.Refusal.{Refusal}
@@ -10,11 +11,12 @@ use Rattle.ring_id.specs.declared.side.Side.TheVariants.{Left, Right}
 use Rattle.ring_election.specs.Tables.{Table}
 use Rattle.ring_election.specs.Families.{Fitting}
 use Rattle.ring_node.specs.declared.charter.Charter.{Charter}
+use Rattle.ring_node.specs.declared.packet.Packet.{Packet}
 use Rattle.ring_node.specs.Nodes.{Seated}
 use Rattle.ring_world.specs.private.LinkSets.{bit_of, bits_from}
 use Rattle.ring_world.specs.Quiet.{IsEmptied, IsQuiet}
 use Rattle.ring_world.specs.private.Tallies.{some_or_none}
-use Rattle.ring_world.specs.Worlds.{Cuts, IsSoundWorld, IsUncut, Running, after_cut, is_cut, link_place, on_link, pending_below, pending_on, size_of}
+use Rattle.ring_world.specs.Worlds.{Cuts, IsSoundWorld, IsUncut, Running, after_cut, is_cut, link_place, no_cuts, on_link, pending_below, pending_on, size_of}
 use Rattle.ring_world.specs.private.Worlds.{IsWorld, journals_of}
 
 -- ---- Links and their bits
@@ -41,6 +43,10 @@ get_or-bits_from words a (suc n) zero below = let at : a ≡ a + 0 = omega arith
 get_or-bits_from words a (suc n) (suc k) below =
     let at : (a + 1) + k ≡ a + suc k = omega arith in
     get_or-bits_from words (a + 1) n k (omega arith) ∙ ap (λ (place : ℕ). bit_of words place == 1) at
+
+pub no_cut : {E M : Type 0} (charter : Charter E) (journals : List (List (Side × Packet M))) (world : Running E M) → world ≡ record { charter = charter; journals = journals; cut = no_cuts (length charter.roster) }
+    → (i : ℕ) (side : Side) → i < size_of world → is_cut world i side ≡ false
+no_cut charter journals world begun i side inside = rw begun (get_or-replicate (2 * length charter.roster) (link_place i side) false false (place_below (length charter.roster) i side (rw begun at inside)))
 
 pub bit_says : (words : List ℕ) (n i : ℕ) (side : Side) → i < n → get_or (bits_from words 0 (2 * n)) (link_place i side) false ≡ (bit_of words (link_place i side) == 1)
 bit_says words n i side below =

@@ -1,4 +1,5 @@
 pub mod Announcements
+pub mod Answering
 pub mod Beginnings
 pub mod Bits
 pub mod Cuts

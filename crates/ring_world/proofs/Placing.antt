@@ -1,6 +1,7 @@
 -- The list of places: one node more, and what is read off it.
-use Rattle.std.proofs.Common.{◌≡◌, ◌+◌, ◌<◌, ℕ, zero, suc, true, false, List, replicate, length, Option, Some, None, is_some, slice_get, set, refl, sym, ap, ◌∙◌, subst, arith, inl, inr, get_or-set_other, get_or-set_same}
-use Rattle.std.proofs.lemmas.Option.{same_Some, slice_get_within}
+use Rattle.std.proofs.Common.{◌≡◌, ◌+◌, ◌<◌, ℕ, zero, suc, true, false, ltb, List, replicate, length, Option, Some, None, IfSome, MatchOption, is_some, slice_get, get_or, set, refl, sym, ap, ◌∙◌, subst, arith, inl, inr, get_or-set_other, get_or-set_same}
+use Rattle.std.proofs.lemmas.Bool.{ltb-false, ltb-true}
+use Rattle.std.proofs.lemmas.Option.{same_Some, slice_get_past, slice_get_read, slice_get_within}
 use Rattle.ring_node.specs.declared.charter.Charter.{Charter}
 use Rattle.ring_node.specs.Nodes.{Seated}
 use Rattle.ring_world.specs.private.Places.{IsListed, IsPlaced, IsShared, IsUnlisted, place_at}
@@ -124,3 +125,20 @@ module _ {E M : Type 0} (charter : Charter E) (nodes : List (Seated E M)) (at : 
       let none = unlisted.none alone.place (ap (place_at at) (sym alone.position_is) ∙ said) in
       let both : None ≡ Some node = sym none ∙ alone.there in
       cc
+
+-- where the list says nothing, it names no node
+pub unlisted : {E M : Type 0} (nodes : List (Seated E M)) (at : List (Option ℕ)) (position : ℕ) → place_at at position ≡ None → IsUnlisted nodes at position
+unlisted nodes at position nothing = record { none = λ place said. let never : ⊥ = cc in absurd never }
+
+-- where it says a place, what is looked up there is the node that it names
+pub found_listed : {E M A : Type 0} (nodes : List (Seated E M)) (at : List (Option ℕ)) (position place : ℕ) → place_at at position ≡ Some place → (answer : Option A) (node : A → Seated E M)
+    → is_some answer ≡ ltb place (length nodes) → IfSome answer (λ x. node x ≡ get_or nodes place (node x))
+    → MatchOption answer (IsUnlisted nodes at position) (λ x. IsListed nodes at position (node x))
+found_listed nodes at position place said None node is item = record {
+  none = λ other there. let same : other ≡ place = cc in rw same (slice_get_past nodes place (ltb-false place (length nodes) (sym is)));
+}
+found_listed nodes at position place said (Some x) node is item = record {
+  place = place;
+  said = said;
+  there = slice_get_read nodes (length nodes) place (node x) refl (ltb-true place (length nodes) (sym is)) item;
+}

@@ -40,6 +40,12 @@ of_sort_here sort ps k p there is =
     ap (of_sort sort) (drop_at ps k p there) ∙ ap (λ b. cond b (p ∷ of_sort sort (drop (k + 1) ps)) (of_sort sort (drop (k + 1) ps))) is
 
 -- another is passed over
+pub of_sort_none : {M : Type 0} (sort : Sort) (ps : List (Packet M)) (k : ℕ) → slice_get ps k ≡ None → of_sort sort (drop k ps) ≡ []
+of_sort_none sort [] zero none = refl
+of_sort_none sort [] (suc k) none = refl
+of_sort_none sort (p ∷ ps) zero none = cc
+of_sort_none sort (p ∷ ps) (suc k) none = of_sort_none sort ps k none
+
 pub of_sort_past : {M : Type 0} (sort : Sort) (ps : List (Packet M)) (k : ℕ) (p : Packet M) → slice_get ps k ≡ Some p → is_of sort p ≡ false → of_sort sort (drop k ps) ≡ of_sort sort (drop (k + 1) ps)
 of_sort_past sort ps k p there is =
     ap (of_sort sort) (drop_at ps k p there) ∙ ap (λ b. cond b (p ∷ of_sort sort (drop (k + 1) ps)) (of_sort sort (drop (k + 1) ps))) is

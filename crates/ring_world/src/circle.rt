@@ -50,7 +50,10 @@ impl<E: RingElection> Circle<E> {
             let Ok(copy) = Arc::try_clone(&charter) else {
                 return Err(NoMemory);
             };
-            nodes.push_reserved(Node::seat(alloc, copy, position)?);
+            let Ok(node) = Node::seat(alloc, copy, position) else {
+                return Err(NoMemory);
+            };
+            nodes.push_reserved(node);
         }
         Ok(Circle {
             charter,
@@ -150,8 +153,7 @@ impl<E: RingElection> Circle<E> {
         ensures sound { IsSoundWorld E.table E.fits E.winner self.new }
     {
         let node = &mut self.nodes[position];
-        let leader = node.accept(side, packet)?;
-        Ok(leader)
+        node.accept(side, packet)
     }
 
     /// The first packet that stands on a link, which is proper there, and whether it is the last.
@@ -163,7 +165,9 @@ impl<E: RingElection> Circle<E> {
     {
         let sender = self.node(self.neighbour(position, side));
         let taken = self.node(position).taken(side);
-        let packet = sender.packet(side.other(), taken)?;
+        let Some(packet) = sender.packet(side.other(), taken) else {
+            return None;
+        };
         Some((packet, sender.sent(side.other()) - taken == 1))
     }
 

@@ -41,7 +41,6 @@ impl LinkSet {
     }
 
     /// Puts the link at a place into the set.
-    #[tactic(auto, using(crate::proofs::Bits::bit_not_zero))]
     pub fn insert(&mut self, place: usize)
         requires { place < 512 }
         ensures here { bit_of self.new.words place ≡ 1 }

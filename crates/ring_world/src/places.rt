@@ -39,7 +39,12 @@ impl Places {
     ) -> Option<&'a Node<E>>
         ensures { MatchOption result (IsUnlisted nodes.now self.now.at position) (λ node. IsListed nodes.now self.now.at position node.now) }
     {
-        let place = (*self.at.get(position)?)?;
+        let Some(listed) = self.at.get(position) else {
+            return None;
+        };
+        let Some(place) = *listed else {
+            return None;
+        };
         nodes.get(place)
     }
 }

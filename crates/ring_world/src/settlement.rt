@@ -134,7 +134,9 @@ fn next_of<E: RingElection>(
     ensures few { IfSome result (λ next. next.0 + 1 < 2 ^ 64) }
 {
     for place in from..node.sent(side) {
-        let packet = node.packet(side, place)?;
+        let Some(packet) = node.packet(side, place) else {
+            return None;
+        };
         if sort.has(packet) {
             return Some((place, packet));
         }

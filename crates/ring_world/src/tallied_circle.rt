@@ -40,7 +40,9 @@ impl<E: RingElection> Traffic<E> for TalliedCircle<E> {
         ensures started { IfOk result (λ made. made ≡ record { charter = charter.value; journals = replicate (length charter.value.roster) []; cut = no_cuts (length charter.value.roster) }) }
         ensures sound { IfOk result (λ made. IsSoundWorld E.table E.fits E.winner made) }
     {
-        let circle = Circle::begin(alloc, charter)?;
+        let Ok(circle) = Circle::begin(alloc, charter) else {
+            return Err(NoMemory);
+        };
         let mut ready = LinkSet::empty();
         let mut pending = 0;
         for position in 0..circle.size() {
@@ -172,8 +174,7 @@ impl<E: RingElection> TalliedCircle<E> {
         let Some((packet, is_last)) = self.circle.front(position, side) else {
             unreachable!()
         };
-        let leader = self.hand_over(position, side, packet, is_last)?;
-        Ok(leader)
+        self.hand_over(position, side, packet, is_last)
     }
 
     /// Gives the first packet in flight on a link, which may be the last there, to its receiver, and counts
@@ -198,7 +199,9 @@ impl<E: RingElection> TalliedCircle<E> {
     {
         let left_before = self.circle.sent(position, Side::Left);
         let right_before = self.circle.sent(position, Side::Right);
-        let leader = self.circle.hand_over(position, side, packet)?;
+        let Ok(leader) = self.circle.hand_over(position, side, packet) else {
+            return Err(NoMemory);
+        };
         self.ready.leave(place_of(position, side), is_last);
         let left = self
             .circle

@@ -43,7 +43,9 @@ impl<E: RingElection, T: Traffic<E>> World<E, T> {
         let Ok(copy) = Arc::try_clone(&charter) else {
             return Err(NoMemory);
         };
-        let traffic = T::begin(alloc, copy)?;
+        let Ok(traffic) = T::begin(alloc, copy) else {
+            return Err(NoMemory);
+        };
         Ok(World {
             owners: Owners::of(charter),
             traffic,

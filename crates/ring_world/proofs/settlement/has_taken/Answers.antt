@@ -1,10 +1,32 @@
 -- What was taken next and what was sent next are the same packet, or the lists differ.
-use Rattle.std.proofs.Common.{◌≡◌, Some, slice_get, rules, refl, sym, ap, ◌∙◌}
+use denote.Enum.Bare.{same_true}
+use Rattle.std.proofs.Common.{◌≡◌, Some, slice_get, rules, refl, sym, ap, ◌∙◌, arith}
 use Rattle.std.proofs.lemmas.Option.{slice_get_read}
+use Rattle.ring_id.specs.contracts.side.Side.{the_type}
 use Rattle.ring_id.specs.Sides.{same_side}
-use Rattle.ring_world.proofs.Settlements.{another_next, none_left, passed_all, passed_over, same_next, side_itself, sides_differ, taken_elsewhere, taken_next, taken_other}
+use Rattle.ring_world.proofs.Settlements.{another_next, none_left, one_left, passed_all, passed_over, same_next, side_itself, sides_differ, taken_elsewhere, taken_next, taken_other}
 use Rattle.ring_world.proofs.settlement.has_taken.Goals as goal
 use Rattle.ring_world.proofs.settlement.has_taken.Goals.{then-eq+then-has+in-Some+else-not-same_packet, else-eq, else-eq-via-then-eq+else-has, else-eq-via-else-eq}
+
+pub loop-receipt-init : goal.loop-receipt-init
+loop-receipt-init g c = rw c.receipts-receipts.ensures (λ same. same, λ same. same)
+
+pub offset_bounds-receipts-receipt-index : goal.offset_bounds-receipts-receipt-index
+offset_bounds-receipts-receipt-index g c = c.loop-receipt.auto.receipt-index-end
+
+pub overflow_add-next : goal.overflow_add-next
+overflow_add-next g c = omega (arith, c.in-Some.ensures.few)
+
+pub returns-in_default : goal.returns-in_default
+returns-in_default g c =
+    let js = c.receipts-receipts.result.now in
+    let k = c.loop-receipt.receipt-index in
+    let r = c.receipt-item.result in
+    let there : slice_get js k ≡ Some r = slice_get_read js _ k r refl c.loop-receipt-test.true c.receipt-item.is in
+    let is = same_true the_type (search rules) r.0 c.args.side (sym c.if-eq.ensures) in
+    let here = ap (same_side c.args.side) is ∙ side_itself c.args.side in
+    let some = taken_next c.args.sort c.args.side js k r there here (sym c.if-has.ensures) in
+    one_left _ _ _ c.loop-receipt.invariant r.1 _ some (rw (c.in_default.is, c.other.ensures) at c.next_of.ensures.next)
 
 pub returns-then-not-same_packet : goal.returns-then-not-same_packet
 returns-then-not-same_packet g c =

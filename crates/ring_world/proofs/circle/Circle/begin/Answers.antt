@@ -11,17 +11,17 @@ use Rattle.ring_world.proofs.circle.Circle.begin.Goals as goal
 pub loop-position-preserved : goal.loop-position-preserved
 loop-position-preserved g c =
     let before = c.loop-position.invariant in
-    let node = rw c.in-Ok-try_clone.ensures at c.in_ok-seat.ensures.node in
+    let node = rw c.in-Ok-try_clone.ensures at c.in-Ok-seat.ensures.node in
     record {
       nodes =
           c.push_reserved.ensures.items
-          ∙ ap (λ (l : List (Seated g.row.E.Denot g.row.E-Msg.Denot)). l ++ c.in_ok-seat.field-0 ∷ []) before.nodes
-          ∙ started_more c.args.charter.value c.loop-position.position c.in_ok-seat.field-0 node;
+          ∙ ap (λ (l : List (Seated g.row.E.Denot g.row.E-Msg.Denot)). l ++ c.in-Ok-seat.node ∷ []) before.nodes
+          ∙ started_more c.args.charter.value c.loop-position.position c.in-Ok-seat.node node;
       count = omega (arith, c.push_reserved.ensures.len, before.count);
       room = omega (arith, c.push_reserved.ensures.capacity, before.room);
       faithful = λ i below.
           elim (same_or_not i c.loop-position.position) [
-            | inl here ↦ rw (here, ← node) c.in_ok-seat.ensures.faithful
+            | inl here ↦ rw (here, ← node) c.in-Ok-seat.ensures.faithful
             | inr differ ↦ before.faithful i (omega arith)
           ];
     }
