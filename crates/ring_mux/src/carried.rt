@@ -1,7 +1,7 @@
 use ring_id::Refusal;
 
 /// What a delivery in a group's running term did.
-#[derive(Clone, Copy, Debug, PartialEq, Eq)]
+#[derive(Clone, Copy)]
 pub enum Carried {
     /// The front packet of the link was taken, and what it told was filed.
     Moved,

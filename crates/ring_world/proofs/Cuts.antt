@@ -36,6 +36,11 @@ pub length-bits_from : (words : List ℕ) (a n : ℕ) → length (bits_from word
 length-bits_from words a zero = refl
 length-bits_from words a (suc n) = ap suc (length-bits_from words (a + 1) n)
 
+-- no link is cut where a world begins
+pub no_cut : {E M : Type 0} (charter : Charter E) (journals : List (List (Side × Packet M))) (world : Running E M) → world ≡ record { charter = charter; journals = journals; cut = no_cuts (length charter.roster) }
+    → (i : ℕ) (side : Side) → i < size_of world → is_cut world i side ≡ false
+no_cut charter journals world begun i side inside = rw begun (get_or-replicate (2 * length charter.roster) (link_place i side) false false (place_below (length charter.roster) i side (rw begun at inside)))
+
 -- what a bit says
 get_or-bits_from : (words : List ℕ) (a n k : ℕ) → k < n → get_or (bits_from words a n) k false ≡ (bit_of words (a + k) == 1)
 get_or-bits_from words a zero k below = absurd (omega arith)
@@ -43,10 +48,6 @@ get_or-bits_from words a (suc n) zero below = let at : a ≡ a + 0 = omega arith
 get_or-bits_from words a (suc n) (suc k) below =
     let at : (a + 1) + k ≡ a + suc k = omega arith in
     get_or-bits_from words (a + 1) n k (omega arith) ∙ ap (λ (place : ℕ). bit_of words place == 1) at
-
-pub no_cut : {E M : Type 0} (charter : Charter E) (journals : List (List (Side × Packet M))) (world : Running E M) → world ≡ record { charter = charter; journals = journals; cut = no_cuts (length charter.roster) }
-    → (i : ℕ) (side : Side) → i < size_of world → is_cut world i side ≡ false
-no_cut charter journals world begun i side inside = rw begun (get_or-replicate (2 * length charter.roster) (link_place i side) false false (place_below (length charter.roster) i side (rw begun at inside)))
 
 pub bit_says : (words : List ℕ) (n i : ℕ) (side : Side) → i < n → get_or (bits_from words 0 (2 * n)) (link_place i side) false ≡ (bit_of words (link_place i side) == 1)
 bit_says words n i side below =

@@ -1,9 +1,11 @@
 -- Settled terms: the comparison of a sort of packet, and why every node knows where all positions are
 -- settled.
-use Rattle.std.proofs.Common.{◌≡◌, ◌≢◌, ◌+◌, ◌<◌, ◌≤◌, ◌==◌, ◌↔◌, ℕ, zero, suc, Bool, true, false, cond, IsTrue, List, [], ◌∷◌, length, drop, Option, Some, None, not, is_some, option_map, slice_get, slice_index, refl, sym, ap, ap₂, ◌∙◌, subst, arith, inl, inr}
+use Rattle.std.proofs.Common.{◌≡◌, ◌≢◌, ◌+◌, ◌<◌, ◌≤◌, ◌==◌, ◌↔◌, ℕ, zero, suc, Bool, true, false, cond, IsTrue, List, [], ◌∷◌, length, drop, Option, Some, None, not, is_some, option_map, slice_get, slice_index, refl, sym, ap, ap₂, ◌∙◌, subst, arith, rules, inl, inr}
+use denote.Enum.Bare.{sameb, same_false, same_true}
 use Rattle.std.proofs.lemmas.Bool.Decides.{nat_tests}
 use Rattle.std.proofs.lemmas.List.{drop_all}
 use Rattle.std.proofs.lemmas.Option.{get_or_from_slice_get, same_Some, slice_get_within}
+use Rattle.ring_id.specs.contracts.side.Side.{the_type}
 use Rattle.ring_id.specs.declared.side.Side.{Side}
 use Rattle.ring_id.specs.declared.side.Side.TheVariants.{Left, Right}
 use Rattle.ring_id.specs.Sides.{other, same_side}
@@ -39,13 +41,14 @@ pub of_sort_here : {M : Type 0} (sort : Sort) (ps : List (Packet M)) (k : ℕ) (
 of_sort_here sort ps k p there is =
     ap (of_sort sort) (drop_at ps k p there) ∙ ap (λ b. cond b (p ∷ of_sort sort (drop (k + 1) ps)) (of_sort sort (drop (k + 1) ps))) is
 
--- another is passed over
+-- past the last packet there is none
 pub of_sort_none : {M : Type 0} (sort : Sort) (ps : List (Packet M)) (k : ℕ) → slice_get ps k ≡ None → of_sort sort (drop k ps) ≡ []
 of_sort_none sort [] zero none = refl
 of_sort_none sort [] (suc k) none = refl
 of_sort_none sort (p ∷ ps) zero none = cc
 of_sort_none sort (p ∷ ps) (suc k) none = of_sort_none sort ps k none
 
+-- another is passed over
 pub of_sort_past : {M : Type 0} (sort : Sort) (ps : List (Packet M)) (k : ℕ) (p : Packet M) → slice_get ps k ≡ Some p → is_of sort p ≡ false → of_sort sort (drop k ps) ≡ of_sort sort (drop (k + 1) ps)
 of_sort_past sort ps k p there is =
     ap (of_sort sort) (drop_at ps k p there) ∙ ap (λ b. cond b (p ∷ of_sort sort (drop (k + 1) ps)) (of_sort sort (drop (k + 1) ps))) is
@@ -72,6 +75,13 @@ module _ {M : Type 0} (sort : Sort) (side : Side) (js : List (Side × Packet M))
   taken_elsewhere away =
       ap (of_sort sort)
       (ap (taken_from side) (drop_at js k r there) ∙ ap (λ b. cond b (r.1 ∷ taken_from side (drop (k + 1) js)) (taken_from side (drop (k + 1) js))) away)
+
+-- what the comparison of two sides says
+pub compared_same : (from side : Side) → true ≡ sameb the_type from side → from ≡ side
+compared_same from side is = same_true the_type (search rules) from side (sym is)
+
+pub compared_other : (from side : Side) → false ≡ sameb the_type from side → from ≡ side → ⊥
+compared_other from side is = same_false the_type from side (sym is)
 
 -- a side is itself, and another is not
 pub side_itself : (side : Side) → same_side side side ≡ true

@@ -10,7 +10,7 @@ use ring_id::Side;
 /// A link's bit stands at twice its receiver's position, or one after it for the right side. So the
 /// order of places is the order of links: the least receiver first, left before right. One more bit for
 /// each word says whether it has any, so that the first link is found without a search.
-#[derive(Clone, Copy, Debug)]
+#[derive(Clone, Copy)]
 pub struct LinkSet {
     words: [u64; 8],
     summary: u64,

@@ -4,7 +4,7 @@ ghost use Rattle.ring_world.specs.Sorts.{is_of};
 use ring_node::Packet;
 
 /// The two sorts of packet. A link keeps the order of each sort by itself.
-#[derive(Clone, Copy, Debug, PartialEq, Eq)]
+#[derive(Clone, Copy, PartialEq, Eq)]
 pub enum Sort {
     /// Messages of the algorithm.
     Message,

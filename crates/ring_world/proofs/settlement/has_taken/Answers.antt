@@ -1,10 +1,8 @@
 -- What was taken next and what was sent next are the same packet, or the lists differ.
-use denote.Enum.Bare.{same_true}
-use Rattle.std.proofs.Common.{◌≡◌, Some, slice_get, rules, refl, sym, ap, ◌∙◌, arith}
+use Rattle.std.proofs.Common.{◌≡◌, Some, slice_get, refl, sym, ap, ◌∙◌, arith}
 use Rattle.std.proofs.lemmas.Option.{slice_get_read}
-use Rattle.ring_id.specs.contracts.side.Side.{the_type}
 use Rattle.ring_id.specs.Sides.{same_side}
-use Rattle.ring_world.proofs.Settlements.{another_next, none_left, one_left, passed_all, passed_over, same_next, side_itself, sides_differ, taken_elsewhere, taken_next, taken_other}
+use Rattle.ring_world.proofs.Settlements.{another_next, compared_other, compared_same, none_left, one_left, passed_all, passed_over, same_next, side_itself, sides_differ, taken_elsewhere, taken_next, taken_other}
 use Rattle.ring_world.proofs.settlement.has_taken.Goals as goal
 use Rattle.ring_world.proofs.settlement.has_taken.Goals.{then-eq+then-has+in-Some+else-not-same_packet, else-eq, else-eq-via-then-eq+else-has, else-eq-via-else-eq}
 
@@ -23,7 +21,7 @@ returns-in_default g c =
     let k = c.loop-receipt.receipt-index in
     let r = c.receipt-item.result in
     let there : slice_get js k ≡ Some r = slice_get_read js _ k r refl c.loop-receipt-test.true c.receipt-item.is in
-    let is = same_true the_type (search rules) r.0 c.args.side (sym c.if-eq.ensures) in
+    let is = compared_same r.0 c.args.side c.if-eq.ensures in
     let here = ap (same_side c.args.side) is ∙ side_itself c.args.side in
     let some = taken_next c.args.sort c.args.side js k r there here (sym c.if-has.ensures) in
     one_left _ _ _ c.loop-receipt.invariant r.1 _ some (rw (c.in_default.is, c.other.ensures) at c.next_of.ensures.next)
@@ -34,7 +32,7 @@ returns-then-not-same_packet g c =
     let k = c.loop-receipt.receipt-index in
     let r = c.receipt-item.result in
     let there : slice_get js k ≡ Some r = slice_get_read js _ k r refl c.loop-receipt-test.true c.receipt-item.is in
-    let is : r.0 ≡ c.args.side = search rules in
+    let is = compared_same r.0 c.args.side c.if-eq.ensures in
     let here = ap (same_side c.args.side) is ∙ side_itself c.args.side in
     let some = taken_next c.args.sort c.args.side js k r there here (sym c.if-has.ensures) in
     let differ = λ (same : c.in-Some.sent ≡ r.1). let equal = c.if-not-same_packet.ensures.1 same in let never : ⊥ = cc in never in
@@ -48,7 +46,7 @@ loop-receipt-preserved g c =
     let there : slice_get js k ≡ Some r = slice_get_read js _ k r refl c.loop-receipt-test.true c.receipt-item.is in
     elim c.if-eq.branch [
       | then-eq+then-has+in-Some+else-not-same_packet w ↦
-          let is : r.0 ≡ c.args.side = search rules in
+          let is = compared_same r.0 c.args.side w.if-eq.ensures in
           let here = ap (same_side c.args.side) is ∙ side_itself c.args.side in
           let some = taken_next c.args.sort c.args.side js k r there here (sym w.if-has.ensures) in
           let same = w.if-not-same_packet.ensures.0 refl in
@@ -57,11 +55,11 @@ loop-receipt-preserved g c =
           rw w.next-is
           (elim w.else-eq.branch [
             | else-eq-via-then-eq+else-has w' ↦
-                let is : r.0 ≡ c.args.side = search rules in
+                let is = compared_same r.0 c.args.side w'.if-eq.ensures in
                 let here = ap (same_side c.args.side) is ∙ side_itself c.args.side in
                 passed_over _ _ _ c.loop-receipt.invariant _ (taken_other c.args.sort c.args.side js k r there here (sym w'.if-has.ensures))
             | else-eq-via-else-eq w' ↦
-                let differ : r.0 ≡ c.args.side → ⊥ = search rules in
+                let differ = compared_other r.0 c.args.side w'.if-eq.ensures in
                 passed_over _ _ _ c.loop-receipt.invariant _ (taken_elsewhere c.args.sort c.args.side js k r there (sides_differ c.args.side r.0 differ))
           ])
     ]

@@ -1,14 +1,15 @@
 -- After each command the worlds are those of the groups' last terms; a reply that shows is a step.
 use Rattle.std.proofs.Common.{refl, ap}
-use Rattle.ring_events.specs.declared.reply.Reply.TheVariants.{Members, Terms}
+use Rattle.ring_events.specs.declared.reply.Reply.TheVariants.{Groups, Members, Terms}
 use Rattle.ring_terms.specs.Object.{names}
 use Rattle.ring_mux.specs.Views.{placed}
 use Rattle.ring_mux.proofs.Places.{answered_sees, creates_sees, group_sees, kept_sees}
+use Rattle.ring_mux.proofs.HoldingSteps.{replies_done}
 use Rattle.ring_mux.proofs.Holding.{held_answered, held_creates, held_joins, held_leaves}
 use Rattle.ring_terms.proofs.Objects.{of_group}
 use Rattle.ring_terms.proofs.Steps.{tells_reply}
 use Rattle.ring_mux.proofs.mux.Mux.command.Goals as goal
-use Rattle.ring_mux.proofs.mux.Mux.command.Goals.{in-Ok, in-Err, in-Ok-terms, in-Err-terms}
+use Rattle.ring_mux.proofs.mux.Mux.command.Goals.{in-Ok, in-Err, in-Ok-groups, in-Err-groups, in-Ok-terms, in-Err-terms}
 
 pub invariant_of-self : goal.invariant_of-self
 invariant_of-self g c =
@@ -86,3 +87,31 @@ returns-after-terms-clause-object g c = elim c.match-terms.branch [
 
 pub returns-after-terms-clause-worlds : goal.returns-after-terms-clause-worlds
 returns-after-terms-clause-worlds g c = rw c.in-Terms.is refl
+
+pub returns-in-Create-clause-object : goal.returns-in-Create-clause-object
+returns-in-Create-clause-object g c = rw (c.in-Create.is, c.done.ensures, ← c.self.view_is) (replies_done _ _ _ _ c.create.result _ c.create.ensures)
+
+pub returns-in-Join-clause-object : goal.returns-in-Join-clause-object
+returns-in-Join-clause-object g c = rw (c.in-Join.is, c.done-in-Join.ensures, ← c.self-in-Join.view_is) (replies_done _ _ _ _ c.join.result _ c.join.ensures)
+
+pub returns-in-Leave-clause-object : goal.returns-in-Leave-clause-object
+returns-in-Leave-clause-object g c = rw (c.in-Leave.is, c.done-in-Leave.ensures, ← c.self-in-Leave.view_is) (replies_done _ _ _ _ c.leave.result _ c.leave.ensures)
+
+pub returns-in-Start-clause-object : goal.returns-in-Start-clause-object
+returns-in-Start-clause-object g c = rw c.in-Start.is c.start.ensures.object
+
+pub returns-in-Start-clause-worlds : goal.returns-in-Start-clause-worlds
+returns-in-Start-clause-worlds g c = rw c.in-Start.is c.start.ensures.worlds
+
+pub returns-after-groups-clause-object : goal.returns-after-groups-clause-object
+returns-after-groups-clause-object g c = elim c.match-groups.branch [
+  | in-Ok-groups w ↦
+      let shows = rw w.in-Ok-groups.is at c.groups.ensures in
+      rw (c.in-Groups.is, w.result-is, ← c.self-in-Groups.view_is) (shows.0, (refl, ap Groups shows.1))
+  | in-Err-groups w ↦
+      let shows = rw w.in-Err-groups.is at c.groups.ensures in
+      rw (c.in-Groups.is, w.result-is, ← c.self-in-Groups.view_is) (refl, shows)
+]
+
+pub returns-after-groups-clause-worlds : goal.returns-after-groups-clause-worlds
+returns-after-groups-clause-worlds g c = rw c.in-Groups.is refl

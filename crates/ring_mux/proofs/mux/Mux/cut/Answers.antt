@@ -73,3 +73,12 @@ returns-clause-worlds g c =
 
 pub returns-in-Err-clause-object : goal.returns-in-Err-clause-object
 returns-in-Err-clause-object g c = (refl, refused_as_who g.E.RingElection.is_two_way c.args.node c.args.side c.in-Err.refusal false c.args.group c.args.self.now.object c.in-Err.ensures)
+
+pub returns-in-Err-clause-worlds : goal.returns-in-Err-clause-worlds
+returns-in-Err-clause-worlds g c = refl
+
+pub invariant_of-self : goal.invariant_of-self
+invariant_of-self g c =
+    let at = rw (← c.self.view_is) at c.in-Ok.ensures.1 in
+    let runs = seat_runs c.args.group c.self.inside.book at.1 in
+    absurd (slot_filled g.E.RingElection.table c.self.inside.book c.self.inside.worlds.items c.self.invariant.held.held c.args.group c.in-Ok.seat.0 at.0 runs c.index_mut.result.now c.index_mut.ensures.value c.in_default.is)

@@ -113,3 +113,9 @@ returns-in-Err-clause-object g c = (refl, refused_as_who g.E.RingElection.is_two
 
 pub returns-in-Err-clause-worlds : goal.returns-in-Err-clause-worlds
 returns-in-Err-clause-worlds g c = (refl, λ memory. absurd (seat_grows_nothing c.args.group c.args.self.now.object c.args.node c.in-Err.refusal c.in-Err.ensures memory))
+
+pub invariant_of-self : goal.invariant_of-self
+invariant_of-self g c =
+    let at = rw (← c.self.view_is) at c.in-Ok.ensures.1 in
+    let runs = seat_runs c.args.group c.self.inside.book at.1 in
+    absurd (slot_filled g.E.RingElection.table c.self.inside.book c.self.inside.worlds.items c.self.invariant.held.held c.args.group c.in-Ok.seat.0 at.0 runs c.index_mut.result.now c.index_mut.ensures.value c.in_default.is)

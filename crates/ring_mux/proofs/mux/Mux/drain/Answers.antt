@@ -98,3 +98,27 @@ pub returns-in_default-clause-informed : goal.returns-in_default-clause-informed
 returns-in_default-clause-informed g c =
     let at = rw (← c.self.view_is) at c.in-Ok.ensures.1 in
     absurd (slot_filled g.E.RingElection.table c.self.inside.book c.self.inside.worlds.items c.self.invariant.held.held c.args.group c.in-Ok.place at.0 at.1 c.index_mut.result.now c.index_mut.ensures.value c.in_default.is)
+
+pub returns-in-Err-clause-object : goal.returns-in-Err-clause-object
+returns-in-Err-clause-object g c = (refl, c.in-Err.ensures)
+
+pub returns-in-Err-clause-worlds : goal.returns-in-Err-clause-worlds
+returns-in-Err-clause-worlds g c = refl
+
+pub returns-in-Err-clause-bounded : goal.returns-in-Err-clause-bounded
+returns-in-Err-clause-bounded g c = record { each = λ world found enough done left is after here. cc }
+
+pub returns-in_default-clause-worlds : goal.returns-in_default-clause-worlds
+returns-in_default-clause-worlds g c =
+    let at = rw (← c.self.view_is) at c.in-Ok.ensures.1 in
+    absurd (slot_filled g.E.RingElection.table c.self.inside.book c.self.inside.worlds.items c.self.invariant.held.held c.args.group c.in-Ok.place at.0 at.1 c.index_mut.result.now c.index_mut.ensures.value c.in_default.is)
+
+pub returns-in_default-clause-bounded : goal.returns-in_default-clause-bounded
+returns-in_default-clause-bounded g c =
+    let at = rw (← c.self.view_is) at c.in-Ok.ensures.1 in
+    absurd (slot_filled g.E.RingElection.table c.self.inside.book c.self.inside.worlds.items c.self.invariant.held.held c.args.group c.in-Ok.place at.0 at.1 c.index_mut.result.now c.index_mut.ensures.value c.in_default.is)
+
+pub invariant_of-self : goal.invariant_of-self
+invariant_of-self g c =
+    let at = rw (← c.self.view_is) at c.in-Ok.ensures.1 in
+    absurd (slot_filled g.E.RingElection.table c.self.inside.book c.self.inside.worlds.items c.self.invariant.held.held c.args.group c.in-Ok.place at.0 at.1 c.index_mut.result.now c.index_mut.ensures.value c.in_default.is)

@@ -1,5 +1,5 @@
 -- A run over one event more, and over all.
-use Rattle.std.proofs.Common.{refl, rules}
+use Rattle.std.proofs.Common.{refl, arith}
 use Rattle.std.proofs.lemmas.List.{take_all, take_more}
 use Rattle.ring_terms.proofs.Steps.{Run-push}
 use Rattle.ring_mux.proofs.HoldingSteps.{RunOfWorlds-push}
@@ -26,8 +26,8 @@ loop-event-init g c = record {
       rw (← c.self.view_is)
       (quiet_is_known g.E.RingElection.table g.E.RingElection.fits g.E.RingElection.winner g.met.E.RingElection.deciding (λ a. (g.met.E.RingElection.lawful a).start_undecided) c.self.inside.book
       (placed (names c.self.inside.book) c.self.inside.worlds.items) c.self.invariant.held);
-  count = search rules;
-  room = search rules;
+  count = c.in-Ok.ensures.len;
+  room = omega (arith, c.in-Ok.ensures.exact);
 }
 
 pub loop-event-preserved : goal.loop-event-preserved
@@ -40,8 +40,8 @@ loop-event-preserved g c = record {
       (RunOfWorlds-push g.E.RingElection.table g.E.RingElection.is_two_way g.E.RingElection.is_greatest _ _ _ _ _ _ _ c.loop-event.invariant.worlds (c.step-reply.ensures.object, c.step-reply.ensures.worlds));
   informed = c.step-reply.ensures.informed;
   quiet = c.step-reply.ensures.quiet;
-  count = search rules;
-  room = search rules;
+  count = omega (arith, c.push_reserved.ensures.len, c.loop-event.invariant.count);
+  room = omega (arith, c.push_reserved.ensures.capacity, c.loop-event.invariant.room);
 }
 
 pub returns-clause-run : goal.returns-clause-run
@@ -49,3 +49,9 @@ returns-clause-run g c = rw (take_all c.loop-event.event-index c.args.events.now
 
 pub returns-clause-worlds : goal.returns-clause-worlds
 returns-clause-worlds g c = rw (take_all c.loop-event.event-index c.args.events.now c.loop-event-test.false) at c.loop-event.invariant.worlds
+
+pub returns-clause-informed : goal.returns-clause-informed
+returns-clause-informed g c = c.loop-event.invariant.informed
+
+pub returns-clause-quiet : goal.returns-clause-quiet
+returns-clause-quiet g c = c.loop-event.invariant.quiet

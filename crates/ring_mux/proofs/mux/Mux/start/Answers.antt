@@ -87,3 +87,30 @@ returns-clause-worlds g c =
     rw (← c.self.view_is, same)
     (begins c.self.inside.book (placed (names c.self.inside.book) c.self.inside.worlds.items) c.args.group planned planned c.in-Ok-begin.world c.start_planned.new.self _
     c.in-Ok.ensures.1 starts (rw c.in-Ok-try_clone.ensures at c.in-Ok-begin.ensures.started) (put_seen c.in-Some.place c.self.inside.worlds.items c.make_place.new.list.items growth (names c.self.inside.book) c.args.group c.in-Ok-begin.world at))
+
+pub returns-in_default-clause-worlds : goal.returns-in_default-clause-worlds
+returns-in_default-clause-worlds g c = refl
+
+pub returns-in-Err-clause-object : goal.returns-in-Err-clause-object
+returns-in-Err-clause-object g c = rw (← c.self.view_is) (refl, c.in-Err.ensures)
+
+pub returns-in-Err-clause-worlds : goal.returns-in-Err-clause-worlds
+returns-in-Err-clause-worlds g c = refl
+
+pub returns-in_default-try_clone-clause-object : goal.returns-in_default-try_clone-clause-object
+returns-in_default-try_clone-clause-object g c = rw (← c.self.view_is) (refl, rw c.in-Ok.ensures.0 (refl, refl))
+
+pub returns-in_default-try_clone-clause-worlds : goal.returns-in_default-try_clone-clause-worlds
+returns-in_default-try_clone-clause-worlds g c = refl
+
+pub returns-in_default-begin-clause-object : goal.returns-in_default-begin-clause-object
+returns-in_default-begin-clause-object g c = rw (← c.self.view_is) (refl, rw c.in-Ok.ensures.0 (refl, refl))
+
+pub returns-in_default-begin-clause-worlds : goal.returns-in_default-begin-clause-worlds
+returns-in_default-begin-clause-worlds g c = refl
+
+pub returns-then-is_err-clause-object : goal.returns-then-is_err-clause-object
+returns-then-is_err-clause-object g c = rw (← c.self.view_is) (refl, rw c.in-Ok.ensures.0 (refl, refl))
+
+pub returns-in_default-start_planned-clause-object : goal.returns-in_default-start_planned-clause-object
+returns-in_default-start_planned-clause-object g c = rw (c.in_default-start_planned.ensures.err, ← c.self.view_is) (refl, rw c.in-Ok.ensures.0 (refl, refl))

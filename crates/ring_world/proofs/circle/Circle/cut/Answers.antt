@@ -12,6 +12,14 @@ place_of-requires g c =
     let short = c.self.invariant.sound.is_ring.short in
     omega (arith, inside, short)
 
+pub put-requires : goal.put-requires
+put-requires g c = c.place_of.ensures.inside
+
+pub returns-clause-inside : goal.returns-clause-inside
+returns-clause-inside g c =
+    let inside = rw (← c.self.view_is) at c.requires in
+    omega (arith, inside, c.self.invariant.sound.is_ring.short)
+
 pub invariant_of-self : goal.invariant_of-self
 invariant_of-self g c =
     let place : c.place_of.result ≡ link_place c.args.position c.args.side = c.place_of.ensures.value in

@@ -5,6 +5,21 @@ use Rattle.ring_world.specs.Worlds.{link_place}
 use Rattle.ring_world.proofs.Tallies.{tally_cut}
 use Rattle.ring_world.proofs.tallied_circle.TalliedCircleTraffic.cut.Goals as goal
 
+pub cut-requires : goal.cut-requires
+cut-requires g c = rw (← c.self.view_is) at c.requires
+
+pub place_of-requires : goal.place_of-requires
+place_of-requires g c = c.cut.ensures.inside
+
+pub put-requires : goal.put-requires
+put-requires g c = c.place_of.ensures.inside
+
+pub returns-then-is_closed-clause-sound : goal.returns-then-is_closed-clause-sound
+returns-then-is_closed-clause-sound g c = rw c.self.view_is at c.is_closed.ensures.sound
+
+pub returns-clause-sound : goal.returns-clause-sound
+returns-clause-sound g c = c.cut.ensures.sound
+
 pub invariant_of-self : goal.invariant_of-self
 invariant_of-self g c =
     let place : c.place_of.result ≡ link_place c.args.position c.args.side = c.place_of.ensures.value in
