@@ -8,6 +8,17 @@ use Rattle.ring_world.proofs.Cuts.{length-bits_from, no_bits}
 use Rattle.ring_world.proofs.Links.{same_or_not}
 use Rattle.ring_world.proofs.circle.Circle.begin.Goals as goal
 
+pub loop-position-init : goal.loop-position-init
+loop-position-init g c = record { nodes = c.in-Ok.ensures.items; count = c.in-Ok.ensures.len; room = omega (arith, c.in-Ok.ensures.exact); faithful = λ i below. absurd (omega arith) }
+
+pub seat-requires : goal.seat-requires
+seat-requires g c =
+    let len = rw (c.roster.ensures, c.deref.ensures) at c.len-size.ensures.value in
+    rw c.in-Ok-try_clone.ensures (rw len at c.loop-position-test.true)
+
+pub push_reserved-requires : goal.push_reserved-requires
+push_reserved-requires g c = omega (arith, c.loop-position.invariant.count, c.loop-position.invariant.room, c.loop-position-test.true)
+
 pub loop-position-preserved : goal.loop-position-preserved
 loop-position-preserved g c =
     let before = c.loop-position.invariant in
