@@ -7,7 +7,7 @@ use Rattle.std.specs.Str.{bytes_eq}
 use Rattle.std.proofs.lemmas.Slice.Eq.{bytes_eq-Decides}
 use Rattle.clap.specs.Walk.{Row, Text, Walk, answers_to, finished, nothing_held, rows_after, settled, walk, walk_from}
 use Rattle.clap.specs.Simple.{App, Shape, argument_words, built, entered, label_of, names_of, rows_at}
-use Rattle.clap.specs.Kinds.{Kinds, or_else}
+use Rattle.clap.specs.Kinds.{HasKind, IsAmong, Kinds, or_else}
 use Rattle.clap.specs.Faults.{check_fault, defaults_fault, entered_fault, level_fault, settle_fault, walk_fault}
 use Rattle.clap.specs.Words.{HasMatchesOf, fault_of, kind_of, is_simple, is_simple_and_free, subcommand_name_of, subcommand_of, subcommand_rows, subcommand_rows_of, takes}
 use Rattle.clap.specs.declared.error.Error.{Error}
@@ -177,6 +177,18 @@ pub fails_for_memory : (a : App) (words : List Text) (error : Error) (r : Result
 fails_for_memory a words error (Ok order) is passes told taken = tt
 fails_for_memory a words error (Err NoMemory) is passes told taken = refl
 fails_for_memory a words error (Err (Usage given)) is passes told taken = absurd (told.1 (passes (ap (λ (x : App). takes x words) is ∙ taken)))
+
+-- a fault that clap's error is told as has its cause
+pub has_cause : (a : App) (words : List Text) (error : Error) (r : Result Order WordsFault) → a ≡ ringd_app → (is_simple_and_free a ≡ true → HasKind (fault_of a words) error)
+    → IsErrAnd r (IsFaultOf error) → IfErr r (HasCause words)
+has_cause a words error (Ok order) is kinds told = tt
+has_cause a words error (Err NoMemory) is kinds told = tt
+has_cause a words error (Err (Usage given)) is kinds told =
+    let among = subst (λ (x : App). HasKind (fault_of x words) error) is (kinds (ap is_simple_and_free is ∙ ringd_app_is_simple)) in
+    elim among [
+      | inl memory ↦ absurd (told.1 memory)
+      | inr kind ↦ subst (λ (e : Error). IsAmong (kind_of e) (fault_of ringd_app words)) (sym told.0) kind
+    ]
 
 -- What a call promises of its result, whatever words it was given: an order is theirs, a fault has its cause, and the
 -- fault is want of memory where nothing else may fail.

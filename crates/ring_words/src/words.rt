@@ -120,7 +120,13 @@ fn with_arg<'a>(
         → IfOk result (λ c. app_of c ≡ with_rule app rule) }
     ensures local { IfOk command.entry IsLocal → IfOk result IsLocal }
 {
-    command?.arg(arg)
+    match command {
+        Ok(command) => command.arg(arg),
+        Err(error) => {
+            drop(arg);
+            Err(error)
+        }
+    }
 }
 
 // The command with one more subcommand, where memory was refused for neither.
@@ -131,8 +137,19 @@ fn with_subcommand<'a>(
     ensures { (app sub : App) → IfOk command.entry (λ c. app_of c ≡ app) → IfOk below.entry IsLocal
         → IfOk below.entry (λ c. app_of c ≡ sub) → IfOk result (λ c. app_of c ≡ with_subcommand app sub.top) }
 {
-    let below = below?;
-    command?.subcommand(below)
+    match command {
+        Ok(command) => match below {
+            Ok(below) => command.subcommand(below),
+            Err(error) => {
+                drop(command);
+                Err(error)
+            }
+        },
+        Err(error) => {
+            drop(below);
+            Err(error)
+        }
+    }
 }
 
 // The file of the configuration.
@@ -202,7 +219,10 @@ fn places_arg<'a>(alloc: Global) -> Arg<'a>
 pub fn not_text(alloc: Global) -> Result<clap::Error, AllocError>
     ensures { IfOk result (λ error. kind_of error ≡ ValueValidation) }
 {
-    command(alloc)?.error(ErrorKind::ValueValidation, "a word is not UTF-8 text")
+    let mut command = command(alloc)?;
+    let error = command.error(ErrorKind::ValueValidation, "a word is not UTF-8 text");
+    drop(command);
+    error
 }
 
 /// Whether the words asked for the version.

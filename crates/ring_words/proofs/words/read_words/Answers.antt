@@ -2,7 +2,7 @@ use Rattle.std.proofs.Common.{◌∙◌, List, ap, inl, inr, map, subst}
 use Rattle.std.specs.Prelude.{string_bytes}
 use Rattle.clap.specs.Words.{Text, app_of, found_of, rows_of, takes}
 use Rattle.ring_words.specs.Words.{Names, ringd_app}
-use Rattle.ring_words.proofs.CommandLine.{fails_for_memory, meets, names_one, replay_is_taken, want_of_memory}
+use Rattle.ring_words.proofs.CommandLine.{fails_for_memory, has_cause, meets, names_one, replay_is_taken, want_of_memory}
 use Rattle.ring_words.proofs.Taken.{named_runs, named_serves, runs_as_given, serves_as_given}
 use Rattle.ring_words.proofs.words.read_words.Goals as goal
 
@@ -10,6 +10,11 @@ pub returns-in_err-matches-clause-replay : goal.returns-in_err-matches-clause-re
 returns-in_err-matches-clause-replay c = λ program are.
     fails_for_memory (app_of c.in_ok-command.field-0) (map string_bytes c.args.words.now) c.in_err-matches.field-0.0 c.from_residual-in_err-matches.result c.in_ok-command.ensures
     c.in_err-matches.ensures.passes c.from_residual-in_err-matches.ensures.1 (ap (λ (words : List Text). takes ringd_app words) are ∙ replay_is_taken program)
+
+pub returns-in_err-matches-clause-usage : goal.returns-in_err-matches-clause-usage
+returns-in_err-matches-clause-usage c =
+    has_cause (app_of c.in_ok-command.field-0) (map string_bytes c.args.words.now) c.in_err-matches.field-0.0 c.from_residual-in_err-matches.result c.in_ok-command.ensures
+    c.in_err-matches.ensures.kinds c.from_residual-in_err-matches.ensures.1
 
 pub returns-in_err-matches-clause-taken : goal.returns-in_err-matches-clause-taken
 returns-in_err-matches-clause-taken c =
