@@ -15,6 +15,7 @@ const LONGEST: u64 = 65536;
 /// A client that asks one line after another.
 #[derive(Drop)]
 pub struct Client<S: Drop> {
+    alloc: Global,
     reader: BufReader<S>,
     request: String,
     reply: String,
@@ -50,15 +51,16 @@ impl<S: Read + Write + Drop> Client<S> {
             return Err(Fault::NoMemory);
         };
         Ok(Client {
+            alloc,
             reader,
             request: String::new(alloc),
             reply: String::new(alloc),
         })
     }
 
-    /// Sends a line, given without its LF, and answers the reply to it.
-    pub fn ask(&mut self, line: &str) -> Result<Reply<'_>, Fault> {
-        self.send(line)?;
+    /// Sends a line, given in two parts and without its LF, and answers the reply to it.
+    pub fn ask(&mut self, word: &str, others: &str) -> Result<Reply<'_>, Fault> {
+        self.send(word, others)?;
         self.reply.clear();
         let Ok(_) = read_bounded(&mut self.reader, &mut self.reply) else {
             return Err(Fault::NoService);
@@ -67,13 +69,22 @@ impl<S: Read + Write + Drop> Client<S> {
         reply.ok_or(Fault::NoService)
     }
 
+    /// Asks the same, and answers the line of the reply. A refusal is a fault.
+    pub fn demand(&mut self, word: &str, others: &str) -> Result<&str, Fault> {
+        let alloc = self.alloc;
+        match self.ask(word, others)? {
+            Reply::Done(reply) => Ok(reply),
+            Reply::Refused(word) => Err(Fault::Refused(String::from_str(alloc, word)?)),
+        }
+    }
+
     // Sends a line by one write.
-    fn send(&mut self, line: &str) -> Result<(), Fault> {
+    fn send(&mut self, word: &str, others: &str) -> Result<(), Fault> {
         self.request.clear();
-        self.request.push_str(line)?;
+        self.request.push_str(word)?;
+        self.request.push_str(others)?;
         self.request.push('\n')?;
-        let stream = self.reader.get_mut();
-        match stream.write_all(self.request.as_bytes()) {
+        match self.reader.get_mut().write_all(self.request.as_bytes()) {
             Ok(()) => Ok(()),
             Err(_) => Err(Fault::NoService),
         }

@@ -31,13 +31,15 @@ use std::rt::Env;
 use std::time::Clock;
 use words::{Asked, Order, WordsFault, not_text, read_words};
 
-// The words of the command line, the program's name first.
-fn given_words(rt: &(impl Env + AllocGlobal)) -> Result<Vec<String>, WordsFault> {
-    let alloc = rt.alloc();
+// What the words of the command line ask for, of which the first is the program's name.
+fn asked_by(rt: &(impl Env + AllocGlobal)) -> Result<Asked, WordsFault> {
     match std::env::args(rt) {
-        Ok(words) => Ok(words.collect(alloc)?),
+        Ok(words) => {
+            let words: Vec<String> = words.collect(rt.alloc())?;
+            read_words(rt.alloc(), words.as_slice())
+        }
         Err(error) if error.kind() == ErrorKind::OutOfMemory => Err(WordsFault::NoMemory),
-        Err(_) => Err(WordsFault::Usage(not_text(alloc)?)),
+        Err(_) => Err(WordsFault::Usage(not_text(rt.alloc())?)),
     }
 }
 
@@ -47,11 +49,13 @@ where
     R: Input + Print + Clock + AllocGlobal + Net<Stream = TcpStream>,
 {
     let mut client = Client::reach(rt, asked.address.as_str())?;
-    match &asked.order {
+    let done = match &asked.order {
         Order::Session => session::hold(rt, &mut client, at_terminal),
         Order::Ask(line) => session::ask_once(rt, &mut client, line.as_str()),
         Order::Watch { group, seconds } => watch::watch(rt, &mut client, group.as_str(), *seconds),
-    }
+    };
+    drop(client);
+    done
 }
 
 // Ends with status 0, or says the fault and ends with its status.
@@ -61,7 +65,7 @@ fn ended(rt: &impl Eprint, done: Result<(), Fault>) -> ExitCode
     match done {
         Ok(()) => ExitCode::SUCCESS,
         Err(fault) => {
-            let _ = eprintln!(rt; "{fault}");
+            let _ = rt.eprintln(fault.text());
             ExitCode::from(fault.status())
         }
     }
@@ -76,8 +80,7 @@ fn refused(rt: &impl Eprint, error: &clap::Error) -> ExitCode
 }
 
 fn main(rt: HostRuntime) -> ExitCode {
-    let asked = given_words(&rt).and_then(|words| read_words(rt.alloc(), words.as_slice()));
-    match asked {
+    match asked_by(&rt) {
         Ok(asked) => ended(&rt, obey(&rt, &asked, rt.stdin().is_terminal())),
         Err(WordsFault::NoMemory) => ended(&rt, Err(Fault::NoMemory)),
         Err(WordsFault::Usage(error)) => refused(&rt, &error),

@@ -2,7 +2,7 @@
 use crate::client::Client;
 use crate::fault::Fault;
 use crate::reply::Reply;
-use std::io::{BufRead, BufReader, Read, Write};
+use std::io::{self, BufRead, BufReader, Read, Write};
 
 // What stands before each line at a terminal.
 const PROMPT: &str = "ring> ";
@@ -10,13 +10,10 @@ const PROMPT: &str = "ring> ";
 /// Asks one line. Its reply goes to standard output, and the word of a refusal into the fault.
 pub fn ask_once<R, S>(rt: &R, client: &mut Client<S>, line: &str) -> Result<(), Fault>
 where
-    R: Print + AllocGlobal,
+    R: Print,
     S: Read + Write + Drop,
 {
-    match client.ask(line)? {
-        Reply::Done(reply) => say(rt, reply),
-        Reply::Refused(word) => Err(Fault::Refused(String::from_str(rt.alloc(), word)?)),
-    }
+    say(rt, client.demand("", line)?)
 }
 
 /// Asks each line of standard input, to its end, and prints each reply, refusals among them. Empty
@@ -26,20 +23,34 @@ where
     R: Input + Print + AllocGlobal,
     S: Read + Write + Drop,
 {
+    prompt(rt, at_terminal)?;
     let Ok(input) = BufReader::new(rt.alloc(), rt.reader()) else {
         return Err(Fault::NoMemory);
     };
-    prompt(rt, at_terminal)?;
     for line in input.lines(rt.alloc()) {
-        let Ok(line) = line else {
-            return Err(Fault::Read);
-        };
-        if !line.is_empty() {
-            answer(rt, client, line.as_str())?;
-        }
-        prompt(rt, at_terminal)?;
+        take(rt, client, line, at_terminal)?;
     }
     if at_terminal { say(rt, "") } else { Ok(()) }
+}
+
+// Asks a line that was read, unless it is empty, and prompts for the next one.
+fn take<R, S>(
+    rt: &R,
+    client: &mut Client<S>,
+    line: io::Result<String>,
+    at_terminal: bool,
+) -> Result<(), Fault>
+where
+    R: Print,
+    S: Read + Write + Drop,
+{
+    let Ok(line) = line else {
+        return Err(Fault::Read);
+    };
+    if !line.is_empty() {
+        answer(rt, client, line.as_str())?;
+    }
+    prompt(rt, at_terminal)
 }
 
 // Asks a line and prints its reply, also where it is refused.
@@ -48,7 +59,7 @@ where
     R: Print,
     S: Read + Write + Drop,
 {
-    match client.ask(line)? {
+    match client.ask("", line)? {
         Reply::Done(reply) => say(rt, reply),
         Reply::Refused(word) => match println!(rt; "no {word}") {
             Ok(()) => Ok(()),

@@ -12,7 +12,10 @@ pub struct Term {
 
 /// The number in the word of an identity: what stands before its weight, if it has one.
 pub fn number_in(word: &str) -> &str {
-    word.split_once('/').map_or(word, |(number, _)| number)
+    match word.split_once('/') {
+        Some((number, _)) => number,
+        None => word,
+    }
 }
 
 /// The term that `T:N`, `T:N/V` or `T:-` is.

@@ -5,9 +5,9 @@
 use crate::client::Client;
 use crate::fault::Fault;
 use crate::reply::Reply;
-use crate::told::{News, Told, number_in, read_term};
+use crate::told::{Term, Told, number_in, read_term};
 use ring_id::NodeId;
-use std::alloc::Global;
+use std::alloc::{AllocError, Global};
 use std::io::{Read, Write};
 use std::thread;
 use std::time::{Clock, Duration};
@@ -29,14 +29,12 @@ where
     R: Print + Clock + AllocGlobal,
     S: Read + Write + Drop,
 {
+    let looks = match seconds {
+        Some(seconds) => u64::from(seconds),
+        None => u64::MAX,
+    };
     let mut watcher = Watcher::of(rt.alloc(), group)?;
-    watcher.look(rt, client)?;
-    let looks = seconds.map_or(u64::MAX, u64::from);
-    for _ in 0..looks {
-        thread::sleep(rt, Duration::from_secs(PACE));
-        watcher.look(rt, client)?;
-    }
-    Ok(())
+    watcher.watch(rt, client, looks)
 }
 
 // What a watch remembers.
@@ -44,7 +42,7 @@ where
 struct Watcher {
     alloc: Global,
     group: String,
-    // The member that is asked, as its number is written; none before one is chosen.
+    // The member that is asked, as a line names it; none before one is chosen.
     member: Option<String>,
     // Which of the members is chosen next.
     turn: usize,
@@ -67,6 +65,20 @@ impl Watcher {
         })
     }
 
+    // Looks, and so many times again after a rest.
+    fn watch<R, S>(&mut self, rt: &R, client: &mut Client<S>, looks: u64) -> Result<(), Fault>
+    where
+        R: Print + Clock,
+        S: Read + Write + Drop,
+    {
+        self.look(rt, client)?;
+        for _ in 0..looks {
+            thread::sleep(rt, Duration::from_secs(PACE));
+            self.look(rt, client)?;
+        }
+        Ok(())
+    }
+
     // Asks whether something has changed, and tells it.
     fn look<R, S>(&mut self, rt: &R, client: &mut Client<S>) -> Result<(), Fault>
     where
@@ -84,18 +96,22 @@ impl Watcher {
 
     // Chooses the member that is asked, if the group has one: another each time.
     fn choose<S: Read + Write + Drop>(&mut self, client: &mut Client<S>) -> Result<(), Fault> {
-        let line = format!(in self.alloc; "members {}", self.group)?;
-        let reply = self.done(client.ask(line.as_str())?)?;
-        let count = reply.split(' ').skip(1).count();
+        let reply = client.demand("members ", self.group.as_str())?;
+        let count = count_in(reply);
         if count > 0 {
-            let chosen = reply.split(' ').skip(1).nth(self.turn % count);
+            let place = (self.turn % count).saturating_add(1);
             self.turn = self.turn.wrapping_add(1);
-            self.member = match chosen {
-                Some(member) => Some(String::from_str(self.alloc, number_in(member))?),
+            self.member = match reply.split(' ').nth(place) {
+                Some(member) => Some(self.named(number_in(member))?),
                 None => None,
             };
         }
         Ok(())
+    }
+
+    // The group and the number of a member, as a line names it.
+    fn named(&self, number: &str) -> Result<String, AllocError> {
+        format!(in self.alloc; "{} {number}", self.group)
     }
 
     // Whether the member answers otherwise than it did at the last look.
@@ -106,13 +122,8 @@ impl Watcher {
         let Some(member) = &self.member else {
             return Ok(false);
         };
-        let line = format!(in self.alloc; "who {} {member}", self.group)?;
-        match client.ask(line.as_str())? {
-            Reply::Done(reply) if reply == self.seen.as_str() => Ok(false),
-            Reply::Done(reply) => {
-                self.seen = String::from_str(self.alloc, reply)?;
-                Ok(true)
-            }
+        match client.ask("who ", member.as_str())? {
+            Reply::Done(reply) => Ok(self.see(reply)?),
             Reply::Refused("no-term") => Ok(false),
             Reply::Refused("not-in-term") => {
                 self.member = None;
@@ -122,44 +133,61 @@ impl Watcher {
         }
     }
 
+    // Keeps a reply to `who`; whether it is another than the last one.
+    fn see(&mut self, reply: &str) -> Result<bool, AllocError> {
+        if reply == self.seen.as_str() {
+            return Ok(false);
+        }
+        self.seen.clear();
+        self.seen.push_str(reply)?;
+        Ok(true)
+    }
+
     // Asks for the terms, and tells what is new in them.
     fn tell<R, S>(&mut self, rt: &R, client: &mut Client<S>) -> Result<(), Fault>
     where
         R: Print,
         S: Read + Write + Drop,
     {
-        let line = format!(in self.alloc; "terms {}", self.group)?;
-        let reply = self.done(client.ask(line.as_str())?)?;
-        let terms = reply.split(' ').skip(1).filter_map(read_term);
+        let reply = client.demand("terms ", self.group.as_str())?;
         let earlier = if self.has_told {
             0
         } else {
-            reply.split(' ').count().saturating_sub(2)
+            count_in(reply).saturating_sub(1)
         };
         self.has_told = true;
-        for term in terms.skip(earlier) {
-            let news = self.told.take(term);
-            print_news(rt, term.number, news)?;
-        }
-        Ok(())
-    }
-
-    // The line of a reply, where it is no refusal.
-    fn done<'a>(&self, reply: Reply<'a>) -> Result<&'a str, Fault> {
-        match reply {
-            Reply::Done(line) => Ok(line),
-            Reply::Refused(word) => Err(Fault::Refused(String::from_str(self.alloc, word)?)),
-        }
+        tell_terms(rt, &mut self.told, reply, earlier)
     }
 }
 
+// Tells what is new in the terms of a reply, but for so many at its front.
+fn tell_terms(rt: &impl Print, told: &mut Told, reply: &str, earlier: usize) -> Result<(), Fault> {
+    let mut left = earlier;
+    for word in reply.split(' ') {
+        if let Some(term) = read_term(word) {
+            if left == 0 {
+                tell_term(rt, told, term)?;
+            }
+            left = left.saturating_sub(1);
+        }
+    }
+    Ok(())
+}
+
+// How many members or terms a reply lists, behind the word that says what they are.
+fn count_in(reply: &str) -> usize {
+    reply.split(' ').count().saturating_sub(1)
+}
+
 // Prints what is new in a term.
-fn print_news(rt: &impl Print, term: u16, news: News) -> Result<(), Fault> {
-    if news.started && println!(rt; "term {term} started").is_err() {
+fn tell_term(rt: &impl Print, told: &mut Told, term: Term) -> Result<(), Fault> {
+    let number = term.number;
+    let news = told.take(term);
+    if news.started && println!(rt; "term {number} started").is_err() {
         return Err(Fault::Write);
     }
     match news.leader {
-        Some(leader) => print_leader(rt, term, leader),
+        Some(leader) => print_leader(rt, number, leader),
         None => Ok(()),
     }
 }

@@ -3,11 +3,10 @@ ghost use Rattle.std.specs.Prelude.{◌≡◌, ℕ, IfNone, IfSome, string_bytes
 ghost use Rattle.ringctl.specs.private.Words.{IsAsk, SpellsNoCommand};
 
 use clap::error::ErrorKind;
-use clap::{Arg, Command};
+use clap::{Arg, ArgMatches, Command};
 use ring_grammar::parse_command;
 use ring_id::GroupName;
 use std::alloc::{AllocError, Global};
-use thiserror::Error;
 
 // Where a service listens that has not been told otherwise.
 const ADDRESS: &str = "127.0.0.1:7400";
@@ -55,13 +54,11 @@ pub enum Order {
 }
 
 /// Why the words gave no order.
-#[derive(Debug, Drop, Error)]
+#[derive(Drop)]
 pub enum WordsFault {
     /// The command line was refused, or asked for help. The text is clap's.
-    #[error(transparent)]
     Usage(clap::Error),
     /// Memory was refused.
-    #[error("no memory")]
     NoMemory,
 }
 
@@ -126,26 +123,40 @@ pub fn not_text(alloc: Global) -> Result<clap::Error, AllocError> {
 
 // A refusal of the command line in the program's own words.
 fn refusal(alloc: Global, message: &str) -> Result<clap::Error, AllocError> {
-    command(alloc)?.error(ErrorKind::ValueValidation, message)
+    let mut command = command(alloc)?;
+    let error = command.error(ErrorKind::ValueValidation, message);
+    drop(command);
+    error
 }
 
 /// Reads the words of a command line, of which the first is the program's name.
 pub fn read_words(alloc: Global, words: &[String]) -> Result<Asked, WordsFault> {
     let matches = command(alloc)?.try_get_matches_from(words)?;
+    let asked = asked_of(alloc, &matches);
+    drop(matches);
+    match asked? {
+        Ok(asked) => Ok(asked),
+        Err(message) => Err(WordsFault::Usage(refusal(alloc, message)?)),
+    }
+}
+
+// What was asked, or why it is nothing that can be.
+fn asked_of(
+    alloc: Global,
+    matches: &ArgMatches<'_>,
+) -> Result<Result<Asked, &'static str>, AllocError> {
     let address = matches.get_str("address").unwrap_or(ADDRESS);
     if !is_address(address) {
-        return Err(WordsFault::Usage(refusal(alloc, "an address is HOST:PORT")?));
+        return Ok(Err("an address is HOST:PORT"));
     }
-    let seconds = matches.get_one::<u32>("for");
     let given = matches.get_strs("words").unwrap_or(&[]);
-    let Some(order) = order_of(alloc, given, seconds)? else {
-        let message = "there is no such command; ringctl --help says which there are";
-        return Err(WordsFault::Usage(refusal(alloc, message)?));
-    };
-    Ok(Asked {
-        address: String::from_str(alloc, address)?,
-        order,
-    })
+    match order_of(alloc, given, matches.get_one::<u32>("for"))? {
+        Some(order) => Ok(Ok(Asked {
+            address: String::from_str(alloc, address)?,
+            order,
+        })),
+        None => Ok(Err("there is no such command; ringctl --help says which there are")),
+    }
 }
 
 // Whether this is a host and a port.
