@@ -1,5 +1,5 @@
 //! Where things stand in a picture, in pixels.
-use crate::tale::Tale;
+use crate::tale::{Arrow, Tale};
 
 /// The least distance between two columns.
 const NARROW: u64 = 84;
@@ -50,12 +50,12 @@ impl Frame {
     }
 
     /// Where an arrow ends that is in flight: near the column that it goes to.
-    pub fn x_flying(self, from: usize, to: usize) -> u64 {
+    pub fn x_flying(self, arrow: &Arrow) -> u64 {
         let part = self.gap / 5;
-        if from < to {
-            self.x(to).saturating_sub(part)
+        if arrow.from < arrow.to {
+            self.x(arrow.to).saturating_sub(part)
         } else {
-            self.x(to).saturating_add(part)
+            self.x(arrow.to).saturating_add(part)
         }
     }
 
@@ -76,8 +76,8 @@ impl Frame {
     }
 
     /// Where the n-th packet in flight at the end stands.
-    pub fn y_flying(self, nth: usize) -> u64 {
-        self.y(self.steps.saturating_add(nth as u64).saturating_add(1))
+    pub fn y_flying(self, nth: u64) -> u64 {
+        self.y(self.steps.saturating_add(nth).saturating_add(1))
     }
 
     /// Where the columns end.

@@ -1,4 +1,5 @@
 //! The words that stand beside arrows and above pictures, and the names of members.
+use crate::page::Page;
 use ring_any::{Any, AnyMsg};
 use ring_id::NodeId;
 use ring_node::Packet;
@@ -6,49 +7,40 @@ use std::alloc::{AllocError, Global};
 
 /// The words of a packet.
 pub fn of_packet(alloc: Global, packet: Packet<AnyMsg>) -> Result<String, AllocError> {
-    let mut words = String::new(alloc);
-    add_packet(&mut words, packet)?;
-    Ok(words)
-}
-
-// Adds the words of a packet.
-fn add_packet(text: &mut String, packet: Packet<AnyMsg>) -> Result<(), AllocError> {
+    let mut page = Page::new(alloc);
     match packet {
-        Packet::Leader(leader) => {
-            text.push_str("leader ")?;
-            add_member(text, leader)
-        }
-        Packet::Algo(message) => add_message(text, message),
+        Packet::Leader(leader) => add_member(&mut page, "leader ", leader),
+        Packet::Algo(message) => add_message(&mut page, message),
     }
+    page.text()
 }
 
 // Adds the words of a message.
-fn add_message(text: &mut String, message: AnyMsg) -> Result<(), AllocError> {
+fn add_message(page: &mut Page, message: AnyMsg) {
     match message {
-        AnyMsg::LeLann(id) | AnyMsg::Chang(id) | AnyMsg::Peterson(id) => add_member(text, id),
+        AnyMsg::LeLann(id) | AnyMsg::Chang(id) | AnyMsg::Peterson(id) => add_member(page, "", id),
         AnyMsg::Out { id, hops } => {
-            add_member(text, id)?;
-            write!(text, " out {hops}")
+            add_member(page, "", id);
+            page.add_number(" out ", hops as u64);
         }
         AnyMsg::Back { id } => {
-            add_member(text, id)?;
-            text.push_str(" back")
+            add_member(page, "", id);
+            page.add(" back");
         }
     }
 }
 
-/// Adds that a member knows the leader.
-pub fn add_knows(text: &mut String, member: NodeId, leader: NodeId) -> Result<(), AllocError> {
-    add_member(text, member)?;
-    text.push_str(" knows ")?;
-    add_member(text, leader)
+/// Adds words, and that a member knows the leader.
+pub fn add_knows(page: &mut Page, words: &str, member: NodeId, leader: NodeId) {
+    add_member(page, words, member);
+    add_member(page, " knows ", leader);
 }
 
-/// Adds the name of a member, as a line spells it: its number, and its weight where it has one.
-pub fn add_member(text: &mut String, member: NodeId) -> Result<(), AllocError> {
-    match member.weight() {
-        0 => write!(text, "{}", member.get()),
-        weight => write!(text, "{}/{weight}", member.get()),
+/// Adds words, and the name of a member as a line spells it: its number, and its weight where it has one.
+pub fn add_member(page: &mut Page, words: &str, member: NodeId) {
+    page.add_number(words, member.get() as u64);
+    if member.weight() > 0 {
+        page.add_number("/", member.weight() as u64);
     }
 }
 

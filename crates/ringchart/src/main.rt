@@ -17,6 +17,7 @@ mod fault;
 mod frame;
 mod label;
 mod lines;
+mod page;
 mod pictures;
 mod recorder;
 mod stage;
@@ -32,13 +33,15 @@ use std::rt::{Env, Files};
 use tale::Tale;
 use words::{Order, WordsFault, not_text, read_words};
 
-// The words of the command line, the program's name first.
-fn given_words(rt: &(impl Env + AllocGlobal)) -> Result<Vec<String>, WordsFault> {
-    let alloc = rt.alloc();
+// The order that the words of the command line give, of which the first is the program's name.
+fn order_given(rt: &(impl Env + AllocGlobal)) -> Result<Order, WordsFault> {
     match std::env::args(rt) {
-        Ok(words) => Ok(words.collect(alloc)?),
+        Ok(words) => {
+            let words: Vec<String> = words.collect(rt.alloc())?;
+            read_words(rt.alloc(), words.as_slice())
+        }
         Err(error) if error.kind() == ErrorKind::OutOfMemory => Err(WordsFault::NoMemory),
-        Err(_) => Err(WordsFault::Usage(not_text(alloc)?)),
+        Err(_) => Err(WordsFault::Usage(not_text(rt.alloc())?)),
     }
 }
 
@@ -84,8 +87,7 @@ fn refused(rt: &impl Eprint, error: &clap::Error) -> ExitCode
 }
 
 fn main(rt: HostRuntime) -> ExitCode {
-    let order = given_words(&rt).and_then(|words| read_words(rt.alloc(), words.as_slice()));
-    match order {
+    match order_given(&rt) {
         Ok(order) => ended(&rt, obey(&rt, &order)),
         Err(WordsFault::NoMemory) => ended(&rt, Err(Fault::NoMemory)),
         Err(WordsFault::Usage(error)) => refused(&rt, &error),

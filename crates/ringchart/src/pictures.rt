@@ -1,5 +1,6 @@
 //! Where pictures go.
 use crate::fault::{Fault, written};
+use crate::page::Page;
 use crate::svg::Picture;
 use crate::tale::Tale;
 use crate::{svg, text};
@@ -11,8 +12,8 @@ use std::rt::Files;
 pub fn print_texts(rt: &(impl Print + AllocGlobal), tales: &[Tale]) -> Result<(), Fault> {
     let mut between = "";
     for tale in tales {
-        let picture = text::draw(rt.alloc(), tale)?;
-        written(print!(rt; "{between}{picture}"))?;
+        let picture = text::draw(rt.alloc(), tale, between)?;
+        written(rt.print(picture))?;
         between = "\n";
     }
     Ok(())
@@ -21,9 +22,10 @@ pub fn print_texts(rt: &(impl Print + AllocGlobal), tales: &[Tale]) -> Result<()
 /// Prints one SVG with the pictures of all terms below one another.
 pub fn print_svg(rt: &(impl Print + AllocGlobal), tales: &[Tale]) -> Result<(), Fault> {
     let Picture { svg, width, height } = below_one_another(rt.alloc(), tales)?;
-    written(println!(rt;
-        "<svg xmlns=\"http://www.w3.org/2000/svg\" width=\"{width}\" height=\"{height}\" viewBox=\"0 0 {width} {height}\">"
-    ))?;
+    let mut head = Page::new(rt.alloc());
+    head.add("<svg xmlns=\"http://www.w3.org/2000/svg\"");
+    svg::add_size(&mut head, width, height);
+    written(rt.print(head.text()?))?;
     written(println!(rt; "{svg}</svg>"))
 }
 
@@ -64,10 +66,16 @@ fn write_file(
     let name = file_name(rt.alloc(), folder, tale)?;
     let picture = svg::draw(rt.alloc(), tale, 0)?;
     written(fs::write(rt, name.as_str(), picture.svg.as_str()))?;
-    written(println!(rt; "{name}"))
+    written(rt.println(name))
 }
 
 // The name of the file that shows a term.
 fn file_name(alloc: Global, folder: &str, tale: &Tale) -> Result<String, AllocError> {
-    format!(in alloc; "{folder}/{}-{}.svg", tale.group_text(), tale.term)
+    let mut page = Page::new(alloc);
+    page.add(folder);
+    page.add("/");
+    page.add(tale.group_text());
+    page.add_number("-", tale.term as u64);
+    page.add(".svg");
+    page.text()
 }

@@ -15,7 +15,6 @@ use std::sync::Arc;
 /// A world, and what happened in it so far.
 #[derive(Drop)]
 pub struct Recorder {
-    charter: Arc<Charter<Any>>,
     world: World<Any>,
     steps: Vec<Step>,
     // By which delivery each packet was sent, for each position.
@@ -31,20 +30,26 @@ struct Marks {
 
 impl Recorder {
     /// The world of a charter, in which every node has started.
-    pub fn begin(alloc: Global, charter: &Arc<Charter<Any>>) -> Result<Recorder, Fault> {
-        let world = World::begin(alloc, charter.clone()?)?;
-        let marks = starts(alloc, world.nodes())?;
-        Ok(Recorder {
-            charter: charter.clone()?,
-            world,
-            steps: Vec::new(alloc),
-            marks,
-        })
+    pub fn begin(alloc: Global, charter: Arc<Charter<Any>>) -> Result<Recorder, Fault> {
+        match World::begin(alloc, charter) {
+            Ok(world) => match starts(alloc, world.nodes()) {
+                Ok(marks) => Ok(Recorder {
+                    world,
+                    steps: Vec::new(alloc),
+                    marks,
+                }),
+                Err(error) => {
+                    drop(world);
+                    Err(Fault::from(error))
+                }
+            },
+            Err(error) => Err(Fault::from(error)),
+        }
     }
 
     /// The group of the term.
     pub fn group(&self) -> GroupName {
-        self.charter.group()
+        self.world.charter().group()
     }
 
     /// How many packets are in flight or stuck.
@@ -53,15 +58,20 @@ impl Recorder {
     }
 
     /// Does what the event did, by the reply to it: a delivery, so many of them, or a cut.
-    pub fn repeat(&mut self, alloc: Global, event: Event<Any>, reply: &Reply) -> Result<(), Fault> {
+    pub fn repeat(
+        &mut self,
+        alloc: Global,
+        event: &Event<Any>,
+        reply: &Reply,
+    ) -> Result<(), Fault> {
         match event {
-            Event::Deliver { node, side, .. } => self.deliver_to(alloc, node, side),
+            Event::Deliver { node, side, .. } => self.deliver_to(alloc, *node, *side),
             Event::Drain { .. } => match reply {
                 Reply::Drained { done, .. } => self.drain(alloc, *done),
                 _ => Ok(()),
             },
             Event::Cut { node, side, .. } => {
-                self.cut(node, side);
+                self.cut(*node, *side);
                 Ok(())
             }
             Event::Client(_) | Event::Pending { .. } => Ok(()),
@@ -70,7 +80,7 @@ impl Recorder {
 
     // One delivery to a member from a side, if something is in flight there.
     fn deliver_to(&mut self, alloc: Global, node: NodeNo, side: Side) -> Result<(), Fault> {
-        match self.charter.roster().position(node) {
+        match self.world.charter().roster().position(node) {
             Some(position) => self.deliver(alloc, position, side),
             None => Ok(()),
         }
@@ -78,8 +88,9 @@ impl Recorder {
 
     // Cuts the link to a member from a side.
     fn cut(&mut self, node: NodeNo, side: Side) {
-        if let Some(position) = self.charter.roster().position(node)
-            && position < self.world.charter().roster().len()
+        let roster = self.world.charter().roster();
+        if let Some(position) = roster.position(node)
+            && position < roster.len()
         {
             let _ = self.world.cut(position, side);
         }
@@ -130,7 +141,7 @@ impl Recorder {
         side: Side,
         before: usize,
     ) -> Result<Option<Arrow>, AllocError> {
-        let roster = self.charter.roster();
+        let roster = self.world.charter().roster();
         let Some(receiver) = self.world.nodes().get(position) else {
             return Ok(None);
         };
@@ -177,12 +188,13 @@ impl Recorder {
 
     /// All that happened. The deliveries are taken out.
     pub fn tale(&mut self, alloc: Global) -> Result<Tale, AllocError> {
-        let ring = members(alloc, self.charter.roster())?;
+        let ring = members(alloc, self.world.charter().roster())?;
         let flying = self.flying(alloc)?;
+        let charter = self.world.charter();
         Ok(Tale {
-            group: self.charter.group(),
-            term: self.charter.term().get(),
-            algorithm: self.charter.algorithm(),
+            group: charter.group(),
+            term: charter.term().get(),
+            algorithm: charter.algorithm(),
             ring,
             flying,
             steps: mem::replace(&mut self.steps, Vec::new(alloc)),

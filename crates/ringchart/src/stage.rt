@@ -20,26 +20,37 @@ pub fn play(alloc: Global, schedule: &str) -> Result<Vec<Tale>, Fault> {
         alloc,
         mux: Mux::new(alloc)?,
         terms: Vec::new(alloc),
+        place: 0,
     };
-    stage.run(schedule)?;
-    stage.tales()
+    let tales = stage.tales(schedule);
+    drop(stage);
+    tales
 }
 
-// The mux, and a recorder for each term.
+// The mux, a recorder for each term, and the number of the line that is run.
 #[derive(Drop)]
 struct Stage {
     alloc: Global,
     mux: Mux<Any>,
     terms: Vec<Recorder>,
+    place: u64,
 }
 
 impl Stage {
+    // What happened in each term, once all lines of a schedule are run.
+    fn tales(&mut self, schedule: &str) -> Result<Vec<Tale>, Fault> {
+        self.run(schedule)?;
+        if self.terms.is_empty() {
+            return Err(Fault::NoTerm);
+        }
+        Ok(tales_of(self.alloc, &mut self.terms)?)
+    }
+
     // Runs all lines of a schedule.
     fn run(&mut self, schedule: &str) -> Result<(), Fault> {
-        let mut place = 0u64;
         for text in schedule.lines() {
-            place = place.saturating_add(1);
-            if let Some(line) = Line::read(place, text) {
+            self.place = self.place.saturating_add(1);
+            if let Some(line) = Line::read(self.place, text) {
                 self.take(&line)?;
             }
         }
@@ -52,7 +63,9 @@ impl Stage {
             return Ok(());
         };
         let reply = self.mux.step(self.alloc, event);
-        self.check(line, &event, &reply)
+        let done = self.check(line, &event, &reply);
+        drop(reply);
+        done
     }
 
     // Compares the reply to a line with the one that it says, and does in the worlds what the line did.
@@ -60,15 +73,11 @@ impl Stage {
         if let Some(wanted) = line.reply {
             compare(self.alloc, line.place, reply, wanted)?;
         }
-        if self.follow(*event, reply)? {
-            Ok(())
-        } else {
-            Err(Fault::Lost(line.place))
-        }
+        self.follow(event, reply)
     }
 
-    // Does in the worlds what the event did; whether as much is in flight or stuck then.
-    fn follow(&mut self, event: Event<Any>, reply: &Reply) -> Result<bool, Fault> {
+    // Does in the worlds what the event did. As much must be in flight or stuck then.
+    fn follow(&mut self, event: &Event<Any>, reply: &Reply) -> Result<(), Fault> {
         if was_starved(reply) {
             return Err(Fault::NoMemory);
         }
@@ -78,64 +87,60 @@ impl Stage {
                 {
                     match reply {
                         Reply::Moved | Reply::Drained { .. } | Reply::Done => {
-                            self.repeat(group, event, reply)
+                            self.repeat(*group, event, reply)
                         }
-                        _ => Ok(true),
+                        _ => Ok(()),
                     }
                 }
-            Event::Pending { .. } => Ok(true),
+            Event::Pending { .. } => Ok(()),
         }
     }
 
     // Begins a recorder where the command has started a term.
-    fn obey(&mut self, command: Command<Any>, reply: &Reply) -> Result<bool, Fault> {
+    fn obey(&mut self, command: &Command<Any>, reply: &Reply) -> Result<(), Fault> {
         match command {
             Command::Start(group) => match reply {
-                Reply::Term(_) => self.begin(group),
-                _ => Ok(true),
+                Reply::Term(_) => self.begin(*group),
+                _ => Ok(()),
             },
-            _ => Ok(true),
+            _ => Ok(()),
         }
     }
 
     // Does in a group's last term what the event did.
-    fn repeat(
-        &mut self,
-        group: GroupName,
-        event: Event<Any>,
-        reply: &Reply,
-    ) -> Result<bool, Fault> {
+    fn repeat(&mut self, group: GroupName, event: &Event<Any>, reply: &Reply) -> Result<(), Fault> {
         let Some(recorder) = running(&mut self.terms, group) else {
-            return Ok(false);
+            return Err(Fault::Lost(self.place));
         };
         recorder.repeat(self.alloc, event, reply)?;
-        self.agrees(group)
+        if agrees(&self.mux, group, recorder) {
+            Ok(())
+        } else {
+            Err(Fault::Lost(self.place))
+        }
     }
 
     // A recorder for the term that has just been started.
-    fn begin(&mut self, group: GroupName) -> Result<bool, Fault> {
+    fn begin(&mut self, group: GroupName) -> Result<(), Fault> {
         let Ok(charter) = self.mux.book().running(group) else {
-            return Ok(false);
+            return Err(Fault::Lost(self.place));
         };
-        let recorder = Recorder::begin(self.alloc, charter)?;
+        let recorder = Recorder::begin(self.alloc, charter.clone()?)?;
+        let agrees = agrees(&self.mux, group, &recorder);
         self.terms.push(recorder)?;
-        self.agrees(group)
-    }
-
-    // Whether as much is in flight or stuck in the group's world here as in the mux.
-    fn agrees(&mut self, group: GroupName) -> Result<bool, Fault> {
-        let Some(recorder) = running(&mut self.terms, group) else {
-            return Ok(false);
-        };
-        Ok(self.mux.pending(group) == Ok(recorder.pending()))
-    }
-
-    // The tales of all terms.
-    fn tales(&mut self) -> Result<Vec<Tale>, Fault> {
-        if self.terms.is_empty() {
-            return Err(Fault::NoTerm);
+        if agrees {
+            Ok(())
+        } else {
+            Err(Fault::Lost(self.place))
         }
-        Ok(tales_of(self.alloc, &mut self.terms)?)
+    }
+}
+
+// Whether as much is in flight or stuck in the group's world here as in the mux.
+fn agrees(mux: &Mux<Any>, group: GroupName, recorder: &Recorder) -> bool {
+    match mux.pending(group) {
+        Ok(pending) => pending == recorder.pending(),
+        Err(_) => false,
     }
 }
 

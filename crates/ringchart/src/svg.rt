@@ -1,7 +1,8 @@
 //! A term as an SVG picture.
 use crate::frame::Frame;
 use crate::label;
-use crate::tale::{Arrow, Kind, Step, Tale};
+use crate::page::Page;
+use crate::tale::{Arrow, Kind, Step, Tale, width_of};
 use ring_id::NodeId;
 use std::alloc::{AllocError, Global};
 
@@ -50,319 +51,300 @@ pub struct Picture {
 // A drawing that grows.
 #[derive(Drop)]
 struct Drawing {
-    out: String,
+    page: Page,
     frame: Frame,
 }
 
 /// The picture of a term, to stand so many pixels below the top of a larger one.
 pub fn draw(alloc: Global, tale: &Tale, top: u64) -> Result<Picture, AllocError> {
     let title = tale.title(alloc)?;
+    let frame = Frame::of(tale, title.len());
     let mut drawing = Drawing {
-        out: String::new(alloc),
-        frame: Frame::of(tale, title.len()),
+        page: Page::new(alloc),
+        frame,
     };
-    drawing.all(tale, title.as_str(), top)?;
-    let Drawing { out: svg, frame } = drawing;
+    drawing.ground(top);
+    drawing.head(tale, title.as_str());
+    drawing.lines(tale);
+    drawing.captions(tale);
     Ok(Picture {
-        svg,
+        svg: drawing.page.text()?,
         width: frame.width(),
         height: frame.height(),
     })
 }
 
+/// Adds how large a picture is, and the end of the tag that opens it.
+pub fn add_size(page: &mut Page, width: u64, height: u64) {
+    page.add_number(" width=\"", width);
+    page.add_number("\" height=\"", height);
+    page.add_number("\" viewBox=\"0 0 ", width);
+    page.add_number(" ", height);
+    page.add("\">\n");
+}
+
 impl Drawing {
-    // The whole picture.
-    fn all(&mut self, tale: &Tale, title: &str, top: u64) -> Result<(), AllocError> {
-        self.ground(top)?;
-        self.head(tale, title)?;
-        self.lines(tale)?;
-        self.captions(tale)?;
-        self.out.push_str("</svg>\n")
-    }
-
     // The place and the size of the picture, how things look, and a white ground.
-    fn ground(&mut self, top: u64) -> Result<(), AllocError> {
-        self.open(top)?;
-        self.out.push_str(STYLE)?;
-        self.out.push_str("<rect")?;
-        self.size()?;
-        self.out.push_str(" fill=\"white\"/>\n")
-    }
-
-    // The first line of the picture.
-    fn open(&mut self, top: u64) -> Result<(), AllocError> {
-        write!(
-            self.out,
-            "<svg xmlns=\"http://www.w3.org/2000/svg\" y=\"{top}\""
-        )?;
-        self.size()?;
+    fn ground(&mut self, top: u64) {
         let (width, height) = (self.frame.width(), self.frame.height());
-        writeln!(self.out, " viewBox=\"0 0 {width} {height}\">")
-    }
-
-    // How large the picture is.
-    fn size(&mut self) -> Result<(), AllocError> {
-        let (width, height) = (self.frame.width(), self.frame.height());
-        write!(self.out, " width=\"{width}\" height=\"{height}\"")
+        self.page
+            .add_number("<svg xmlns=\"http://www.w3.org/2000/svg\" y=\"", top);
+        self.page.add("\"");
+        add_size(&mut self.page, width, height);
+        self.page.add(STYLE);
+        self.page.add_number("<rect width=\"", width);
+        self.page.add_number("\" height=\"", height);
+        self.page.add("\" fill=\"white\"/>\n");
     }
 
     // The title, and what came of the term.
-    fn head(&mut self, tale: &Tale, title: &str) -> Result<(), AllocError> {
-        self.words(24, 34, "title", title)?;
-        self.begin_words(24, 58, "small")?;
-        tale.add_outcome(&mut self.out)?;
-        self.end_words()
+    fn head(&mut self, tale: &Tale, title: &str) {
+        self.words(24, 34, "title", title);
+        self.begin_words(24, 58, "small");
+        tale.add_outcome(&mut self.page);
+        self.end_words();
     }
 
     // All lines and arrows.
-    fn lines(&mut self, tale: &Tale) -> Result<(), AllocError> {
-        self.columns(tale)?;
-        self.knowing(tale)?;
-        self.delivered(tale)?;
-        self.flying(tale)
+    fn lines(&mut self, tale: &Tale) {
+        self.columns(tale);
+        self.knowing(tale);
+        self.delivered(tale);
+        self.flying(tale);
     }
 
-    // What stands beside them.
-    fn captions(&mut self, tale: &Tale) -> Result<(), AllocError> {
-        self.delivered_labels(tale)?;
-        self.flying_labels(tale)?;
-        self.notes(tale)?;
-        self.legend()
+    // What stands beside them, and the end of the picture.
+    fn captions(&mut self, tale: &Tale) {
+        self.delivered_labels(tale);
+        self.flying_labels(tale);
+        self.notes(tale);
+        self.legend();
+        self.page.add("</svg>\n");
     }
 
     // Words at a place.
-    fn words(&mut self, x: u64, y: u64, class: &str, words: &str) -> Result<(), AllocError> {
-        self.begin_words(x, y, class)?;
-        self.out.push_str(words)?;
-        self.end_words()
+    fn words(&mut self, x: u64, y: u64, class: &str, words: &str) {
+        self.begin_words(x, y, class);
+        self.page.add(words);
+        self.end_words();
     }
 
-    fn begin_words(&mut self, x: u64, y: u64, class: &str) -> Result<(), AllocError> {
-        write!(self.out, "<text class=\"{class}\" x=\"{x}\" y=\"{y}\">")
+    fn begin_words(&mut self, x: u64, y: u64, class: &str) {
+        self.page.add("<text class=\"");
+        self.page.add(class);
+        self.page.add_number("\" x=\"", x);
+        self.page.add_number("\" y=\"", y);
+        self.page.add("\">");
     }
 
-    fn end_words(&mut self) -> Result<(), AllocError> {
-        self.out.push_str("</text>\n")
+    fn end_words(&mut self) {
+        self.page.add("</text>\n");
     }
 
     // A line of a class.
-    fn line(&mut self, class: &str, from: (u64, u64), to: (u64, u64)) -> Result<(), AllocError> {
-        let ((x1, y1), (x2, y2)) = (from, to);
-        writeln!(
-            self.out,
-            "<line class=\"{class}\" x1=\"{x1}\" y1=\"{y1}\" x2=\"{x2}\" y2=\"{y2}\"/>"
-        )
+    fn line(&mut self, class: &str, from: (u64, u64), to: (u64, u64)) {
+        self.page.add("<line class=\"");
+        self.page.add(class);
+        self.page.add_number("\" x1=\"", from.0);
+        self.page.add_number("\" y1=\"", from.1);
+        self.page.add_number("\" x2=\"", to.0);
+        self.page.add_number("\" y2=\"", to.1);
+        self.page.add("\"/>\n");
     }
 
     // The members' lines and names. The leader's name is marked.
-    fn columns(&mut self, tale: &Tale) -> Result<(), AllocError> {
-        let frame = self.frame;
+    fn columns(&mut self, tale: &Tale) {
+        let leader = tale.leader();
         let last = tale.ring.len();
         for column in 0..=last {
-            let class = if column == last {
-                "column again"
-            } else {
-                "column"
-            };
-            let x = frame.x(column);
-            self.line(class, (x, frame.y_names()), (x, frame.y_bottom()))?;
+            let x = self.frame.x(column);
+            self.column(x, column == last);
             if let Some(member) = tale.member(column) {
-                self.name(x, member, tale.leader() == Some(member), column == last)?;
+                self.name(x, member, leader == Some(member), column == last);
             }
         }
-        Ok(())
     }
 
-    // The name of a member in a box.
-    fn name(&mut self, x: u64, member: NodeId, leads: bool, again: bool) -> Result<(), AllocError> {
-        let mut name = String::new(*self.out.allocator());
-        label::add_member(&mut name, member)?;
-        self.boxed(x, name.as_str(), leads, again)
+    // The line of a member; dashed where it stands again.
+    fn column(&mut self, x: u64, again: bool) {
+        let class = if again { "column again" } else { "column" };
+        let (top, bottom) = (self.frame.y_names(), self.frame.y_bottom());
+        self.line(class, (x, top), (x, bottom));
     }
 
-    // A name in a box.
-    fn boxed(&mut self, x: u64, name: &str, leads: bool, again: bool) -> Result<(), AllocError> {
+    // The name of a member in a box. Where it stands again nothing says there that it leads.
+    fn name(&mut self, x: u64, member: NodeId, leads: bool, again: bool) {
         let y = self.frame.y_names();
-        let width = (name.len() as u64).saturating_mul(9).saturating_add(18);
-        self.name_box(x.saturating_sub(width / 2), width, leads, again)?;
-        self.words(x, y.saturating_sub(7), "name", name)?;
+        self.name_box(x, member, leads, again);
+        self.begin_words(x, y.saturating_sub(7), "name");
+        label::add_member(&mut self.page, "", member);
+        self.end_words();
         if leads && !again {
-            let x = x.saturating_sub(19);
-            self.words(x, y.saturating_sub(30), "small", "leader")?;
+            self.words(
+                x.saturating_sub(19),
+                y.saturating_sub(30),
+                "small",
+                "leader",
+            );
         }
-        Ok(())
     }
 
     // The box of a name. The leader's is coloured, and dashed where the name stands again.
-    fn name_box(&mut self, x: u64, width: u64, leads: bool, again: bool) -> Result<(), AllocError> {
-        let y = self.frame.y_names().saturating_sub(24);
-        let fill = if leads { "#ffd75e" } else { "white" };
-        write!(
-            self.out,
-            "<rect x=\"{x}\" y=\"{y}\" width=\"{width}\" height=\"24\" rx=\"6\" fill=\"{fill}\" stroke=\"#666\""
-        )?;
-        self.out.push_str(if again {
+    fn name_box(&mut self, x: u64, member: NodeId, leads: bool, again: bool) {
+        let width = (width_of(member) as u64)
+            .saturating_mul(9)
+            .saturating_add(18);
+        self.page
+            .add_number("<rect x=\"", x.saturating_sub(width / 2));
+        self.page
+            .add_number("\" y=\"", self.frame.y_names().saturating_sub(24));
+        self.page.add_number("\" width=\"", width);
+        self.page.add("\" height=\"24\" rx=\"6\" fill=\"");
+        self.page.add(if leads { "#ffd75e" } else { "white" });
+        self.page.add("\" stroke=\"#666\"");
+        self.page.add(if again {
             " stroke-dasharray=\"2 3\"/>\n"
         } else {
             "/>\n"
-        })
+        });
     }
 
     // The lines of members from when they know the leader.
-    fn knowing(&mut self, tale: &Tale) -> Result<(), AllocError> {
+    fn knowing(&mut self, tale: &Tale) {
         let mut now = 0u64;
         for step in &tale.steps {
             now = now.saturating_add(1);
             if step.learned.is_some() {
-                self.learned(tale, step.position, now)?;
+                self.learned(tale, step.position, now);
             }
         }
-        Ok(())
     }
 
     // The line of a position from a delivery on, and of the first one where it stands again.
-    fn learned(&mut self, tale: &Tale, position: usize, now: u64) -> Result<(), AllocError> {
+    fn learned(&mut self, tale: &Tale, position: usize, now: u64) {
         let y = self.frame.y(now);
-        self.knows(self.frame.x(position), y)?;
+        self.knows(self.frame.x(position), y);
         if position == 0 {
-            self.knows(self.frame.x(tale.ring.len()), y)?;
+            self.knows(self.frame.x(tale.ring.len()), y);
         }
-        Ok(())
     }
 
     // A member's line from a delivery on.
-    fn knows(&mut self, x: u64, y: u64) -> Result<(), AllocError> {
-        self.line("knows", (x, y), (x, self.frame.y_bottom()))?;
-        writeln!(
-            self.out,
-            "<circle cx=\"{x}\" cy=\"{y}\" r=\"5\" fill=\"#2e8b4a\"/>"
-        )
+    fn knows(&mut self, x: u64, y: u64) {
+        self.line("knows", (x, y), (x, self.frame.y_bottom()));
+        self.page.add_number("<circle cx=\"", x);
+        self.page.add_number("\" cy=\"", y);
+        self.page.add("\" r=\"5\" fill=\"#2e8b4a\"/>\n");
     }
 
     // The arrows of deliveries.
-    fn delivered(&mut self, tale: &Tale) -> Result<(), AllocError> {
-        let frame = self.frame;
+    fn delivered(&mut self, tale: &Tale) {
         let mut now = 0u64;
         for step in &tale.steps {
             now = now.saturating_add(1);
-            self.arrow(&step.arrow, "", frame.x(step.arrow.to), frame.y(now))?;
+            let (x, y) = (self.frame.x(step.arrow.to), self.frame.y(now));
+            self.arrow(&step.arrow, "", x, y);
         }
-        Ok(())
     }
 
     // The arrows of what is in flight at the end.
-    fn flying(&mut self, tale: &Tale) -> Result<(), AllocError> {
-        let frame = self.frame;
-        let mut nth = 0usize;
+    fn flying(&mut self, tale: &Tale) {
+        let mut nth = 0u64;
         for arrow in &tale.flying {
-            let x = frame.x_flying(arrow.from, arrow.to);
-            self.arrow(arrow, " flying", x, frame.y_flying(nth))?;
+            let (x, y) = (self.frame.x_flying(arrow), self.frame.y_flying(nth));
+            self.arrow(arrow, " flying", x, y);
             nth = nth.saturating_add(1);
         }
-        Ok(())
     }
 
     // An arrow that ends at this place.
-    fn arrow(&mut self, arrow: &Arrow, more: &str, x: u64, y: u64) -> Result<(), AllocError> {
+    fn arrow(&mut self, arrow: &Arrow, more: &str, x: u64, y: u64) {
         let colour = match arrow.kind {
             Kind::Announcement => "told",
             Kind::Message if arrow.from < arrow.to => "right",
             Kind::Message => "left",
         };
-        let (x1, y1) = (self.frame.x(arrow.from), self.frame.y(arrow.sent));
-        writeln!(
-            self.out,
-            "<path class=\"arrow {colour}{more}\" d=\"M{x1} {y1} L{x} {y}\" marker-end=\"url(#head)\"/>"
-        )
+        self.page.add("<path class=\"arrow ");
+        self.page.add(colour);
+        self.page.add(more);
+        self.page.add_number("\" d=\"M", self.frame.x(arrow.from));
+        self.page.add_number(" ", self.frame.y(arrow.sent));
+        self.page.add_number(" L", x);
+        self.page.add_number(" ", y);
+        self.page.add("\" marker-end=\"url(#head)\"/>\n");
     }
 
     // The labels of deliveries. Labels come after all lines, so that none runs over them.
-    fn delivered_labels(&mut self, tale: &Tale) -> Result<(), AllocError> {
-        let frame = self.frame;
+    fn delivered_labels(&mut self, tale: &Tale) {
         let mut now = 0u64;
         for step in &tale.steps {
             now = now.saturating_add(1);
-            self.label(&step.arrow, frame.x(step.arrow.to), frame.y(now))?;
+            let (x, y) = (self.frame.x(step.arrow.to), self.frame.y(now));
+            self.label(&step.arrow, x, y);
         }
-        Ok(())
     }
 
     // The labels of what is in flight at the end.
-    fn flying_labels(&mut self, tale: &Tale) -> Result<(), AllocError> {
-        let frame = self.frame;
-        let mut nth = 0usize;
+    fn flying_labels(&mut self, tale: &Tale) {
+        let mut nth = 0u64;
         for arrow in &tale.flying {
-            let x = frame.x_flying(arrow.from, arrow.to);
-            self.label(arrow, x, frame.y_flying(nth))?;
+            let (x, y) = (self.frame.x_flying(arrow), self.frame.y_flying(nth));
+            self.label(arrow, x, y);
             nth = nth.saturating_add(1);
         }
-        Ok(())
     }
 
     // The label of an arrow that ends at this place, on the side from which it comes.
-    fn label(&mut self, arrow: &Arrow, x: u64, y: u64) -> Result<(), AllocError> {
-        let y = y.saturating_add(4);
-        if arrow.from < arrow.to {
-            self.words(x.saturating_sub(14), y, "label east", arrow.label.as_str())
+    fn label(&mut self, arrow: &Arrow, x: u64, y: u64) {
+        let (x, class) = if arrow.from < arrow.to {
+            (x.saturating_sub(14), "label east")
         } else {
-            self.words(x.saturating_add(14), y, "label west", arrow.label.as_str())
-        }
+            (x.saturating_add(14), "label west")
+        };
+        self.words(x, y.saturating_add(4), class, arrow.label.as_str());
     }
 
     // The numbers of the deliveries, and who knew the leader by them.
-    fn notes(&mut self, tale: &Tale) -> Result<(), AllocError> {
+    fn notes(&mut self, tale: &Tale) {
         let y = self.frame.y(0).saturating_add(4);
-        self.words(58, y, "tick", "start")?;
+        self.words(58, y, "tick", "start");
         let mut now = 0u64;
         for step in &tale.steps {
             now = now.saturating_add(1);
-            self.note(tale, step, now)?;
+            self.note(tale, step, now);
         }
-        self.end(tale)
+        self.end(tale);
     }
 
     // The number of a delivery, and who knew the leader by it.
-    fn note(&mut self, tale: &Tale, step: &Step, now: u64) -> Result<(), AllocError> {
+    fn note(&mut self, tale: &Tale, step: &Step, now: u64) {
         let y = self.frame.y(now).saturating_add(4);
-        self.tick(y, now)?;
-        match (tale.member(step.position), step.learned) {
-            (Some(member), Some(leader)) => self.knowledge(y, member, leader),
-            _ => Ok(()),
+        self.begin_words(58, y, "tick");
+        self.page.add_number("", now);
+        self.end_words();
+        if let (Some(member), Some(leader)) = (tale.member(step.position), step.learned) {
+            self.begin_words(self.frame.x_margin(), y, "note");
+            label::add_knows(&mut self.page, "", member, leader);
+            self.end_words();
         }
-    }
-
-    // The number of a delivery.
-    fn tick(&mut self, y: u64, now: u64) -> Result<(), AllocError> {
-        self.begin_words(58, y, "tick")?;
-        write!(self.out, "{now}")?;
-        self.end_words()
-    }
-
-    // Who knew the leader by a delivery.
-    fn knowledge(&mut self, y: u64, member: NodeId, leader: NodeId) -> Result<(), AllocError> {
-        self.begin_words(self.frame.x_margin(), y, "note")?;
-        label::add_knows(&mut self.out, member, leader)?;
-        self.end_words()
     }
 
     // The line above what is in flight at the end.
-    fn end(&mut self, tale: &Tale) -> Result<(), AllocError> {
-        if tale.flying.is_empty() {
-            return Ok(());
+    fn end(&mut self, tale: &Tale) {
+        if !tale.flying.is_empty() {
+            let frame = self.frame;
+            let y = frame.y_end();
+            self.line("end", (24, y), (frame.x_margin(), y));
+            self.words(58, frame.y_flying(0).saturating_add(4), "tick", "in flight");
         }
-        let frame = self.frame;
-        let y = frame.y_end();
-        self.line("end", (24, y), (frame.x_margin(), y))?;
-        self.words(58, frame.y_flying(0).saturating_add(4), "tick", "in flight")
     }
 
     // What the lines mean.
-    fn legend(&mut self) -> Result<(), AllocError> {
+    fn legend(&mut self) {
         let mut y = self.frame.y_bottom().saturating_add(32);
         for words in LEGEND {
-            self.words(24, y, "small", words)?;
+            self.words(24, y, "small", words);
             y = y.saturating_add(16);
         }
-        Ok(())
     }
 }

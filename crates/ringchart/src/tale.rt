@@ -1,5 +1,6 @@
 //! What happened in one term, as a picture shows it.
 use crate::label;
+use crate::page::Page;
 use ring_any::Any;
 use ring_id::{GroupName, NodeId};
 use std::alloc::{AllocError, Global};
@@ -56,15 +57,22 @@ impl Tale {
 
     /// The leader, if a member knew it.
     pub fn leader(&self) -> Option<NodeId> {
-        self.steps.iter().find_map(|step| step.learned)
+        let mut leader = None;
+        for step in &self.steps {
+            leader = leader.or(step.learned);
+        }
+        leader
     }
 
     /// How many members knew the leader.
-    pub fn informed(&self) -> usize {
-        self.steps
-            .iter()
-            .filter(|step| step.learned.is_some())
-            .count()
+    pub fn informed(&self) -> u64 {
+        let mut informed = 0u64;
+        for step in &self.steps {
+            if step.learned.is_some() {
+                informed = informed.saturating_add(1);
+            }
+        }
+        informed
     }
 
     /// The name of the group.
@@ -74,64 +82,78 @@ impl Tale {
 
     /// The line above a picture.
     pub fn title(&self, alloc: Global) -> Result<String, AllocError> {
-        let mut title = String::new(alloc);
-        self.add_title(&mut title)?;
-        Ok(title)
+        let mut page = Page::new(alloc);
+        self.add_title(&mut page);
+        page.text()
     }
 
     /// Adds the line above a picture.
-    pub fn add_title(&self, text: &mut String) -> Result<(), AllocError> {
-        text.push_str(label::of_algorithm(self.algorithm))?;
-        text.push_str(", ring")?;
+    pub fn add_title(&self, page: &mut Page) {
+        page.add(label::of_algorithm(self.algorithm));
+        page.add(", ring");
         for member in &self.ring {
-            text.push(' ')?;
-            label::add_member(text, *member)?;
+            label::add_member(page, " ", *member);
         }
-        write!(text, ", term {} of group {}", self.term, self.group_text())
+        page.add_number(", term ", self.term as u64);
+        page.add(" of group ");
+        page.add(self.group_text());
     }
 
     /// Adds the line below it: what came of the term.
-    pub fn add_outcome(&self, text: &mut String) -> Result<(), AllocError> {
-        self.add_known(text)?;
-        write!(text, " after {} deliveries", self.steps.len())?;
+    pub fn add_outcome(&self, page: &mut Page) {
+        self.add_known(page);
+        page.add_number(" after ", self.steps.len() as u64);
         match self.flying.len() {
-            0 => text.push_str("; nothing in flight"),
-            flying => write!(text, "; {flying} in flight at the end"),
+            0 => page.add(" deliveries; nothing in flight"),
+            flying => {
+                page.add_number(" deliveries; ", flying as u64);
+                page.add(" in flight at the end");
+            }
         }
     }
 
     // Adds who leads, and how many members knew it.
-    fn add_known(&self, text: &mut String) -> Result<(), AllocError> {
-        let Some(leader) = self.leader() else {
-            return text.push_str("undecided");
-        };
-        text.push_str("leader ")?;
-        label::add_member(text, leader)?;
-        write!(
-            text,
-            ", known to {} of {}",
-            self.informed(),
-            self.ring.len()
-        )
+    fn add_known(&self, page: &mut Page) {
+        match self.leader() {
+            Some(leader) => {
+                label::add_member(page, "leader ", leader);
+                page.add_number(", known to ", self.informed());
+                page.add_number(" of ", self.ring.len() as u64);
+            }
+            None => page.add("undecided"),
+        }
     }
 
     /// How many characters the longest name of a member has.
     pub fn widest_name(&self) -> usize {
-        let names = self.ring.iter().map(|member| width(*member));
-        names.max().unwrap_or(0)
+        let mut widest = 0;
+        for member in &self.ring {
+            widest = width_of(*member).max(widest);
+        }
+        widest
     }
 
     /// How many characters the longest label has, or the longest name of a member.
     pub fn widest(&self) -> usize {
-        let names = Some(self.widest_name());
-        let steps = self.steps.iter().map(|step| step.arrow.label.len()).max();
-        let flying = self.flying.iter().map(|arrow| arrow.label.len()).max();
-        names.max(steps).max(flying).unwrap_or(0)
+        let mut widest = self.widest_flying().max(self.widest_name());
+        for step in &self.steps {
+            widest = step.arrow.label.len().max(widest);
+        }
+        widest
+    }
+
+    // How many characters the longest label has of what was in flight at the end.
+    fn widest_flying(&self) -> usize {
+        let mut widest = 0;
+        for arrow in &self.flying {
+            widest = arrow.label.len().max(widest);
+        }
+        widest
     }
 }
 
-// How many characters the name of a member has.
-fn width(member: NodeId) -> usize {
+/// How many characters the name of a member has.
+pub fn width_of(member: NodeId) -> usize {
     match member.weight() {
         0 => digits(member.get()),
         weight => digits(member.get())
@@ -142,5 +164,8 @@ fn width(member: NodeId) -> usize {
 
 // How many digits a number has.
 fn digits(number: u32) -> usize {
-    number.checked_ilog10().map_or(1, |log| log as usize + 1)
+    match number.checked_ilog10() {
+        Some(log) => log as usize + 1,
+        None => 1,
+    }
 }

@@ -1,6 +1,7 @@
 //! A term as a picture of characters.
 use crate::label;
-use crate::tale::{Arrow, Step, Tale};
+use crate::page::Page;
+use crate::tale::{Arrow, Step, Tale, width_of};
 use ring_id::NodeId;
 use std::alloc::{AllocError, Global};
 
@@ -17,21 +18,24 @@ enum Gap<'a> {
     Flying(&'a Arrow),
 }
 
-/// The picture of a term.
-pub fn draw(alloc: Global, tale: &Tale) -> Result<String, AllocError> {
+/// The picture of a term, behind these words.
+pub fn draw(alloc: Global, tale: &Tale, words: &str) -> Result<String, AllocError> {
+    let mut knows = Vec::new(alloc);
+    knows.resize(tale.ring.len(), false)?;
     let mut drawing = Drawing {
-        out: String::new(alloc),
+        page: Page::new(alloc),
         gap: tale.widest().saturating_add(6).max(8),
         size: tale.ring.len(),
-        knows: Vec::new(alloc),
+        knows,
     };
-    drawing.all(tale)?;
-    Ok(drawing.out)
+    drawing.page.add(words);
+    drawing.all(tale);
+    drawing.page.text()
 }
 
 #[derive(Drop)]
 struct Drawing {
-    out: String,
+    page: Page,
     gap: usize,
     size: usize,
     // Which positions know the leader by now.
@@ -40,141 +44,127 @@ struct Drawing {
 
 impl Drawing {
     // What stands above the members, and all rows.
-    fn all(&mut self, tale: &Tale) -> Result<(), AllocError> {
-        self.knows.resize(self.size, false)?;
-        self.head(tale)?;
-        self.names(tale)?;
-        self.steps(tale)?;
-        self.flying(tale)
-    }
-
-    // The title, what came of the term, and an empty line.
-    fn head(&mut self, tale: &Tale) -> Result<(), AllocError> {
-        tale.add_title(&mut self.out)?;
-        self.out.push('\n')?;
-        tale.add_outcome(&mut self.out)?;
-        self.out.push_str("\n\n")
+    fn all(&mut self, tale: &Tale) {
+        tale.add_title(&mut self.page);
+        self.page.add("\n");
+        tale.add_outcome(&mut self.page);
+        self.page.add("\n\n");
+        self.names(tale);
+        self.steps(tale);
+        self.flying(tale);
     }
 
     // The members above their columns; the leader in brackets.
-    fn names(&mut self, tale: &Tale) -> Result<(), AllocError> {
+    fn names(&mut self, tale: &Tale) {
+        let leader = tale.leader();
         let mut before = LEFT;
         for column in 0..=self.size {
             if let Some(member) = tale.member(column) {
-                self.spaces(before)?;
-                let width = self.name(member, tale.leader() == Some(member))?;
+                self.page.fill(before, ' ');
+                let width = self.name(member, leader == Some(member));
                 before = self.gap.saturating_add(1).saturating_sub(width);
             }
         }
-        self.out.push('\n')
+        self.page.add("\n");
     }
 
     // The name of a member; how many characters it has.
-    fn name(&mut self, member: NodeId, leads: bool) -> Result<usize, AllocError> {
-        let before = self.out.len();
-        if leads {
-            self.out.push('[')?;
-        }
-        label::add_member(&mut self.out, member)?;
-        if leads {
-            self.out.push(']')?;
-        }
-        Ok(self.out.len().saturating_sub(before))
+    fn name(&mut self, member: NodeId, leads: bool) -> usize {
+        let (before, behind) = if leads { ("[", "]") } else { ("", "") };
+        label::add_member(&mut self.page, before, member);
+        self.page.add(behind);
+        width_of(member).saturating_add(before.len() + behind.len())
     }
 
     // A row for the start, and one for each delivery.
-    fn steps(&mut self, tale: &Tale) -> Result<(), AllocError> {
-        self.row("start", Gap::Empty)?;
-        self.out.push('\n')?;
+    fn steps(&mut self, tale: &Tale) {
+        self.page.add("   start  ");
+        self.columns(Gap::Empty);
+        self.page.add("\n");
         let mut now = 0u64;
         for step in &tale.steps {
             now = now.saturating_add(1);
-            self.step(tale, step, now)?;
+            self.step(tale, step, now);
         }
-        Ok(())
     }
 
     // The row of a delivery.
-    fn step(&mut self, tale: &Tale, step: &Step, now: u64) -> Result<(), AllocError> {
+    fn step(&mut self, tale: &Tale, step: &Step, now: u64) {
         if step.learned.is_some()
             && let Some(knows) = self.knows.get_mut(step.position)
         {
             *knows = true;
         }
-        write!(self.out, "{now:>8}  ")?;
-        self.columns(Gap::Taken(&step.arrow))?;
-        self.note(tale, step, now)
+        self.page.add_right(now);
+        self.page.add("  ");
+        self.columns(Gap::Taken(&step.arrow));
+        self.note(tale, step, now);
     }
 
     // The words beside a delivery: by which one its packet was sent, unless by the one before, and who
     // knew the leader by it.
-    fn note(&mut self, tale: &Tale, step: &Step, now: u64) -> Result<(), AllocError> {
+    fn note(&mut self, tale: &Tale, step: &Step, now: u64) {
         let waited = step.arrow.sent.saturating_add(1) < now;
         if waited {
-            self.sent_at(step.arrow.sent)?;
+            self.sent_at(step.arrow.sent);
         }
         if let (Some(member), Some(leader)) = (tale.member(step.position), step.learned) {
-            self.out.push_str(if waited { ", " } else { "   " })?;
-            label::add_knows(&mut self.out, member, leader)?;
+            let words = if waited { ", " } else { "   " };
+            label::add_knows(&mut self.page, words, member, leader);
         }
-        self.out.push('\n')
+        self.page.add("\n");
     }
 
     // A row for each packet in flight at the end.
-    fn flying(&mut self, tale: &Tale) -> Result<(), AllocError> {
+    fn flying(&mut self, tale: &Tale) {
         for arrow in &tale.flying {
-            self.row("flying", Gap::Flying(arrow))?;
-            self.sent_at(arrow.sent)?;
-            self.out.push('\n')?;
+            self.page.add("  flying  ");
+            self.columns(Gap::Flying(arrow));
+            self.sent_at(arrow.sent);
+            self.page.add("\n");
         }
-        Ok(())
     }
 
     // By which delivery a packet was sent.
-    fn sent_at(&mut self, sent: u64) -> Result<(), AllocError> {
+    fn sent_at(&mut self, sent: u64) {
         match sent {
-            0 => self.out.push_str("   sent at the start"),
-            sent => write!(self.out, "   sent at {sent}"),
+            0 => self.page.add("   sent at the start"),
+            sent => self.page.add_number("   sent at ", sent),
         }
-    }
-
-    // A row without its note: its name, and the columns with what stands in one gap.
-    fn row(&mut self, name: &str, gap: Gap<'_>) -> Result<(), AllocError> {
-        write!(self.out, "{name:>8}  ")?;
-        self.columns(gap)
     }
 
     // The columns of a row, with what stands in one gap.
-    fn columns(&mut self, gap: Gap<'_>) -> Result<(), AllocError> {
+    fn columns(&mut self, gap: Gap<'_>) {
         for column in 0..self.size {
-            self.column(column)?;
-            self.gap(column, gap)?;
+            self.column(column);
+            self.gap(column, gap);
         }
-        self.column(0)
+        self.column(0);
     }
 
     // A column's sign: whether its member knows the leader.
-    fn column(&mut self, position: usize) -> Result<(), AllocError> {
+    fn column(&mut self, position: usize) {
         match self.knows.get(position) {
-            Some(true) => self.out.push('#'),
-            _ => self.out.push('|'),
+            Some(true) => self.page.add("#"),
+            _ => self.page.add("|"),
         }
     }
 
     // What stands behind a column.
-    fn gap(&mut self, column: usize, gap: Gap<'_>) -> Result<(), AllocError> {
+    fn gap(&mut self, column: usize, gap: Gap<'_>) {
         match gap {
-            Gap::Taken(arrow) | Gap::Flying(arrow) if arrow.from.min(arrow.to) != column => {
-                self.spaces(self.gap)
+            Gap::Taken(arrow) if arrow.from.min(arrow.to) == column => {
+                self.arrow(arrow, '-', head_of(arrow));
             }
-            Gap::Taken(arrow) => self.arrow(arrow, '-', head_of(arrow)),
-            Gap::Flying(arrow) => self.arrow(arrow, '.', ' '),
-            Gap::Empty => self.spaces(self.gap),
+            Gap::Flying(arrow) if arrow.from.min(arrow.to) == column => {
+                self.arrow(arrow, '.', ' ');
+            }
+            _ => self.page.fill(self.gap, ' '),
         }
     }
 
     // An arrow with its label, as wide as a gap.
-    fn arrow(&mut self, arrow: &Arrow, shaft: char, head: char) -> Result<(), AllocError> {
+    fn arrow(&mut self, arrow: &Arrow, shaft: char, head: char) {
         let shafts = self.gap.saturating_sub(arrow.label.len()).saturating_sub(1);
         let before = shafts / 2;
         let (first, last) = if arrow.from < arrow.to {
@@ -182,22 +172,11 @@ impl Drawing {
         } else {
             (head, shaft)
         };
-        self.out.push(first)?;
-        self.fill(before.saturating_sub(1), shaft)?;
-        self.out.push_str(arrow.label.as_str())?;
-        self.fill(shafts.saturating_sub(before), shaft)?;
-        self.out.push(last)
-    }
-
-    fn spaces(&mut self, count: usize) -> Result<(), AllocError> {
-        self.fill(count, ' ')
-    }
-
-    fn fill(&mut self, count: usize, character: char) -> Result<(), AllocError> {
-        for _ in 0..count {
-            self.out.push(character)?;
-        }
-        Ok(())
+        self.page.fill(1, first);
+        self.page.fill(before.saturating_sub(1), shaft);
+        self.page.add(arrow.label.as_str());
+        self.page.fill(shafts.saturating_sub(before), shaft);
+        self.page.fill(1, last);
     }
 }
 

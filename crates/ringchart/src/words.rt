@@ -2,7 +2,6 @@
 use clap::error::ErrorKind;
 use clap::{Arg, ArgAction, ArgMatches, Command};
 use std::alloc::{AllocError, Global};
-use thiserror::Error;
 
 // What stands below the options in the help.
 const NOTES: &str =
@@ -26,13 +25,11 @@ pub struct Order {
 }
 
 /// Why the words gave no order.
-#[derive(Debug, Drop, Error)]
+#[derive(Drop)]
 pub enum WordsFault {
     /// The command line was refused, or asked for help. The text is clap's.
-    #[error(transparent)]
     Usage(clap::Error),
     /// Memory was refused.
-    #[error("no memory")]
     NoMemory,
 }
 
@@ -55,19 +52,12 @@ impl From<AllocError> for WordsFault {
 // The program's command line.
 fn command<'a>(alloc: Global) -> Result<Command<'a>, AllocError> {
     let into = into_arg(alloc)?;
-    let command = Command::new(alloc, "ringchart")
+    Command::new(alloc, "ringchart")
         .about("Draws what a schedule does: a picture of each term, message by message")
         .after_help(NOTES)
-        .arg(schedule_arg(alloc));
-    with_arg(with_arg(command, into), text_arg(alloc))
-}
-
-// The command with one more argument, where memory wasn't refused before.
-fn with_arg<'a>(
-    command: Result<Command<'a>, AllocError>,
-    arg: Arg<'a>,
-) -> Result<Command<'a>, AllocError> {
-    command?.arg(arg)
+        .arg(into)?
+        .arg(schedule_arg(alloc))?
+        .arg(text_arg(alloc))
 }
 
 // The file of the schedule.
@@ -96,13 +86,18 @@ fn text_arg<'a>(alloc: Global) -> Arg<'a> {
 
 /// The refusal of a command line that has a word of other bytes than UTF-8.
 pub fn not_text(alloc: Global) -> Result<clap::Error, AllocError> {
-    command(alloc)?.error(ErrorKind::ValueValidation, "a word is not UTF-8 text")
+    let mut command = command(alloc)?;
+    let error = command.error(ErrorKind::ValueValidation, "a word is not UTF-8 text");
+    drop(command);
+    error
 }
 
 /// Reads the words of a command line, of which the first is the program's name.
 pub fn read_words(alloc: Global, words: &[String]) -> Result<Order, WordsFault> {
     let matches = command(alloc)?.try_get_matches_from(words)?;
-    Ok(order_of(alloc, &matches)?)
+    let order = order_of(alloc, &matches);
+    drop(matches);
+    Ok(order?)
 }
 
 // The order that was given.
