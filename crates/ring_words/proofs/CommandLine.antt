@@ -156,13 +156,25 @@ both_halves None name rows a b = absurd (cc)
 both_halves (Some p) name rows a b =
     ap₂ (λ (x : Text) (y : List Row). Some (x, y)) (sym (ap (λ (o : Option Text). unwrap_or o name) a)) (sym (ap (λ (o : Option (List Row)). unwrap_or o rows) b))
 
--- a parse by this command line that has matches met the subcommand that the words name
+-- the subcommand that a parse by this command line met is the one that the words name
+rows_met : (a : App) (words : List Text) (m : ArgMatches) → a ≡ ringd_app → HasMatchesOf a words m → subcommand_rows_of m ≡ subcommand_of ringd_app words
+rows_met a words m is matches = (matches (ap is_simple is ∙ refl)).1 ∙ ap (λ (x : App). subcommand_of x words) is
+
+-- so its name and its rows are what the words name
 pub meets : (a : App) (words : List Text) (m : ArgMatches) (name : Text) (rows : List Row) → a ≡ ringd_app → (is_simple_and_free a ≡ true → fault_of a words ≡ []) → HasMatchesOf a words m
     → Some name ≡ subcommand_name_of m → Some rows ≡ option_map (λ p. p.1) (subcommand_rows_of m) → Names words name rows
 meets a words m name rows is free matches by_name by_rows =
     let met : subcommand_rows_of m ≡ Some (name, rows) = both_halves (subcommand_rows_of m) name rows (by_name ∙ name_of_rows m) by_rows in
-    let same : subcommand_rows_of m ≡ subcommand_of ringd_app words = (matches (ap is_simple is ∙ refl)).1 ∙ ap (λ (x : App). subcommand_of x words) is in
-    record { taken = no_mistake a words is free; named = sym same ∙ met }
+    record { taken = no_mistake a words is free; named = sym (rows_met a words m is matches) ∙ met }
+
+-- and a parse that has matches met one
+pub meets_one : (a : App) (words : List Text) (m : ArgMatches) → a ≡ ringd_app → (is_simple_and_free a ≡ true → fault_of a words ≡ []) → HasMatchesOf a words m
+    → option_map (λ p. p.1) (subcommand_rows_of m) ≡ None → ⊥
+meets_one a words m is free matches none =
+    let one = taken_names_one words (no_mistake a words is free) in
+    let met : Some one.met ≡ subcommand_rows_of m = sym (rows_met a words m is matches ∙ one.named) in
+    let bad : Some one.met.1 ≡ None = ap (λ (o : Option (Text × List Row)). option_map (λ p. p.1) o) met ∙ none in
+    cc
 
 -- words that name a subcommand name one of the program's, and its level
 pub names_one : (words : List Text) (name : Text) (rows : List Row) → Names words name rows → IsOurs name × OfLevels (name, rows)
@@ -190,6 +202,11 @@ has_cause a words error (Err (Usage given)) is kinds told =
       | inr kind ↦ subst (λ (e : Error). IsAmong (kind_of e) (fault_of ringd_app words)) (sym told.0) kind
     ]
 
+-- so has want of memory
+pub memory_is_cause : (words : List Text) (r : Result Order WordsFault) → IsOkUnless r NoMemory → IfErr r (HasCause words)
+memory_is_cause words (Ok order) is = tt
+memory_is_cause words (Err fault) is = subst (HasCause words) (sym is) tt
+
 -- What a call promises of its result, whatever words it was given: an order is theirs, a fault has its cause, and the
 -- fault is want of memory where nothing else may fail.
 pub record IsWantOfMemory (words : List Text) (r : Result Order WordsFault) : Type 0 where
@@ -200,4 +217,4 @@ pub record IsWantOfMemory (words : List Text) (r : Result Order WordsFault) : Ty
 -- a refusal for want of memory keeps all that is promised
 pub want_of_memory : (words : List Text) (r : Result Order WordsFault) → IsErrAnd r (λ fault. fault ≡ NoMemory) → IsWantOfMemory words r
 want_of_memory words (Ok order) is = absurd is
-want_of_memory words (Err fault) is = record { order = tt; usage = subst (HasCause words) (sym is) tt; only = is }
+want_of_memory words (Err fault) is = record { order = tt; usage = memory_is_cause words (Err fault) is; only = is }

@@ -1,5 +1,5 @@
 -- Words that the command line takes, where they name `serve` or `run`, give rows with what those need.
-use Rattle.std.proofs.Common.{◌≡◌, ◌∙◌, ◌||◌, Bool, ℕ, codes, cond, true, false, not, refl, sym, ap, subst, inl, inr, List, [], ◌∷◌, length, Option, Some, None, option_map}
+use Rattle.std.proofs.Common.{◌≡◌, ◌∙◌, ◌||◌, Bool, ℕ, codes, cond, true, false, not, refl, sym, ap, subst, inl, inr, List, [], ◌∷◌, length, IfOk, Option, Some, None, Result, Ok, Err, option_map}
 use Rattle.std.specs.Prelude.{find, pos, slice_get, unwrap_or, option_and_then}
 use Rattle.std.specs.Str.{bytes_eq}
 use Rattle.clap.specs.Kinds.{range_kinds}
@@ -19,6 +19,7 @@ use Rattle.ring_words.specs.private.Words.{HasFile, HasNumber, IsRun, IsRunOf, I
 use Rattle.ring_words.specs.Words.{IsGiven, Names, config_rule}
 use Rattle.ring_words.specs.declared.words.Order.{Order}
 use Rattle.ring_words.specs.declared.words.Order.TheVariants.{Replay, Run, Serve}
+use Rattle.ring_words.specs.declared.words.WordsFault.{WordsFault}
 use Rattle.ring_words.proofs.CommandLine.{IsLevel, names_one, run_below, serve_below}
 use Rattle.ring_words.proofs.Levels.{Each, EachKeeps, Keeps}
 use Rattle.ring_words.proofs.Rows.{IsRead, KeepDefaults, flag_keeps, level_checks, level_reads, no_default, other_default, other_use, own_use, row_given, row_reads, set_keeps}
@@ -232,14 +233,16 @@ named_serves words rows names = serve_gives rows ((names_one words (codes "serve
 pub named_runs : (words : List Text) (rows : List Row) → Names words (codes "run") rows → IsRun rows
 named_runs words rows names = run_gives rows ((names_one words (codes "run") rows names).1.1 refl)
 
--- so the order of `serve` is the one that the words give
-pub serves_as_given : (words : List Text) (rows : List Row) (order : Order) → Names words (codes "serve") rows → IsServeOf rows order → IsGiven words order
-serves_as_given words rows Replay names told = absurd told
-serves_as_given words rows (Serve path connections) names told = (rows, names, told)
-serves_as_given words rows (Run path sessions idle places) names told = absurd told
+-- so the order of `serve`, where there is one, is the one that the words give
+pub serves_as_given : (words : List Text) (rows : List Row) (r : Result Order WordsFault) → Names words (codes "serve") rows → IfOk r (IsServeOf rows) → IfOk r (IsGiven words)
+serves_as_given words rows (Ok Replay) names told = absurd told
+serves_as_given words rows (Ok (Serve path connections)) names told = (rows, names, told)
+serves_as_given words rows (Ok (Run path sessions idle places)) names told = absurd told
+serves_as_given words rows (Err fault) names told = tt
 
 -- and so that of `run`
-pub runs_as_given : (words : List Text) (rows : List Row) (order : Order) → Names words (codes "run") rows → IsRunOf rows order → IsGiven words order
-runs_as_given words rows Replay names told = absurd told
-runs_as_given words rows (Serve path connections) names told = absurd told
-runs_as_given words rows (Run path sessions idle places) names told = (rows, names, told)
+pub runs_as_given : (words : List Text) (rows : List Row) (r : Result Order WordsFault) → Names words (codes "run") rows → IfOk r (IsRunOf rows) → IfOk r (IsGiven words)
+runs_as_given words rows (Ok Replay) names told = absurd told
+runs_as_given words rows (Ok (Serve path connections)) names told = absurd told
+runs_as_given words rows (Ok (Run path sessions idle places)) names told = (rows, names, told)
+runs_as_given words rows (Err fault) names told = tt

@@ -252,16 +252,17 @@ pub fn read_words(alloc: Global, words: &[String]) -> Result<Order, WordsFault>
     };
     match name {
         "replay" => Ok(Order::Replay),
-        "serve" => Ok(serve_order(alloc, given)?),
-        "run" => Ok(run_order(alloc, given)?),
+        "serve" => serve_order(alloc, given),
+        "run" => run_order(alloc, given),
         _ => unreachable!("the command line has no other subcommand"),
     }
 }
 
 // The order of `serve`.
-fn serve_order(alloc: Global, given: &ArgMatches<'_>) -> Result<Order, AllocError>
+fn serve_order(alloc: Global, given: &ArgMatches<'_>) -> Result<Order, WordsFault>
     requires { IsServed (rows_of (found_of given.now)) }
-    ensures { IfOk result (IsServeOf (rows_of (found_of given.now))) }
+    ensures order { IfOk result (IsServeOf (rows_of (found_of given.now))) }
+    ensures only { IsOkUnless result WordsFault.NoMemory }
 {
     let Some(path) = given.get_str("config") else {
         unreachable!("the file is required");
@@ -276,9 +277,10 @@ fn serve_order(alloc: Global, given: &ArgMatches<'_>) -> Result<Order, AllocErro
 }
 
 // The order of `run`.
-fn run_order(alloc: Global, given: &ArgMatches<'_>) -> Result<Order, AllocError>
+fn run_order(alloc: Global, given: &ArgMatches<'_>) -> Result<Order, WordsFault>
     requires { IsRun (rows_of (found_of given.now)) }
-    ensures { IfOk result (IsRunOf (rows_of (found_of given.now))) }
+    ensures order { IfOk result (IsRunOf (rows_of (found_of given.now))) }
+    ensures only { IsOkUnless result WordsFault.NoMemory }
 {
     let Some(path) = given.get_str("config") else {
         unreachable!("the file is required");

@@ -1,8 +1,8 @@
-use Rattle.std.proofs.Common.{◌∙◌, List, ap, inl, inr, map, subst}
+use Rattle.std.proofs.Common.{◌∙◌, List, ap, inl, inr, map, subst, sym}
 use Rattle.std.specs.Prelude.{string_bytes}
 use Rattle.clap.specs.Words.{Text, app_of, found_of, rows_of, takes}
 use Rattle.ring_words.specs.Words.{Names, ringd_app}
-use Rattle.ring_words.proofs.CommandLine.{fails_for_memory, has_cause, meets, names_one, replay_is_taken, want_of_memory}
+use Rattle.ring_words.proofs.CommandLine.{fails_for_memory, has_cause, meets, meets_one, memory_is_cause, names_one, replay_is_taken, want_of_memory}
 use Rattle.ring_words.proofs.Taken.{named_runs, named_serves, runs_as_given, serves_as_given}
 use Rattle.ring_words.proofs.words.read_words.Goals as goal
 
@@ -37,13 +37,19 @@ serve_order-requires c =
     c.in-Some.ensures.name c.in-Some.ensures.rows in
     named_serves words rows (subst (λ (name : Text). Names words name rows) c.in-serve.is names)
 
-pub returns-in-serve-clause-order : goal.returns-in-serve-clause-order
-returns-in-serve-clause-order c =
+pub returns-in-serve : goal.returns-in-serve
+returns-in-serve c =
     let words = map string_bytes c.args.words.now in
     let rows = rows_of (found_of c.in-Some.given.now) in
     let names = meets (app_of c.in_ok-command.field-0) words c.in_ok-matches.matches c.in-Some.name.now rows c.in_ok-command.ensures c.in_ok-matches.ensures.kinds c.in_ok-matches.ensures.matches
     c.in-Some.ensures.name c.in-Some.ensures.rows in
-    serves_as_given words rows c.in_ok-serve_order-in-serve.field-0 (subst (λ (name : Text). Names words name rows) c.in-serve.is names) c.in_ok-serve_order-in-serve.ensures
+    let told = c.serve_order.ensures in
+    record {
+      order = serves_as_given words rows c.serve_order.result (subst (λ (name : Text). Names words name rows) c.in-serve.is names) told.order;
+      usage = memory_is_cause words c.serve_order.result told.only;
+      taken = λ _. told.only;
+      replay = λ _ _. told.only;
+    }
 
 pub run_order-requires : goal.run_order-requires
 run_order-requires c =
@@ -53,13 +59,24 @@ run_order-requires c =
     c.in-Some.ensures.name c.in-Some.ensures.rows in
     named_runs words rows (subst (λ (name : Text). Names words name rows) c.in-run.is names)
 
-pub returns-in-run-clause-order : goal.returns-in-run-clause-order
-returns-in-run-clause-order c =
+pub returns-in-run : goal.returns-in-run
+returns-in-run c =
     let words = map string_bytes c.args.words.now in
     let rows = rows_of (found_of c.in-Some.given.now) in
     let names = meets (app_of c.in_ok-command.field-0) words c.in_ok-matches.matches c.in-Some.name.now rows c.in_ok-command.ensures c.in_ok-matches.ensures.kinds c.in_ok-matches.ensures.matches
     c.in-Some.ensures.name c.in-Some.ensures.rows in
-    runs_as_given words rows c.in_ok-run_order-in-run.field-0 (subst (λ (name : Text). Names words name rows) c.in-run.is names) c.in_ok-run_order-in-run.ensures
+    let told = c.run_order.ensures in
+    record {
+      order = runs_as_given words rows c.run_order.result (subst (λ (name : Text). Names words name rows) c.in-run.is names) told.order;
+      usage = memory_is_cause words c.run_order.result told.only;
+      taken = λ _. told.only;
+      replay = λ _ _. told.only;
+    }
+
+pub unreachable-requires : goal.unreachable-requires
+unreachable-requires c =
+    meets_one (app_of c.in_ok-command.field-0) (map string_bytes c.args.words.now) c.in_ok-matches.matches c.in_ok-command.ensures c.in_ok-matches.ensures.kinds c.in_ok-matches.ensures.matches
+    (sym c.in_default.ensures.rows)
 
 pub unreachable-requires-in_default-name : goal.unreachable-requires-in_default-name
 unreachable-requires-in_default-name c =
@@ -76,14 +93,4 @@ unreachable-requires-in_default-name c =
 pub returns-in_err-command : goal.returns-in_err-command
 returns-in_err-command c =
     let refused = want_of_memory (map string_bytes c.args.words.now) c.from_residual.result c.from_residual.ensures.1 in
-    record { order = refused.order; usage = refused.usage; taken = λ _. refused.only; replay = λ _ _. refused.only }
-
-pub returns-in_err-serve_order-in-serve : goal.returns-in_err-serve_order-in-serve
-returns-in_err-serve_order-in-serve c =
-    let refused = want_of_memory (map string_bytes c.args.words.now) c.from_residual-in_err-serve_order-in-serve.result c.from_residual-in_err-serve_order-in-serve.ensures.1 in
-    record { order = refused.order; usage = refused.usage; taken = λ _. refused.only; replay = λ _ _. refused.only }
-
-pub returns-in_err-run_order-in-run : goal.returns-in_err-run_order-in-run
-returns-in_err-run_order-in-run c =
-    let refused = want_of_memory (map string_bytes c.args.words.now) c.from_residual-in_err-run_order-in-run.result c.from_residual-in_err-run_order-in-run.ensures.1 in
     record { order = refused.order; usage = refused.usage; taken = λ _. refused.only; replay = λ _ _. refused.only }

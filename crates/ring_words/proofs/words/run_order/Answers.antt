@@ -10,8 +10,8 @@ use Rattle.ring_words.proofs.words.run_order.Goals as goal
 pub unreachable-requires : goal.unreachable-requires
 unreachable-requires c = text_given c.get_str.result c.requires.file.path (c.get_str.ensures ∙ first_value-rows (found_of c.args.given.now) (codes "config") ∙ c.requires.file.file) c.in_default.not-Some
 
-pub returns : goal.returns
-returns c =
+pub returns-clause-order : goal.returns-clause-order
+returns-clause-order c =
     let found = found_of c.args.given.now in
     let file = c.get_str.ensures ∙ first_value-rows (found_of c.args.given.now) (codes "config") ∙ c.requires.file.file in
     let path : string_bytes c.in_ok-from_str.field-0 ≡ c.requires.file.path = c.in_ok-from_str.ensures.ok ∙ text_read c.get_str.result c.in-Some.path c.requires.file.path file c.in-Some.is in

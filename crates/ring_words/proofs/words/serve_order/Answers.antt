@@ -17,8 +17,8 @@ unreachable-requires-in_default-get_one c =
     number_read (λ bs r. ParsesUnsigned 32 10 bs r × ExplainsUnsignedError 10 bs r × HasUnsignedDigitsIfOk bs r) (λ u x h. h.0) 1 64 (omega arith) c.requires.connections.text c.get_one.result one c.requires.connections.passed in
     c.in_default-get_one.not-Some got.0 got.1
 
-pub returns : goal.returns
-returns c =
+pub returns-clause-order : goal.returns-clause-order
+returns-clause-order c =
     let file = c.get_str.ensures ∙ first_value-rows (found_of c.args.given.now) (codes "config") ∙ c.requires.file.file in
     let path : string_bytes c.in_ok-from_str.field-0 ≡ c.requires.file.path = c.in_ok-from_str.ensures.ok ∙ text_read c.get_str.result c.in-Some.path c.requires.file.path file c.in-Some.is in
     let one = c.get_one.ensures.value (without_minus c.requires.connections.text) (one_text-rows (found_of c.args.given.now) (codes "connections") ∙ c.requires.connections.given) in
