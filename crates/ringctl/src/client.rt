@@ -74,7 +74,7 @@ impl<S: Read + Write + Drop> Client<S> {
         let alloc = self.alloc;
         match self.ask(word, others)? {
             Reply::Done(reply) => Ok(reply),
-            Reply::Refused(word) => Err(Fault::Refused(String::from_str(alloc, word)?)),
+            Reply::Refused(word) => Err(Fault::refused(alloc, word)),
         }
     }
 

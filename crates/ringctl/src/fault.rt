@@ -2,7 +2,7 @@
 ghost use Rattle.std.specs.Prelude.{◌≡◌};
 ghost use Rattle.ringctl.specs.Faults.{status_of};
 
-use std::alloc::AllocError;
+use std::alloc::{AllocError, Global};
 
 /// A fault that ends the program.
 #[derive(Drop)]
@@ -20,6 +20,14 @@ pub enum Fault {
 }
 
 impl Fault {
+    /// The fault of a refusal with this word.
+    pub fn refused(alloc: Global, word: &str) -> Fault {
+        match String::from_str(alloc, word) {
+            Ok(word) => Fault::Refused(word),
+            Err(_) => Fault::NoMemory,
+        }
+    }
+
     /// The one line that standard error gets.
     pub fn text(&self) -> &str {
         match self {

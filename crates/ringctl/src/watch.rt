@@ -123,18 +123,18 @@ impl Watcher {
             return Ok(false);
         };
         match client.ask("who ", member.as_str())? {
-            Reply::Done(reply) => Ok(self.see(reply)?),
+            Reply::Done(reply) => self.see(reply),
             Reply::Refused("no-term") => Ok(false),
             Reply::Refused("not-in-term") => {
                 self.member = None;
                 Ok(false)
             }
-            Reply::Refused(word) => Err(Fault::Refused(String::from_str(self.alloc, word)?)),
+            Reply::Refused(word) => Err(Fault::refused(self.alloc, word)),
         }
     }
 
     // Keeps a reply to `who`; whether it is another than the last one.
-    fn see(&mut self, reply: &str) -> Result<bool, AllocError> {
+    fn see(&mut self, reply: &str) -> Result<bool, Fault> {
         if reply == self.seen.as_str() {
             return Ok(false);
         }

@@ -161,9 +161,12 @@ fn asked_of(
 
 // Whether this is a host and a port.
 fn is_address(text: &str) -> bool {
-    match text.rsplit_once(':') {
-        Some((host, port)) => !host.is_empty() && port.parse::<u16>().is_ok_and(|port| port > 0),
-        None => false,
+    let Some((host, port)) = text.rsplit_once(':') else {
+        return false;
+    };
+    match port.parse::<u16>() {
+        Ok(port) => port > 0 && !host.is_empty(),
+        Err(_) => false,
     }
 }
 
