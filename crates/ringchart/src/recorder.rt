@@ -15,6 +15,8 @@ use std::sync::Arc;
 /// A world, and what happened in it so far.
 #[derive(Drop)]
 pub struct Recorder {
+    /// The group of the term.
+    pub group: GroupName,
     world: World<Any>,
     steps: Vec<Step>,
     // By which delivery each packet was sent, for each position.
@@ -31,9 +33,11 @@ struct Marks {
 impl Recorder {
     /// The world of a charter, in which every node has started.
     pub fn begin(alloc: Global, charter: Arc<Charter<Any>>) -> Result<Recorder, Fault> {
+        let group = charter.group();
         match World::begin(alloc, charter) {
             Ok(world) => match starts(alloc, world.nodes()) {
                 Ok(marks) => Ok(Recorder {
+                    group,
                     world,
                     steps: Vec::new(alloc),
                     marks,
@@ -45,11 +49,6 @@ impl Recorder {
             },
             Err(error) => Err(Fault::from(error)),
         }
-    }
-
-    /// The group of the term.
-    pub fn group(&self) -> GroupName {
-        self.world.charter().group()
     }
 
     /// How many packets are in flight or stuck.
@@ -188,11 +187,11 @@ impl Recorder {
 
     /// All that happened. The deliveries are taken out.
     pub fn tale(&mut self, alloc: Global) -> Result<Tale, AllocError> {
-        let ring = members(alloc, self.world.charter().roster())?;
         let flying = self.flying(alloc)?;
         let charter = self.world.charter();
+        let ring = members(alloc, charter.roster())?;
         Ok(Tale {
-            group: charter.group(),
+            group: self.group,
             term: charter.term().get(),
             algorithm: charter.algorithm(),
             ring,

@@ -158,7 +158,7 @@ fn running(terms: &mut [Recorder], group: GroupName) -> Option<&mut Recorder> {
     terms
         .iter_mut()
         .rev()
-        .find(|recorder| recorder.group() == group)
+        .find(|recorder| recorder.group == group)
 }
 
 // Whether memory was refused to the mux.
