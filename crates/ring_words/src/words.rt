@@ -1,6 +1,6 @@
 //! The words of the command line, and what they ask for.
-ghost use Rattle.std.specs.Prelude.{◌≡◌, ◌↔◌, ◌∷◌, [], ℕ, List, IfErr, IfOk, IsOkUnless, IsTrue, codes, false, map, string_bytes, true};
-ghost use Rattle.clap.specs.Words.{App, Rule, app_of, found_of, kind_of, rows_of, rule_of, takes, with_rule, with_subcommand, Text};
+ghost use Rattle.std.specs.Prelude.{◌≡◌, ◌↔◌, ◌∷◌, [], ℕ, List, IfErr, IfOk, IsOkUnless, IsTrue, Some, codes, false, map, string_bytes, true};
+ghost use Rattle.clap.specs.Words.{App, Rule, app_of, found_of, kind_of, new_rule, rows_of, rule_of, takes, with_rule, with_subcommand, Text};
 ghost use Rattle.clap.specs.declared.error.kind.ErrorKind.TheVariants.{DisplayVersion, ValueValidation};
 ghost use Rattle.ring_words.specs.Words.{HasCause, IsFaultOf, IsGiven, config_rule, connections_rule, idle_rule, places_rule, ringd_app, run_app, serve_app, sessions_rule};
 ghost use Rattle.ring_words.specs.private.Words.{IsLocal, IsRun, IsRunOf, IsServeOf, IsServed};
@@ -163,14 +163,20 @@ fn config_arg<'a>(alloc: Global) -> Arg<'a>
         .help("The file of the configuration")
 }
 
+// An option that has a value.
+fn option_arg<'a>(alloc: Global, name: &'a str, value: &'a str) -> Arg<'a>
+    ensures rule { rule_of result ≡ record (new_rule name.now) { long = Some name.now; value_names = 1 } }
+    ensures own { result.global ≡ false }
+{
+    Arg::new(alloc, name).long(name).value_name(value)
+}
+
 // How many clients `serve` accepts.
 fn connections_arg<'a>(alloc: Global) -> Arg<'a>
     ensures rule { rule_of result ≡ connections_rule }
     ensures own { result.global ≡ false }
 {
-    Arg::new(alloc, "connections")
-        .long("connections")
-        .value_name("K")
+    option_arg(alloc, "connections", "K")
         .required(true)
         .value_parser(clap::value_parser!(u32).range(1..=64))
         .help("How many clients are accepted, 1 to 64")
@@ -181,9 +187,7 @@ fn sessions_arg<'a>(alloc: Global) -> Arg<'a>
     ensures rule { rule_of result ≡ sessions_rule }
     ensures own { result.global ≡ false }
 {
-    Arg::new(alloc, "sessions")
-        .long("sessions")
-        .value_name("N")
+    option_arg(alloc, "sessions", "N")
         .value_parser(clap::value_parser!(u32).range(1..=64))
         .help("How many clients are served at a time, 1 to 64; 16 where it isn't given")
 }
@@ -193,9 +197,7 @@ fn idle_arg<'a>(alloc: Global) -> Arg<'a>
     ensures rule { rule_of result ≡ idle_rule }
     ensures own { result.global ≡ false }
 {
-    Arg::new(alloc, "idle")
-        .long("idle")
-        .value_name("SECONDS")
+    option_arg(alloc, "idle", "SECONDS")
         .value_parser(clap::value_parser!(u32).range(0..=86400))
         .help(
             "Ends a session whose client sends nothing, or takes no reply, for so long, 1 to 86400; never at 0, or where it isn't given",
