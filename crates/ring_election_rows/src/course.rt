@@ -10,8 +10,8 @@ pub const MOST: u32 = 100;
 
 /// What a member has sent to one side, in order, and how many of these were taken.
 #[derive(Drop)]
-struct Link<M> {
-    sent: Vec<M>,
+pub struct Link<M> {
+    pub sent: Vec<M>,
     taken: usize,
 }
 
@@ -41,10 +41,10 @@ impl<M: Copy> Link<M> {
 
 /// A member of a ring, with what it has sent to each side.
 #[derive(Drop)]
-struct Member<E: RingElection> {
-    state: E::State,
+pub struct Member<E: RingElection> {
+    pub state: E::State,
     left: Link<E::Msg>,
-    right: Link<E::Msg>,
+    pub right: Link<E::Msg>,
 }
 
 impl<E: RingElection> Member<E> {
@@ -154,23 +154,19 @@ impl<E: RingElection> Course<E> {
     }
 
     /// The member at this position.
-    fn member(&self, rt: &impl Abort, position: usize) -> &Member<E> {
+    pub fn member(&self, rt: &impl Abort, position: usize) -> &Member<E> {
         self.members.get(position).expect(rt, "no such position")
     }
 
-    /// What the member at this position remembers.
-    pub fn state(&self, rt: &impl Abort, position: usize) -> &E::State {
-        &self.member(rt, position).state
-    }
-
-    /// All that the member at this position has sent to its right, in order.
-    pub fn sent_right(&self, rt: &impl Abort, position: usize) -> &[E::Msg] {
-        &self.member(rt, position).right.sent
-    }
-
-    /// The number on which the member at this position has decided, if it has.
-    pub fn decided(&self, rt: &impl Abort, position: usize) -> Option<u32> {
-        let decision = self.algorithm.decision(self.state(rt, position));
-        decision.map(NodeId::get)
+    /// The number on which each member has decided, if it has.
+    pub fn decisions(&self, rt: &impl Abort, alloc: Global) -> Vec<Option<u32>> {
+        let mut decisions = Vec::new(alloc);
+        for member in &self.members {
+            let decision = self.algorithm.decision(&member.state);
+            decisions
+                .push(decision.map(NodeId::get))
+                .expect(rt, "no memory");
+        }
+        decisions
     }
 }

@@ -1,6 +1,7 @@
 //! Elections on worked rings: how many messages each takes, and what its members have decided then.
 
 use crate::course::Course;
+use crate::equal::equal;
 use crate::rings::{falling, identity, ring, rising};
 use ring_any::Any;
 use ring_chang::{Chang, fitting, work_is_triangular};
@@ -15,20 +16,14 @@ use std::process::Abort;
 /// The numbers of a ring, how many messages its election takes, and on what each member has decided then.
 type Row<'a> = (&'a [u32], u32, &'a [Option<u32>]);
 
-/// The election on this ring comes to what its row says.
-fn comes_to<E: RingElection>(rt: &impl Abort, mut ring: Course<E>, row: &Row) {
-    let (numbers, messages, decisions) = row;
-    assert_eq!(rt; ring.settled(rt), *messages, "on {numbers:?}");
-    assert_eq!(rt; decisions.len(), numbers.len());
-    for (position, decision) in decisions.iter().enumerate() {
-        assert_eq!(rt; ring.decided(rt, position), *decision, "on {numbers:?}");
-    }
-}
-
 /// The election on each of these rings comes to what its row says.
 fn elects<E: RingElection>(rt: &impl Abort, alloc: Global, algorithm: E, rows: &[Row]) {
     for row in rows {
-        comes_to(rt, Course::started(rt, alloc, algorithm, row.0), row);
+        let mut ring = Course::started(rt, alloc, algorithm, row.0);
+        let messages = ring.settled(rt);
+        let decisions = ring.decisions(rt, alloc);
+        let found = (row.0, messages, decisions.as_slice());
+        equal(rt, "an election", found, *row);
     }
 }
 
@@ -53,9 +48,9 @@ fn receives<E: RingElection>(
     message: E::Msg,
     decision: Option<NodeId>,
 ) {
-    let received = algorithm.receive(state, from, message);
-    assert!(rt; received.is_ok());
-    assert_eq!(rt; algorithm.decision(state), decision);
+    let received = algorithm.receive(state, from, message).is_ok();
+    let found = (received, algorithm.decision(state));
+    equal(rt, "received, and decided", found, (true, decision));
 }
 
 #[test]
@@ -66,7 +61,8 @@ fn a_node_of_lelann_shows_what_it_has_seen(rt: HostRuntime) {
     receives(&rt, LeLann, &mut state, Side::Right, me, None);
     receives(&rt, LeLann, &mut state, Side::Left, third, None);
     receives(&rt, LeLann, &mut state, Side::Left, me, Some(me));
-    assert_eq!(rt; state.seen(), [second, third].as_slice());
+    let seen = [second, third];
+    equal(&rt, "seen", state.seen(), seen.as_slice());
 }
 
 #[test]
@@ -95,12 +91,13 @@ fn fitting_in_all(rt: &impl Abort, alloc: Global, numbers: &[u32]) -> usize {
 #[test]
 fn so_many_messages_of_chang_fit_a_ring(rt: HostRuntime) {
     let alloc = rt.alloc();
-    assert_eq!(rt; fitting_in_all(&rt, alloc, &[3, 1, 2]), 5);
-    assert_eq!(rt; fitting_in_all(&rt, alloc, &rising(&rt, alloc, 256)), 511);
-    assert_eq!(rt;
-        fitting_in_all(&rt, alloc, &falling(&rt, alloc, 256)),
-        32896
-    );
+    let (up, down) = (rising(&rt, alloc, 256), falling(&rt, alloc, 256));
+    let fitting = [
+        fitting_in_all(&rt, alloc, &[3, 1, 2]),
+        fitting_in_all(&rt, alloc, &up),
+        fitting_in_all(&rt, alloc, &down),
+    ];
+    equal(&rt, "messages", fitting, [5, 511, 32896]);
 }
 
 #[test]
@@ -109,17 +106,14 @@ fn a_falling_ring_reaches_the_bound_of_chang(rt: HostRuntime) {
     let alloc = rt.alloc();
     for length in 1..17_u32 {
         let bound = length as usize * (length as usize + 1) / 2;
-        assert_eq!(rt;
-            fitting_in_all(&rt, alloc, &falling(&rt, alloc, length)),
-            bound
-        );
+        let fitting = fitting_in_all(&rt, alloc, &falling(&rt, alloc, length));
+        equal(&rt, "messages", fitting, bound);
     }
 }
 
 #[test]
 fn the_greatest_alone_decides_by_hirschberg(rt: HostRuntime) {
-    assert!(rt; Hirschberg.two_way());
-    assert!(rt; Hirschberg.greatest());
+    assert!(rt; Hirschberg.two_way() & Hirschberg.greatest());
     phases_are_few();
     messages_are_few();
     let rows: [Row; 4] = [
@@ -128,9 +122,8 @@ fn the_greatest_alone_decides_by_hirschberg(rt: HostRuntime) {
         (&[5, 9], 10, &[None, Some(9)]),
         (&[7], 2, &[Some(7)]),
     ];
-    for ((_, messages, _), most) in rows.iter().zip([60, 80, 24, 4]) {
-        assert!(rt; *messages <= most);
-    }
+    let [three, four, two, one] = &rows;
+    assert!(rt; (three.1 <= 60) & (four.1 <= 80) & (two.1 <= 24) & (one.1 <= 4));
     elects(&rt, rt.alloc(), Hirschberg, &rows);
 }
 
@@ -159,7 +152,7 @@ fn each_kind_elects_its_winner(rt: HostRuntime) {
         (Any::Hirschberg, (&[7], 2, &[Some(7)])),
         (Any::Peterson, (&[7], 2, &[Some(7)])),
     ];
-    for (kind, row) in rows {
-        elects(&rt, rt.alloc(), kind, &[row]);
+    for (kind, row) in &rows {
+        elects(&rt, rt.alloc(), *kind, &[*row]);
     }
 }

@@ -8,6 +8,8 @@ mod course;
 #[cfg(test)]
 mod election_rows;
 #[cfg(test)]
+mod equal;
+#[cfg(test)]
 mod identity_rows;
 #[cfg(test)]
 mod reading_rows;

@@ -1,19 +1,24 @@
 //! The words of the algorithms.
 
+use crate::equal::equal;
 use ring_any::Any;
 
 #[test]
 fn words_read_back(rt: HostRuntime) {
-    for (kind, word) in [
-        (Any::LeLann, b"lelann".as_slice()),
-        (Any::Chang, b"chang".as_slice()),
-        (Any::Hirschberg, b"hirschberg".as_slice()),
-        (Any::Peterson, b"peterson".as_slice()),
-    ] {
-        assert!(rt; kind.word() == word);
-        assert_eq!(rt; Any::from_word(word), Some(kind));
+    let words: [(Any, &[u8]); 4] = [
+        (Any::LeLann, b"lelann"),
+        (Any::Chang, b"chang"),
+        (Any::Hirschberg, b"hirschberg"),
+        (Any::Peterson, b"peterson"),
+    ];
+    for (kind, word) in &words {
+        let found = (kind.word(), Any::from_word(word));
+        equal(&rt, "a word", found, (*word, Some(*kind)));
     }
-    for word in [b"".as_slice(), b"Chang".as_slice(), b"petersen".as_slice()] {
-        assert_eq!(rt; Any::from_word(word), None);
-    }
+    let others = [
+        Any::from_word(b""),
+        Any::from_word(b"Chang"),
+        Any::from_word(b"petersen"),
+    ];
+    equal(&rt, "no words", others, [None; 3]);
 }

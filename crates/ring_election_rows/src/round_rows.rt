@@ -1,6 +1,7 @@
 //! The rounds of Peterson's election: what is active in each, and what a node holds and sends in them.
 
 use crate::course::{Course, MOST};
+use crate::equal::equal;
 use crate::rings::{identity, ring};
 use ring_election::RingElection;
 use ring_id::Side;
@@ -33,9 +34,11 @@ fn rounds_are_those_of_the_worked_rings(rt: HostRuntime) {
         (&[7], 0, &[(0, 7)]),
         (&[7], 1, &[]),
     ];
-    for (numbers, number, active) in worked {
-        let found = round(&rt, rt.alloc(), numbers, number);
-        assert_eq!(rt; found.as_slice(), active, "{numbers:?} {number}");
+    for row in &worked {
+        let (numbers, number, _) = *row;
+        let active = round(&rt, rt.alloc(), numbers, number);
+        let found = (numbers, number, active.as_slice());
+        equal(&rt, "a round", found, *row);
     }
 }
 
@@ -68,14 +71,14 @@ fn held_and_sent(
     let mut taker = Some(position);
     for _ in 0..MOST {
         if taker == Some(position) {
-            if let Some(number) = holds(rt, ring.state(rt, position), numbers) {
+            if let Some(number) = holds(rt, &ring.member(rt, position).state, numbers) {
                 held.push(number).expect(rt, "no memory");
             }
         }
         taker = ring.takes_next(rt);
     }
     let mut sent = Vec::new(alloc);
-    for message in ring.sent_right(rt, position) {
+    for message in &ring.member(rt, position).right.sent {
         sent.push(message.get()).expect(rt, "no memory");
     }
     (held, sent)
@@ -95,9 +98,10 @@ fn a_node_of_peterson_holds_and_sends_the_values_of_the_rounds(rt: HostRuntime) 
         (&[5, 9], 1, &[9], &[9, 5, 9, 9]),
         (&[7], 0, &[7], &[7, 7]),
     ];
-    for (numbers, position, held, sent) in positions {
-        let both = held_and_sent(&rt, rt.alloc(), numbers, position);
-        assert_eq!(rt; both.0.as_slice(), held, "{numbers:?} {position}");
-        assert_eq!(rt; both.1.as_slice(), sent, "{numbers:?} {position}");
+    for row in &positions {
+        let (numbers, position, _, _) = *row;
+        let (held, sent) = held_and_sent(&rt, rt.alloc(), numbers, position);
+        let found = (numbers, position, held.as_slice(), sent.as_slice());
+        equal(&rt, "held and sent", found, *row);
     }
 }
