@@ -10,7 +10,6 @@ use ring_node::Node;
 use ring_workers::{Filed, Gate, Handed, Item, OpenGate, Rest, Why, Worker, run_worker};
 use ring_world::{Settlement, settle};
 use std::alloc::Global;
-use std::mem;
 use std::process::Abort;
 use std::sync::Wait;
 use std::time::Clock;
@@ -102,18 +101,24 @@ fn handed<E: RingElection, R: Abort + Wait + Clock + Copy>(
     let mut own = place.senders.pop().expect(rt, "two passes");
     fill(rt, alloc, algorithm, course, &mut own);
     let gate = EndGate::new(*rt, course.until, own);
-    worked(rt, alloc, 0, place, &gate, course.filed)
+    let handed = worked(rt, alloc, 0, place, &gate, course.filed);
+    drop(gate);
+    handed
 }
 
 /// Why a worker ends whose inbox has no senders left. Its own pass is to another inbox.
 pub fn why_alone<E: RingElection, R: Abort + Wait + Clock>(rt: &R, alloc: Global) -> Why {
-    let mut place = Place::<E>::opened(rt, alloc, 1, 1);
-    let mut other = Place::<E>::opened(rt, alloc, 1, 1);
-    mem::swap(&mut place.senders, &mut other.senders);
-    other.senders.clear();
+    let Place { receiver, senders } = Place::<E>::opened(rt, alloc, 1, 1);
+    drop(senders);
+    let Place {
+        receiver: other,
+        senders,
+    } = Place::<E>::opened(rt, alloc, 1, 1);
+    let place = Place { receiver, senders };
     let handed = worked(rt, alloc, 0, place, &OpenGate, Filed::Noted);
     let why = handed.why;
-    drop((handed, other));
+    drop(handed);
+    drop(other);
     why
 }
 
@@ -166,6 +171,7 @@ pub fn ran<E: RingElection, R: Abort + Wait + Clock + Copy>(
         nodes: nodes.len(),
         settlement: settle(&charter, &nodes),
     };
-    drop((rest, charter));
+    drop(rest);
+    drop(charter);
     Run { end, nodes }
 }

@@ -1,7 +1,7 @@
 //! One worker, in one thread, on the election of Chang and Roberts: how it settles a ring, what it drops, and how it
 //! ends.
 
-use crate::courses::{Course, End, ran, why_alone};
+use crate::courses::{Course, End, Run, ran, why_alone};
 use crate::equal::equal;
 use crate::gates::Until;
 use crate::rings::Ring;
@@ -45,7 +45,9 @@ fn ended<R: Abort + Wait + Clock + Copy>(
     course: &Course,
     ring: Ring,
 ) -> End {
-    ran(rt, alloc, Chang, course, ring).end
+    let Run { end, nodes } = ran(rt, alloc, Chang, course, ring);
+    drop(nodes);
+    end
 }
 
 /// A worker comes to this end on its course.

@@ -32,10 +32,12 @@ fn roster(rt: &impl Abort, alloc: Global, numbers: &[u32]) -> Roster {
     for number in numbers {
         add(rt, &mut members, *number);
     }
-    match Roster::from_members(alloc, &members) {
+    let roster = match Roster::from_members(alloc, &members) {
         Ok(roster) => roster,
         Err(_) => Roster::from_members(alloc, &members).expect(rt, "no ring"),
-    }
+    };
+    drop(members);
+    roster
 }
 
 /// The charter of an election on a ring.
@@ -73,6 +75,7 @@ pub fn first_packet<E: RingElection>(
     let copy = Arc::try_clone(&charter).expect(rt, "no copy");
     let node = Node::seat(alloc, copy, 0).expect(rt, "no memory");
     let envelope = node.envelope(charter, Side::Right, 0);
+    drop(node);
     Item::Packet(envelope.expect(rt, "nothing was sent there"))
 }
 
@@ -82,5 +85,8 @@ pub fn stores<E: RingElection, R: Wait>(
     to: &mut SenderPass<Item<E>>,
     item: Item<E>,
 ) -> bool {
-    matches!(to.put(rt, item), Put::Stored)
+    let put = to.put(rt, item);
+    let is_stored = matches!(put, Put::Stored);
+    drop(put);
+    is_stored
 }

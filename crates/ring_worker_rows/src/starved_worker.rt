@@ -67,4 +67,6 @@ fn a_starved_worker_has_handled_a_first_part(rt: HostRuntime) {
     } else {
         is_first_part(&rt, &second, &first);
     }
+    drop(first);
+    drop(second);
 }

@@ -51,6 +51,7 @@ fn watch<E: RingElection, R: Abort + Wait + Clock>(
 fn take_nodes<E: RingElection>(rt: &impl Abort, handed: Handed<E>, nodes: &mut Vec<Node<E>>) {
     let rest = moved(rt, handed, nodes);
     let end = (rest.why, rest.dropped, rest.outbox.len());
+    drop(rest);
     equal(rt, "why, dropped, and left", end, (Why::Stopped, 0, 0));
 }
 
@@ -116,8 +117,10 @@ fn settles<R: Abort + Threads + Wait + Clock + Copy + Send + Sync>(
     );
     let settlement = settle(&charter, &nodes);
     equal(rt, "the nodes", settlement, Settlement::Settled);
-    drop((to_first, to_last));
-    drop((charter, nodes));
+    drop(to_first);
+    drop(to_last);
+    drop(charter);
+    drop(nodes);
 }
 
 #[test]

@@ -31,8 +31,10 @@ fn a_full_inbox_gives_back_and_an_empty_one_has_nothing(rt: HostRuntime) {
     for item in 0..5 {
         fill_and_empty(&rt, &mut receiver, &mut first, &mut second, item);
     }
-    drop((receiver, senders));
-    drop((first, second));
+    drop(receiver);
+    drop(senders);
+    drop(first);
+    drop(second);
 }
 
 #[test]

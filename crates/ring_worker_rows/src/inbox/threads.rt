@@ -149,5 +149,6 @@ fn a_sender_meets_the_receiver_after_two_threads(rt: HostRuntime) {
     equal(&rt, "how many of each", counts, [ITEMS, 0, 0]);
     let mut receiver = sender.meet(receiver);
     pass_one(&rt, alloc, &mut sender, &mut receiver);
-    drop((sender, receiver));
+    drop(sender);
+    drop(receiver);
 }
