@@ -19,12 +19,10 @@ pub fn drain<E: RingElection>(world: &mut World<E>, most: u32) -> Result<u32, No
         let Some((position, side)) = world.ready() else {
             return Ok(done);
         };
-        match world.deliver(position, side) {
-            Delivery::Moved(_) => {}
-            // A ready link is never idle.
-            Delivery::Idle => return Err(NoMemory),
-            Delivery::Refused(_) => return Err(NoMemory),
-        }
+        // A ready link is never idle.
+        let Delivery::Moved(_) = world.deliver(position, side) else {
+            return Err(NoMemory);
+        };
     }
     Ok(most)
 }

@@ -25,11 +25,14 @@ fn fault(
     sender: &Node<Chang>,
     place: usize,
 ) -> Option<TakeFault> {
-    match offer(rt, node, sent(rt, sender, place)) {
+    let taken = offer(rt, node, sent(rt, sender, place));
+    let fault = match &taken {
         Ok(None) => None,
         Ok(Some(_)) => panic!(rt; "it knows no leader yet"),
-        Err((fault, _)) => Some(fault),
-    }
+        Err((fault, _)) => Some(*fault),
+    };
+    drop(taken);
+    fault
 }
 
 /// What another has sent is offered to a node from these places, one after another, each time with this fault.
@@ -50,6 +53,8 @@ fn passed_on(rt: &impl Abort, alloc: Global) -> Node<Chang> {
     let first = seated(rt, alloc, &charter, 0);
     let mut second = seated(rt, alloc, &charter, 1);
     faults(rt, &mut second, &first, &[(0, None)]);
+    drop(first);
+    drop(charter);
     second
 }
 
@@ -59,6 +64,7 @@ fn a_node_sends_its_own_and_passes_a_greater_on(rt: HostRuntime) {
     equal(&rt, "taken and sent", counts(&second), (1, 2));
     let both = [shown(&sent(&rt, &second, 0)), shown(&sent(&rt, &second, 1))];
     equal(&rt, "what was sent", both, [Some((1, 0)), Some((3, 1))]);
+    drop(second);
 }
 
 #[test]
@@ -74,6 +80,7 @@ fn a_node_shows_what_it_has_received(rt: HostRuntime) {
     equal(&rt, "receipts by place", receipts, wanted);
     let all = [(Side::Left, Packet::Algo(three))];
     equal(&rt, "all receipts", second.receipts(), all.as_slice());
+    drop(second);
 }
 
 #[test]
@@ -88,6 +95,8 @@ fn a_link_is_taken_in_order_and_once(rt: HostRuntime) {
     ];
     faults(&rt, &mut third, &second, &offers);
     equal(&rt, "taken and sent", counts(&third), (2, 2));
+    drop(third);
+    drop(second);
 }
 
 /// What another has sent is strange to the node at this position that has received nothing.
@@ -101,6 +110,7 @@ fn is_strange(
     let strange = Some(TakeFault::Stranger);
     let mut node = seated(rt, alloc, charter, position);
     faults(rt, &mut node, sender, &[(0, strange), (1, strange)]);
+    drop(node);
 }
 
 #[test]
@@ -109,4 +119,6 @@ fn another_link_or_term_is_a_stranger(rt: HostRuntime) {
     is_strange(&rt, rt.alloc(), second.charter(), 0, &second);
     let later = charter(&rt, rt.alloc(), 2, Chang, &[3, 1, 2]);
     is_strange(&rt, rt.alloc(), &later, 2, &second);
+    drop(later);
+    drop(second);
 }

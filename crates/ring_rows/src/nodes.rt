@@ -1,5 +1,6 @@
 //! Nodes of the rows by themselves, on the election of Chang and Roberts.
 
+use crate::equal::equal;
 use crate::memory::TWICE;
 use ring_chang::Chang;
 use ring_id::{NoMemory, Side};
@@ -57,7 +58,8 @@ fn offer_once(rt: &impl Abort, node: &mut Node<Chang>, envelope: Envelope<Chang>
     let (before, offered) = (counts(node), shown(&envelope));
     let taken = node.take(envelope);
     if let Err((_, back)) = &taken {
-        assert!(rt; counts(node) == before && shown(back) == offered);
+        let now = (counts(node), shown(back));
+        equal(rt, "what was not taken", now, (before, offered));
     }
     taken
 }

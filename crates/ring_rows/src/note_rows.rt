@@ -5,6 +5,7 @@ use crate::equal::equal;
 use crate::rings::{identity, name};
 use crate::worlds::{begun_on, delivery};
 use ring_chang::Chang;
+use ring_election::RingElection;
 use ring_id::{GroupName, NodeId};
 use ring_node::{Charter, Report};
 use ring_terms::{Book, Noting, TermList};
@@ -58,21 +59,13 @@ fn book(rt: &impl Abort, alloc: Global, group: GroupName) -> Book<Chang> {
     book
 }
 
-/// The report that the next delivery in a world comes to, if there is one.
-fn next_report(rt: &impl Abort, world: &mut World<Chang>) -> Option<Report<Chang>> {
-    let (position, side) = world.ready().expect(rt, "nothing is in flight");
-    match delivery(rt, world, position, side) {
-        Delivery::Moved(report) => report,
-        _ => None,
-    }
-}
-
-/// The first report of the term of this charter.
-fn first_report(rt: &impl Abort, alloc: Global, charter: &Arc<Charter<Chang>>) -> Report<Chang> {
-    let mut world = begun_on(rt, alloc, charter);
+/// The first report that comes of a world.
+fn first_report<E: RingElection>(rt: &impl Abort, world: &mut World<E>) -> Report<E> {
     for _ in 0..8 {
-        if let Some(report) = next_report(rt, &mut world) {
-            return report;
+        let (position, side) = world.ready().expect(rt, "nothing is in flight");
+        match delivery(rt, world, position, side) {
+            Delivery::Moved(Some(report)) => return report,
+            other => drop(other),
         }
     }
     panic!(rt; "nobody told anything")
@@ -80,7 +73,9 @@ fn first_report(rt: &impl Abort, alloc: Global, charter: &Arc<Charter<Chang>>) -
 
 /// The first report of the term of this charter, which is the member's with the number 3.
 fn report(rt: &impl Abort, alloc: Global, charter: &Arc<Charter<Chang>>) -> Report<Chang> {
-    let report = first_report(rt, alloc, charter);
+    let mut world = begun_on(rt, alloc, charter);
+    let report = first_report(rt, &mut world);
+    drop(world);
     assert!(rt; report.member().get() == 3);
     report
 }
@@ -89,6 +84,7 @@ fn report(rt: &impl Abort, alloc: Global, charter: &Arc<Charter<Chang>>) -> Repo
 fn leaders_are(rt: &impl Abort, alloc: Global, book: &Book<Chang>, leaders: &[Option<NodeId>]) {
     let terms = terms(rt, alloc, book, name(rt));
     equal(rt, "the leaders of the terms", terms.as_slice(), leaders);
+    drop(terms);
 }
 
 /// A book makes this of a report, and the leaders of the group's terms are these then.
@@ -127,26 +123,28 @@ fn informs(rt: &impl Abort, book: &mut Book<Chang>, report: &Report<Chang>, noti
 fn news_by_place_is_that_of_a_report(rt: HostRuntime) {
     let (alloc, group) = (rt.alloc(), name(&rt));
     let mut book = book(&rt, alloc, group);
-    let report = report(&rt, alloc, &start(&rt, alloc, &mut book, group));
+    let charter = start(&rt, alloc, &mut book, group);
+    let report = report(&rt, alloc, &charter);
+    drop(charter);
     informs(&rt, &mut book, &report, Noting::Noted);
     informs(&rt, &mut book, &report, Noting::Known);
-    notes(
-        &rt,
-        alloc,
-        &mut book,
-        &report,
-        Noting::Known,
-        &[NodeId::new(3)],
-    );
+    let leaders = [NodeId::new(3)];
+    notes(&rt, alloc, &mut book, &report, Noting::Known, &leaders);
+    drop(report);
+    drop(book);
 }
 
 #[test]
 fn a_report_is_news_once_and_stale_later(rt: HostRuntime) {
     let (alloc, group) = (rt.alloc(), name(&rt));
     let mut book = book(&rt, alloc, group);
-    let report = report(&rt, alloc, &start(&rt, alloc, &mut book, group));
+    let charter = start(&rt, alloc, &mut book, group);
+    let report = report(&rt, alloc, &charter);
+    drop(charter);
     is_news_once(&rt, alloc, &mut book, &report);
-    start(&rt, alloc, &mut book, group);
+    drop(start(&rt, alloc, &mut book, group));
     let leaders = [NodeId::new(3), None];
     notes(&rt, alloc, &mut book, &report, Noting::Stale, &leaders);
+    drop(report);
+    drop(book);
 }

@@ -25,10 +25,12 @@ pub fn ring(rt: &impl Abort, alloc: Global, numbers: &[u32]) -> Roster {
     for number in numbers {
         add(rt, &mut members, identity(rt, *number));
     }
-    match Roster::from_members(alloc, &members) {
+    let ring = match Roster::from_members(alloc, &members) {
         Ok(ring) => ring,
         Err(_) => Roster::from_members(alloc, &members).expect(rt, "no ring"),
-    }
+    };
+    drop(members);
+    ring
 }
 
 /// The charter of this term of a group on the ring of these numbers. Asked for once more where memory was

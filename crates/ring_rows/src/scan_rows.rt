@@ -11,14 +11,14 @@ use std::process::Abort;
 
 /// How many packets are in flight on the link into this position, by the lists of its two nodes.
 fn waiting<E: RingElection>(world: &World<E>, position: usize, side: Side) -> usize {
-    let ring = world.charter().roster();
+    let (ring, nodes) = (world.charter().roster(), world.nodes());
     if position >= ring.len() {
         return 0;
     }
-    let Some(sender) = world.nodes().get(ring.neighbour(position, side)) else {
+    let Some(sender) = nodes.get(ring.neighbour(position, side)) else {
         return 0;
     };
-    let Some(receiver) = world.nodes().get(position) else {
+    let Some(receiver) = nodes.get(position) else {
         return 0;
     };
     sender
@@ -26,59 +26,50 @@ fn waiting<E: RingElection>(world: &World<E>, position: usize, side: Side) -> us
         .saturating_sub(receiver.taken(side))
 }
 
-/// The first link with something in flight, by a look at each.
-fn sought<E: RingElection>(world: &World<E>) -> Option<(usize, Side)> {
-    for position in 0..world.nodes().len() {
-        if waiting(world, position, Side::Left) > 0 {
-            return Some((position, Side::Left));
-        }
-        if waiting(world, position, Side::Right) > 0 {
-            return Some((position, Side::Right));
-        }
-    }
-    None
+/// What looks at each link of a world have seen.
+#[derive(Clone, Copy)]
+struct Scan {
+    /// The first link with something in flight, if there is one.
+    first: Option<(usize, Side)>,
+    /// The last such link.
+    last: Option<(usize, Side)>,
+    /// How many packets are in flight.
+    pending: u128,
 }
 
-/// The last such link, by a look at each.
-fn sought_last<E: RingElection>(world: &World<E>) -> Option<(usize, Side)> {
-    let mut last = None;
-    for position in 0..world.nodes().len() {
-        if waiting(world, position, Side::Left) > 0 {
-            last = Some((position, Side::Left));
-        }
-        if waiting(world, position, Side::Right) > 0 {
-            last = Some((position, Side::Right));
-        }
+/// Looks at the link into this position from a side, behind the others.
+fn look<E: RingElection>(scan: &mut Scan, world: &World<E>, position: usize, side: Side) {
+    let waiting = waiting(world, position, side) as u128;
+    scan.pending = scan.pending.saturating_add(waiting);
+    if waiting > 0 {
+        let link = Some((position, side));
+        scan.first = scan.first.or(link);
+        scan.last = link;
     }
-    last
 }
 
-/// How many packets are in flight, by a look at each link.
-fn added<E: RingElection>(world: &World<E>) -> u128 {
-    let mut sum: u128 = 0;
+/// What a look at each link of a world sees, in order.
+fn scanned<E: RingElection>(world: &World<E>) -> Scan {
+    let mut scan = Scan {
+        first: None,
+        last: None,
+        pending: 0,
+    };
     for position in 0..world.nodes().len() {
-        let left = waiting(world, position, Side::Left) as u128;
-        let right = waiting(world, position, Side::Right) as u128;
-        sum = sum.saturating_add(left).saturating_add(right);
+        look(&mut scan, world, position, Side::Left);
+        look(&mut scan, world, position, Side::Right);
     }
-    sum
-}
-
-/// Whether the scans agree with a world.
-fn agree<E: RingElection>(world: &World<E>) -> bool {
-    world.ready() == sought(world) && world.pending() == added(world)
+    scan
 }
 
 /// Delivers at the first link and at the last by turns until nothing is in flight, and looks before
 /// each delivery whether the scans agree with the world: how many deliveries there were.
 fn compared<E: RingElection>(rt: &impl Abort, world: &mut World<E>, most: u32) -> u32 {
     for done in 0..most {
-        assert!(rt; agree(world));
-        let next = if done % 2 == 0 {
-            world.ready()
-        } else {
-            sought_last(world)
-        };
+        let scan = scanned(world);
+        let told = (world.ready(), world.pending());
+        equal(rt, "what scans see", told, (scan.first, scan.pending));
+        let next = if done % 2 == 0 { scan.first } else { scan.last };
         let Some((position, side)) = next else {
             return done;
         };
@@ -97,6 +88,7 @@ fn scans_agree(
 ) {
     let mut world = begun(rt, alloc, kind, numbers);
     equal(rt, "deliveries", compared(rt, &mut world, 999), deliveries);
+    drop(world);
 }
 
 /// The same by each of these kinds.

@@ -65,24 +65,28 @@ fn in_flight(world: &World<Any>) -> Option<Links> {
 /// A delivery from the left of a position, what it does, and what it leaves in flight.
 type Leg = (usize, Did, Links);
 
-/// A delivery does this, and leaves that in flight.
-fn does(rt: &impl Abort, world: &mut World<Any>, leg: &Leg) {
-    let (position, did, links) = leg;
-    let done = deliver(rt, world, *position, Side::Left);
-    equal(rt, "a delivery", done, *did);
-    equal(rt, "in flight", in_flight(world), Some(*links));
-}
-
-/// Nothing but what each member has sent first is in flight on 3, 1, 2.
-fn begins(rt: &impl Abort, alloc: Global, kind: Any) -> World<Any> {
-    let world = begun(rt, alloc, kind, &[3, 1, 2]);
+/// The legs on 3, 1, 2, one after another, and nothing is in flight then: how many are on the link on which a drain would
+/// deliver, the first with something in flight.
+fn goes(rt: &impl Abort, alloc: Global, kind: Any, legs: &[Leg]) -> usize {
+    let mut world = begun(rt, alloc, kind, &[3, 1, 2]);
     equal(rt, "in flight", in_flight(&world), Some([2, 3, 1]));
-    world
+    let mut first = 0usize;
+    for (position, did, links) in legs {
+        match world.ready() {
+            Some((ready, Side::Left)) if ready == *position => first = first.saturating_add(1),
+            _ => {}
+        }
+        let done = deliver(rt, &mut world, *position, Side::Left);
+        let found = (done, in_flight(&world));
+        equal(rt, "a delivery, and in flight", found, (*did, Some(*links)));
+    }
+    assert!(rt; world.ready().is_none());
+    drop(world);
+    first
 }
 
 #[test]
 fn the_worked_schedule(rt: HostRuntime) {
-    let mut world = begins(&rt, rt.alloc(), Any::Chang);
     let legs: [Leg; 9] = [
         (1, Did::Moved, [2, 0, 13]),
         (2, Did::Moved, [2, 0, 3]),
@@ -94,21 +98,11 @@ fn the_worked_schedule(rt: HostRuntime) {
         (0, Did::Moved, [0, 0, 0]),
         (0, Did::Idle, [0, 0, 0]),
     ];
-    for leg in &legs {
-        does(&rt, &mut world, leg);
-    }
-}
-
-/// The delivery of a leg is that of a drain, which is on the first link with something in flight.
-fn is_drained(rt: &impl Abort, world: &mut World<Any>, leg: &Leg) {
-    let link = Some((leg.0, Side::Left));
-    equal(rt, "the ready link", world.ready(), link);
-    does(rt, world, leg);
+    assert!(rt; goes(&rt, rt.alloc(), Any::Chang, &legs) == 5);
 }
 
 #[test]
 fn the_worked_order_of_a_drain(rt: HostRuntime) {
-    let mut world = begins(&rt, rt.alloc(), Any::Peterson);
     let legs: [Leg; 15] = [
         (0, Did::Moved, [0, 32, 1]),
         (1, Did::Moved, [0, 2, 13]),
@@ -126,8 +120,5 @@ fn the_worked_order_of_a_drain(rt: HostRuntime) {
         (0, Did::Told(1), [0, 4, 0]),
         (1, Did::Moved, [0, 0, 0]),
     ];
-    for leg in &legs {
-        is_drained(&rt, &mut world, leg);
-    }
-    assert!(rt; world.ready().is_none());
+    assert!(rt; goes(&rt, rt.alloc(), Any::Peterson, &legs) == 15);
 }

@@ -23,8 +23,10 @@ fn is_settled(
 ) -> bool {
     let mut world = begun(rt, alloc, algorithm, &[3, 1, 2]);
     drained(rt, &mut world, deliveries);
-    let nodes = world.nodes().get(..nodes).expect(rt, "no such nodes");
-    settle(world.charter(), nodes) == Settlement::Settled
+    assert!(rt; nodes <= world.nodes().len());
+    let settlement = settle(world.charter(), &world.nodes()[..nodes]);
+    drop(world);
+    settlement == Settlement::Settled
 }
 
 #[test]
@@ -44,7 +46,9 @@ fn hand_on(rt: &impl Abort, nodes: &mut [Node<Chang>], position: usize, left: us
     let copy = Arc::try_clone(sender.charter()).expect(rt, "no copy");
     let place = receiver.taken(Side::Left);
     if let Some(envelope) = sender.envelope(copy, Side::Right, place) {
-        assert!(rt; offer(rt, &mut nodes[position], envelope).is_ok());
+        let taken = offer(rt, &mut nodes[position], envelope);
+        assert!(rt; taken.is_ok());
+        drop(taken);
     }
 }
 
@@ -81,6 +85,9 @@ fn nodes_by_themselves_settle_and_a_double_does_not(rt: HostRuntime) {
     let charter = charter(&rt, rt.alloc(), 1, Chang, &[3, 1, 2]);
     let nodes = settled_nodes(&rt, rt.alloc(), &charter);
     assert!(rt; settle(&charter, &nodes) == Settlement::Settled);
+    drop(nodes);
     let nodes = doubled_nodes(&rt, rt.alloc(), &charter);
     assert!(rt; settle(&charter, &nodes) == Settlement::Incomplete);
+    drop(nodes);
+    drop(charter);
 }

@@ -2,10 +2,10 @@
 //! bound on messages of its algorithm and one announcement for each position.
 
 use crate::memory::add;
-use crate::worlds::{begun, drained, known};
+use crate::worlds::{begun, drained};
 use ring_any::Any;
 use ring_election::RingElection;
-use ring_world::World;
+use ring_id::NodeId;
 use std::alloc::Global;
 use std::process::Abort;
 
@@ -18,22 +18,7 @@ fn scattered(rt: &impl Abort, alloc: Global, size: u16) -> Vec<u32> {
     numbers
 }
 
-/// Whether the nodes at all positions know this leader.
-fn all_know<E: RingElection>(world: &World<E>, leader: u32) -> bool {
-    for position in 0..world.nodes().len() {
-        if known(world, position) != Some(leader) {
-            return false;
-        }
-    }
-    true
-}
-
-/// Whether nothing is in flight in a world, and all know this leader.
-fn is_quiet<E: RingElection>(world: &World<E>, leader: u32) -> bool {
-    world.pending() == 0 && all_know(world, leader)
-}
-
-/// Drains a ring of this size, until it is quiet and all know this leader; how many messages it
+/// Drains a ring of this size, until nothing is in flight and all know this leader; how many messages it
 /// took besides the announcements.
 fn messages(
     rt: &impl Abort,
@@ -44,8 +29,13 @@ fn messages(
 ) -> u128 {
     let mut world = begun(rt, alloc, kind, &scattered(rt, alloc, size));
     drained(rt, &mut world, u32::MAX);
-    assert!(rt; is_quiet(&world, leader));
+    assert!(rt; world.pending() == 0);
+    let leader = NodeId::new(leader);
+    for node in world.nodes() {
+        assert!(rt; node.known() == leader);
+    }
     let messages = world.delivered().checked_sub(size as u128);
+    drop(world);
     messages.expect(rt, "an announcement is missing")
 }
 

@@ -2,6 +2,7 @@
 ghost use Rattle.std.specs.Prelude.{◌<◌, length};
 
 use crate::drain;
+use crate::equal::equal;
 use crate::memory::TWICE;
 use crate::rings::charter;
 use ring_election::RingElection;
@@ -79,7 +80,7 @@ fn deliver_once<E: RingElection>(
     let before = counts(world);
     let delivery = world.deliver(position, side);
     if matches!(delivery, Delivery::Refused(_)) {
-        assert!(rt; counts(world) == before);
+        equal(rt, "counts", counts(world), before);
     }
     delivery
 }
@@ -184,10 +185,4 @@ pub fn cut<E: RingElection>(
     let done = world.cut(position, side);
     assert_has(rt, world, position);
     (done, world.is_cut(position, side))
-}
-
-/// The number of the leader that the node at this position knows, if it knows one.
-pub fn known<E: RingElection>(world: &World<E>, position: usize) -> Option<u32> {
-    let leader = world.nodes().get(position)?.known()?;
-    Some(leader.get())
 }
