@@ -20,6 +20,7 @@ fn ask(rt: &impl Abort, table: &mut Table<Any>, group: GroupName, sessions: Rang
     for session in sessions {
         let reply = table.call(session, Command::Members(group));
         assert!(rt; is_refused(&reply));
+        drop(reply);
     }
 }
 
@@ -54,4 +55,5 @@ fn entries_stand_in_order_over_several_chunks(rt: HostRuntime) {
     assert!(rt; table.history().get(8192).is_none());
     ask(&rt, &mut table, group, 8193..10_001);
     assert!(rt; has_calls(table.history(), 10_000) && is_call(table.history().last(), 10_000));
+    drop(table);
 }

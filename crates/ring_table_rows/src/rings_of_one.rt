@@ -23,7 +23,9 @@ fn room(rt: &impl Abort, alloc: Global) -> Vec<u8> {
 /// Whether a reply or an answer is spelled by this line.
 pub fn is_spelled<S: Spell>(rt: &impl Abort, alloc: Global, told: &S, line: &[u8]) -> bool {
     let mut text = room(rt, alloc);
-    told.spell(&mut text).is_ok() && text.as_slice() == line
+    let is_spelled = told.spell(&mut text).is_ok() && text.as_slice() == line;
+    drop(text);
+    is_spelled
 }
 
 /// The node of the one member of a charter's ring, which has received nothing.
@@ -54,6 +56,7 @@ pub fn elect(rt: &impl Abort, alloc: Global, charter: &Arc<Charter<Any>>) -> Nod
         taken => taken,
     };
     assert!(rt; matches!(taken, Ok(Some(_))));
+    drop(taken);
     node
 }
 

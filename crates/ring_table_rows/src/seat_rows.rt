@@ -54,6 +54,7 @@ impl<A: Access<Any> + Drop> Bench<A> {
             answer => answer,
         };
         assert!(rt; is_spelled(rt, alloc, &answer, told));
+        drop(answer);
     }
 
     // Whether a line of session 1 is answered so, with its place, where it is asked once.
@@ -64,7 +65,10 @@ impl<A: Access<Any> + Drop> Bench<A> {
         line: &[u8],
         told: &[u8],
     ) -> bool {
-        is_spelled(rt, alloc, &self.ask(rt, 1, line), told)
+        let answer = self.ask(rt, 1, line);
+        let is_told = is_spelled(rt, alloc, &answer, told);
+        drop(answer);
+        is_told
     }
 
     // A start of the group `a` is answered so, with its place: the charters.
@@ -83,6 +87,7 @@ impl<A: Access<Any> + Drop> Bench<A> {
             started => started,
         };
         assert!(rt; is_spelled(rt, alloc, &answer, told));
+        drop(answer);
         charters
     }
 
@@ -105,12 +110,18 @@ fn begin<R: Wait + Abort, A: Access<Any> + Drop>(
     alloc: Global,
     bench: &mut Bench<A>,
 ) -> Report<Any> {
-    assert!(rt; bench.starts(rt, alloc, b"1 no no-group\n").is_empty());
+    let none = bench.starts(rt, alloc, b"1 no no-group\n");
+    assert!(rt; none.is_empty());
+    drop(none);
     bench.tells(rt, alloc, 1, b"create a chang", b"2 ok\n");
     bench.tells(rt, alloc, 1, b"join a 7", b"3 ok\n");
     let one = bench.starts(rt, alloc, b"4 term 1\n");
     assert!(rt; one.len() == 1);
-    told_by(rt, &elect(rt, alloc, &one[0]))
+    let node = elect(rt, alloc, &one[0]);
+    drop(one);
+    let report = told_by(rt, &node);
+    drop(node);
+    report
 }
 
 // The row of ten calls, of which each is an entry at its place: the seat after it, and whether a call was made once more.
@@ -126,7 +137,14 @@ fn row<R: Wait + Abort, A: Access<Any> + Drop>(
     bench.tells(rt, alloc, 1, b"start a", b"8 term 2\n");
     bench.files(rt, &report, Filed::Stale);
     bench.tells(rt, alloc, 1, b"groups", b"10 groups a\n");
-    (bench.seat, bench.again)
+    drop(report);
+    let Bench {
+        access,
+        seat,
+        again,
+    } = bench;
+    drop(access);
+    (seat, again)
 }
 
 // A turn lock with one seat, which has so many turns.
@@ -141,6 +159,7 @@ fn opened_in_turn(
         return Err(NoMemory);
     };
     let seat = seats.pop().expect(rt, "no seat");
+    drop(seats);
     let bench = Bench {
         access,
         seat,
@@ -166,6 +185,7 @@ fn under_lock(rt: &impl Abort, alloc: Global) -> Bench<LockedTable<Any>> {
         Err(NoMemory) => LockedTable::new(alloc, Table::new(alloc), 1).expect(rt, TWICE),
     };
     let seat = seats.pop().expect(rt, "no seat");
+    drop(seats);
     Bench {
         access,
         seat,
@@ -179,7 +199,9 @@ fn each_entry_has_its_place(rt: HostRuntime) {
     // a call that is refused memory uses a turn: the one behind the ten
     let (seat, again) = row(&rt, alloc, in_turn(&rt, alloc, 11));
     assert!(rt; seat.is_spent() == again);
-    row(&rt, alloc, under_lock(&rt, alloc));
+    drop(seat);
+    let (seat, _again) = row(&rt, alloc, under_lock(&rt, alloc));
+    drop(seat);
 }
 
 // Whether a seat with two turns has them, of which each call uses one. It hasn't where a call was refused memory, which
@@ -191,6 +213,7 @@ fn has_two_turns<R: Wait + Abort>(rt: &R, alloc: Global) -> bool {
     let joined = bench.is_told(rt, alloc, b"join a 5", b"2 ok\n");
     let spent = bench.seat.is_spent();
     let refused = bench.is_told(rt, alloc, b"members a", b"- no seat-spent\n");
+    drop(bench);
     created & joined & refused & spent & !early
 }
 

@@ -33,6 +33,7 @@ fn tells(
         told => told,
     };
     assert!(rt; is_spelled(rt, alloc, &told, reply));
+    drop(told);
 }
 
 // A start of the group `a`, with two copies of the new term's charter, is answered so: the charters.
@@ -48,17 +49,22 @@ fn starts(
         started => started,
     };
     assert!(rt; is_spelled(rt, alloc, &told, reply));
+    drop(told);
     charters
 }
 
 // Starts the term of one member after a start that is refused and has no charter: the node that it elects.
 fn begin(rt: &impl Abort, alloc: Global, table: &mut Table<Any>) -> Node<Any> {
-    assert!(rt; starts(rt, alloc, table, b"no no-group\n").is_empty());
+    let none = starts(rt, alloc, table, b"no no-group\n");
+    assert!(rt; none.is_empty());
+    drop(none);
     tells(rt, alloc, table, 1, b"create a chang", b"ok\n");
     tells(rt, alloc, table, 1, b"join a 7", b"ok\n");
     let two = starts(rt, alloc, table, b"term 1\n");
     assert!(rt; two.len() == 2);
-    elect(rt, alloc, &two[0])
+    let node = elect(rt, alloc, &two[0]);
+    drop(two);
+    node
 }
 
 // Whether the last entry is a filing that became this.
@@ -88,6 +94,7 @@ fn file(rt: &impl Abort, alloc: Global, table: &mut Table<Any>, node: &Node<Any>
     tells(rt, alloc, table, 2, b"who a 7", b"leader 1 7\n");
     tells(rt, alloc, table, 1, b"start a", b"term 2\n");
     files(rt, table, &report, Filed::Stale);
+    drop(report);
 }
 
 #[test]
@@ -97,4 +104,6 @@ fn every_call_and_report_is_an_entry(rt: HostRuntime) {
     let node = begin(&rt, alloc, &mut table);
     file(&rt, alloc, &mut table, &node);
     assert!(rt; table.history().len() == 9);
+    drop(node);
+    drop(table);
 }
