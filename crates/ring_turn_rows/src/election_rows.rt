@@ -56,14 +56,18 @@ fn decide<R: Abort + Threads + Wait + Clock + Copy + Send + Sync + Drop + 'stati
     ground.tells(rt, alloc, 1, FOUR, FOUR_TOLD);
     assert!(rt; reaches(rt, &gate.left, FOUR_ITEMS));
     ground.tells(rt, alloc, 1, b"terms a\n", b"terms 1:2\n");
+    drop(gate);
     let Ended {
         mut table,
         handed,
-        waiting: _,
+        waiting,
     } = ground.end(rt);
+    drop(waiting);
     let nodes = nodes_of(rt, alloc, handed);
     all_know_two(rt, &nodes);
     finish_known(rt, &mut table, &nodes);
+    drop(nodes);
+    drop(table);
 }
 
 #[test]
@@ -84,6 +88,7 @@ fn twenty_groups(rt: &impl Abort, alloc: Global) -> Vec<u8> {
         lines
             .extend_from_slice(line.as_bytes())
             .expect(rt, "no memory");
+        drop(line);
     }
     lines
 }
@@ -122,6 +127,7 @@ fn all_begun(rt: &impl Abort, alloc: Global, nodes: &[Node<Any>], waiting: &VecD
     for number in 0..20 {
         let name = format!(in alloc; "g{number}").expect(rt, "no memory");
         let group = GroupName::from_bytes(name.as_bytes()).expect(rt, "no name");
+        drop(name);
         assert!(rt; has_begun(group, 0, nodes, waiting));
         assert!(rt; has_begun(group, 1, nodes, waiting));
     }
@@ -137,11 +143,16 @@ fn no_begin_is_lost(rt: HostRuntime) {
     let gate = shared(&rt, alloc, OpenGate);
     let mut ground = Ground::open(&rt, alloc, 2, 1, gate).expect(&rt, "no service");
     ground.tells(&rt, alloc, 1, &lines, &told);
+    drop(lines);
+    drop(told);
     let Ended {
-        table: _,
+        table,
         handed,
         waiting,
     } = ground.end(&rt);
+    drop(table);
     let nodes = nodes_of(&rt, alloc, handed);
     all_begun(&rt, alloc, &nodes, &waiting);
+    drop(nodes);
+    drop(waiting);
 }

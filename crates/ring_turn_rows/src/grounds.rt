@@ -122,9 +122,12 @@ impl Ground {
                 Opened {
                     service,
                     one: seat,
-                    other: _,
+                    other,
                 },
-            ) => Some(Ground { service, seat }),
+            ) => {
+                drop(other);
+                Some(Ground { service, seat })
+            }
             None => None,
         }
     }
@@ -144,7 +147,8 @@ impl Ground {
 
     /// Ends the service: what it leaves. Nobody shares the table then.
     pub fn end<R: Abort + Threads + Wait>(self, rt: &R) -> Ended {
-        let Ground { service, seat: _ } = self;
+        let Ground { service, seat } = self;
+        drop(seat);
         let Closing {
             access,
             handed,

@@ -41,6 +41,7 @@ fn a_service_answers_each_line_and_hands_over(rt: HostRuntime) {
     assert!(rt; ended.handed.len() == 1);
     assert!(rt; ended.waiting.is_empty());
     assert!(rt; calls(&ended.table) == 6);
+    drop(ended);
 }
 
 // Starts a service and closes it, or is told why it can't be started: nothing of it is left to share the table.

@@ -47,7 +47,9 @@ where
     let (front, seat) = (ground.service.front(), &mut ground.seat);
     let served = front.serve(rt, seat, 1, &mut reader, &mut writer, drip.reads);
     drop(ground.end(rt));
-    served == answer && writer.taken() == replies
+    let comes = served == answer && writer.taken() == replies;
+    drop(writer);
+    comes
 }
 
 // The same, tried again where memory is refused.

@@ -30,6 +30,7 @@ pub fn tells<R: Abort + Wait, A: Access<Any> + Drop>(
     let served = front.serve(rt, seat, session, &mut FromRead(lines), &mut writer, 1000);
     assert!(rt; served.is_ok());
     assert!(rt; writer.0.as_slice() == told);
+    drop(writer);
 }
 
 /// The same, where each reply is told with its place.
@@ -49,6 +50,7 @@ pub fn tells_placed<R: Abort + Wait, A: Access<Any> + Drop>(
     let served = front.serve_placed(rt, seat, session, &mut FromRead(lines), &mut writer, 1000);
     assert!(rt; served.is_ok());
     assert!(rt; writer.0.as_slice() == told);
+    drop(writer);
 }
 
 /// A text so many times.
@@ -66,7 +68,7 @@ pub fn nodes_of(rt: &impl Abort, alloc: Global, handed: Vec<Handed<Any>>) -> Vec
     for one in handed {
         assert!(rt; one.why == Why::Stopped);
         match one.append_to(&mut nodes) {
-            Ok(_rest) => {}
+            Ok(rest) => drop(rest),
             Err(_) => panic!(rt; "no memory"),
         }
     }

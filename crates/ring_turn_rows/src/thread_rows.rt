@@ -140,6 +140,7 @@ fn place_of<R: Abort + Wait, S: Shared>(
     match table.ask(rt, seat, session, command) {
         Answer::Placed { reply, place } => {
             assert!(rt; matches!(reply, Reply::Done));
+            drop(reply);
             Some(place)
         }
         Answer::Unplaced(_) => None,
@@ -270,6 +271,9 @@ where
     are_placed(rt, &closed, &low, 1);
     are_placed(rt, &closed, &high, 101);
     assert!(rt; closed.history().len() == 201);
+    drop(low);
+    drop(high);
+    drop(closed);
 }
 
 // A turn lock over a table without groups, and its three seats.
@@ -289,5 +293,6 @@ fn two_threads_take_turns(rt: HostRuntime) {
     let third = seats.pop().expect(&rt, "no third seat");
     let second = seats.pop().expect(&rt, "no second seat");
     let first = seats.pop().expect(&rt, "no first seat");
+    drop(seats);
     two_threads(&rt, rt.alloc(), lock, (first, second, third));
 }

@@ -62,6 +62,8 @@ where
     let front = service.front();
     tells(rt, alloc, front, &mut one, 1, SPENDING, SPENT_TOLD);
     tells_placed(rt, alloc, front, &mut other, 2, LAST, LAST_TOLD);
+    drop(one);
+    drop(other);
     drop(service.close(rt));
 }
 
@@ -80,6 +82,7 @@ fn joins(rt: &impl Abort, alloc: Global, from: u32) -> Vec<u8> {
         lines
             .extend_from_slice(line.as_bytes())
             .expect(rt, "no memory");
+        drop(line);
     }
     lines
 }
@@ -120,7 +123,7 @@ where
 {
     let (one, other) = seats;
     let (low, high) = lines;
-    let (one, _) = thread::join(
+    let (one, other) = thread::join(
         rt,
         || -> A::Seat
             requires { A.has_seat front.now one }
@@ -129,6 +132,7 @@ where
             requires { A.has_seat front.now other }
         { told_by(rt, alloc, front, other, 2, high, told) },
     );
+    drop(other);
     one
 }
 
@@ -157,6 +161,7 @@ where
         b"groups\n",
         b"202 groups a\n",
     );
+    drop(one);
     drop(service.close(rt));
 }
 
@@ -168,6 +173,9 @@ fn two_sessions_share_a_table(rt: HostRuntime) {
     let gate = shared(&rt, alloc, ShutGate);
     let opened = open_in_turn(&rt, alloc, 200, 1, gate);
     share(&rt, alloc, opened, (&low, &high), &told);
+    drop(low);
+    drop(high);
+    drop(told);
 }
 
 // The reports of all nodes are known already.
@@ -184,7 +192,9 @@ fn are_known<R: Abort + Wait, A: Access<Any> + Drop>(
         let copy = Arc::try_clone(node.charter()).expect(rt, "no copy");
         let report = node.report(copy).expect(rt, "no report");
         assert!(rt; access.report(rt, &mut seat, &report) == Filed::Known);
+        drop(report);
     }
+    drop(seat);
 }
 
 // Two workers that must both run decide a term of four members: all come to rest, and the table knows what they know, by
@@ -198,8 +208,9 @@ where
     let Opened {
         service,
         one: mut seat,
-        other: _,
+        other,
     } = opened;
+    drop(other);
     let front = service.front();
     tells(rt, alloc, front, &mut seat, 1, FOUR, FOUR_TOLD);
     assert!(rt; reaches(rt, &gate.left, FOUR_ITEMS));
@@ -207,11 +218,14 @@ where
     let Closing {
         access,
         handed,
-        waiting: _,
+        waiting,
     } = service.close(rt);
+    drop(waiting);
     let nodes = nodes_of(rt, alloc, handed);
     all_know_two(rt, &nodes);
     are_known(rt, &*access, seat, &nodes);
+    drop(nodes);
+    drop(access);
 }
 
 // The same by a turn lock, with inboxes of this capacity.
@@ -225,6 +239,7 @@ fn decide_in_turn<R: Abort + Threads + Wait + Clock + Copy + Send + Sync + Drop 
     let gate = new_meeting(rt, alloc);
     let copy = Arc::try_clone(&gate).expect(rt, "no copy");
     decide(rt, alloc, open_in_turn(rt, alloc, 100, inbox, copy), &gate);
+    drop(gate);
 }
 
 #[test]

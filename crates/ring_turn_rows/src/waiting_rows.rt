@@ -48,12 +48,16 @@ fn fall_behind<R: Abort + Wait + Clock>(
 // Ends a service with one worker: no begin waits any more, and the worker hands over three nodes.
 fn end_whole<R: Abort + Threads + Wait>(rt: &R, alloc: Global, ground: Ground) {
     let Ended {
-        table: _,
+        table,
         handed,
         waiting,
     } = ground.end(rt);
+    drop(table);
     assert!(rt; waiting.is_empty());
-    assert!(rt; nodes_of(rt, alloc, handed).len() == 3);
+    drop(waiting);
+    let nodes = nodes_of(rt, alloc, handed);
+    assert!(rt; nodes.len() == 3);
+    drop(nodes);
 }
 
 // The begin that waits is tried again before the command of another session.
@@ -66,6 +70,7 @@ fn a_begin_that_waits_is_tried_before_a_command(rt: HostRuntime) {
     ground.tells(&rt, alloc, 2, b"groups\n", b"groups a b c\n");
     assert!(rt; reaches(&rt, &gate.left, 9));
     end_whole(&rt, alloc, ground);
+    drop(gate);
 }
 
 // The begin that waits is tried once more where the service ends.
@@ -76,4 +81,5 @@ fn a_begin_that_waits_is_tried_at_the_end(rt: HostRuntime) {
     let mut ground = held(&rt, alloc, &gate);
     fall_behind(&rt, alloc, &mut ground, &gate);
     end_whole(&rt, alloc, ground);
+    drop(gate);
 }
