@@ -34,7 +34,10 @@ fn text_of(alloc: Global, error: &clap::Error) -> Result<String, AllocError> {
 
 // Whether a command line asks for a replay.
 fn replays(alloc: Global, line: &str) -> bool {
-    matches!(read_again(alloc, line), Ok(Order::Replay))
+    let order = read_again(alloc, line);
+    let replays = matches!(order, Ok(Order::Replay));
+    drop(order);
+    replays
 }
 
 #[test]
@@ -46,10 +49,13 @@ fn replay_is_an_order(rt: HostRuntime) {
 
 // Whether a command line has so many clients served, by the file `x`.
 fn serves(alloc: Global, line: &str, wanted: u32) -> bool {
-    match read_again(alloc, line) {
-        Ok(Order::Serve { path, connections }) => path.as_str() == "x" && connections == wanted,
+    let order = read_again(alloc, line);
+    let serves = match &order {
+        Ok(Order::Serve { path, connections }) => path.as_str() == "x" && *connections == wanted,
         _ => false,
-    }
+    };
+    drop(order);
+    serves
 }
 
 #[test]
@@ -66,7 +72,8 @@ fn serve_names_a_file_and_a_number(rt: HostRuntime) {
 // Whether a command line has clients served by the file `x`, so many at a time, each for so many silent seconds, and
 // with places where these are told.
 fn runs(alloc: Global, line: &str, at_a_time: u32, seconds: u32, tells: bool) -> bool {
-    match read_again(alloc, line) {
+    let order = read_again(alloc, line);
+    let runs = match &order {
         Ok(
             Order::Run {
                 path,
@@ -74,9 +81,13 @@ fn runs(alloc: Global, line: &str, at_a_time: u32, seconds: u32, tells: bool) ->
                 idle,
                 places,
             },
-        ) => { path.as_str() == "x" && sessions == at_a_time && idle == seconds && places == tells }
+        ) => {
+            path.as_str() == "x" && *sessions == at_a_time && *idle == seconds && *places == tells
+        }
         _ => false,
-    }
+    };
+    drop(order);
+    runs
 }
 
 #[test]
@@ -94,17 +105,24 @@ fn run_has_its_usual_numbers(rt: HostRuntime) {
 // Whether a text is told that has this part.
 fn tells(alloc: Global, error: &clap::Error, part: &str) -> bool {
     match text_of(alloc, error) {
-        Ok(text) => text.as_str().contains(part),
+        Ok(text) => {
+            let tells = text.as_str().contains(part);
+            drop(text);
+            tells
+        }
         Err(_) => false,
     }
 }
 
 // Whether a command line is refused by a text that has this part.
 fn is_refused(alloc: Global, line: &str, part: &str) -> bool {
-    match read_again(alloc, line) {
-        Err(WordsFault::Usage(error)) => tells(alloc, &error, part),
+    let order = read_again(alloc, line);
+    let is_refused = match &order {
+        Err(WordsFault::Usage(error)) => tells(alloc, error, part),
         _ => false,
-    }
+    };
+    drop(order);
+    is_refused
 }
 
 #[test]
@@ -163,7 +181,9 @@ fn refuses_bytes(alloc: Global, part: &str) -> Result<bool, AllocError> {
         Ok(error) => error,
         Err(_) => not_text(alloc)?,
     };
-    Ok(tells(alloc, &error, part))
+    let tells = tells(alloc, &error, part);
+    drop(error);
+    Ok(tells)
 }
 
 #[test]
@@ -175,16 +195,23 @@ fn bytes_that_are_no_text_are_refused_with_the_usage(rt: HostRuntime) {
 
 // Whether a command line asks for the version, and is told it.
 fn tells_version(alloc: Global, line: &str) -> bool {
-    match read_again(alloc, line) {
-        Err(WordsFault::Usage(error)) => asks_version(&error) && is_version(alloc, &error),
+    let order = read_again(alloc, line);
+    let tells = match &order {
+        Err(WordsFault::Usage(error)) => asks_version(error) && is_version(alloc, error),
         _ => false,
-    }
+    };
+    drop(order);
+    tells
 }
 
 // Whether the version is told, and nothing else.
 fn is_version(alloc: Global, error: &clap::Error) -> bool {
     match text_of(alloc, error) {
-        Ok(text) => text.as_str() == "ringd 1.0.0\n",
+        Ok(text) => {
+            let is_version = text.as_str() == "ringd 1.0.0\n";
+            drop(text);
+            is_version
+        }
         Err(_) => false,
     }
 }
