@@ -82,7 +82,9 @@ fn comes(rt: &impl Abort, alloc: Global, pieces: &[&[u8]], lines: u64, wanted: &
     let log = RefCell::new(text(rt, alloc, 200));
     let answer = replayed(alloc, &log, pieces);
     let log = log.into_inner();
-    answer == Ok(lines) && log.as_slice() == wanted
+    let comes = answer == Ok(lines) && log.as_slice() == wanted;
+    drop(log);
+    comes
 }
 
 // The same, tried again where memory is refused.
@@ -141,6 +143,7 @@ fn told(rt: &impl Abort, alloc: Global) -> Vec<u8> {
     let mut text = Vec::new(alloc);
     put_times(rt, &mut text, b"ok\n", 100);
     put_times(rt, &mut text, &line, 400);
+    drop(line);
     text
 }
 
@@ -173,6 +176,7 @@ fn pass_the_page(alloc: Global, lines: &[u8], wanted: &[u8]) -> bool {
     let answer = replay(alloc, &mut FromRead(lines), &mut writer, 1000);
     let longest = writer.longest;
     let whole = answer == Ok(500) && writer.text.as_slice() == wanted;
+    drop(writer);
     whole && longest <= 65536 && longest > 60000
 }
 
@@ -181,4 +185,6 @@ fn replies_to_one_read_may_be_longer_than_the_page(rt: HostRuntime) {
     let alloc = rt.alloc();
     let (lines, wanted) = (crowd(&rt, alloc), told(&rt, alloc));
     assert!(rt; pass_the_page(alloc, &lines, &wanted) || pass_the_page(alloc, &lines, &wanted));
+    drop(lines);
+    drop(wanted);
 }

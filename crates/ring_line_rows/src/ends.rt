@@ -22,7 +22,10 @@ fn is_put(
     let mut out = drip_out(rt, alloc, room, fault_at);
     let mut by_std = ToWrite(drip_out(rt, alloc, room, fault_at));
     let answers = put_twice(&mut out) == answer && put_twice(&mut by_std) == answer;
-    answers && out.taken() == taken && by_std.0.taken() == taken
+    let is_put = answers && out.taken() == taken && by_std.0.taken() == taken;
+    drop(out);
+    drop(by_std);
+    is_put
 }
 
 #[test]

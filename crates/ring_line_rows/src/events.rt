@@ -65,8 +65,14 @@ fn lines_of(rt: &impl Abort, alloc: Global, replies: &[Reply]) -> Vec<u8> {
 // Whether a mux answers these events in one list by the replies. It may not where memory is refused.
 fn are_answered(rt: &impl Abort, alloc: Global, events: &[Event<Any>]) -> bool {
     let mut mux: Mux<Any, AnyTraffic> = Mux::new(alloc).expect(rt, "no mux");
-    match mux.run(alloc, events) {
-        Ok(replies) => lines_of(rt, alloc, &replies).as_slice() == REPLIES,
+    let answered = mux.run(alloc, events);
+    drop(mux);
+    match answered {
+        Ok(replies) => {
+            let lines = lines_of(rt, alloc, &replies);
+            drop(replies);
+            lines.as_slice() == REPLIES
+        }
         Err(_) => false,
     }
 }
@@ -76,4 +82,5 @@ fn a_list_of_events_is_answered_as_its_lines_are(rt: HostRuntime) {
     let alloc = rt.alloc();
     let events = events(&rt, alloc);
     assert!(rt; are_answered(&rt, alloc, &events) || are_answered(&rt, alloc, &events));
+    drop(events);
 }

@@ -20,6 +20,8 @@ fn texts_are_gathered_and_written_out(rt: HostRuntime) {
     page.cut(7);
     assert!(rt; page.write_out(&mut out).is_ok());
     assert!(rt; page.text().is_empty() && out.taken() == b"ok\nterm".as_slice());
+    drop(page);
+    drop(out);
 }
 
 #[test]
@@ -30,4 +32,6 @@ fn a_full_page_takes_no_byte(rt: HostRuntime) {
     assert!(rt; page.text() == b"ok\no".as_slice());
     assert!(rt; page.write_out(&mut out).is_err());
     assert!(rt; page.text() == b"ok\no".as_slice() && out.taken() == b"ok".as_slice());
+    drop(page);
+    drop(out);
 }

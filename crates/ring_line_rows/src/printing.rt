@@ -37,6 +37,8 @@ impl Sink for Pieces {
 fn prints(rt: &impl Abort, alloc: Global, reply: Reply, wanted: &[u8]) {
     let mut out = text(rt, alloc, 64);
     assert!(rt; print_reply(&reply, &mut out).is_ok() && out.as_slice() == wanted);
+    drop(out);
+    drop(reply);
 }
 
 // A drain that was refused memory.

@@ -182,7 +182,12 @@ fn notes<R: Wait + Abort + AllocGlobal>(
         door: Mutex::new(()),
         log: RefCell::new(text(rt, rt.alloc(), 210)),
     };
-    are_answered(rt, &watched, pieces, &zeros) && watched.log.into_inner().as_slice() == wanted
+    let are_answered = are_answered(rt, &watched, pieces, &zeros);
+    drop(zeros);
+    let log = watched.log.into_inner();
+    let notes = are_answered && log.as_slice() == wanted;
+    drop(log);
+    notes
 }
 
 // The same, tried again where memory is refused.

@@ -66,6 +66,7 @@ fn is_read<R: Intake + Drop>(
 ) {
     let mut lines = lines_of(rt, rt.alloc(), reader, reads);
     gives(rt, &mut lines, answers);
+    drop(lines);
 }
 
 #[test]
@@ -91,6 +92,7 @@ fn a_line_is_held_once_it_was_read(rt: HostRuntime) {
     assert!(rt; lines.has_line());
     gives(&rt, &mut lines, &[b"", b"b"]);
     assert!(rt; !lines.has_line());
+    drop(lines);
 }
 
 #[test]

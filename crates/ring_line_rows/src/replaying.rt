@@ -44,7 +44,10 @@ fn comes(
     let mut by_std = ToWrite(drip_out(rt, alloc, 100, given.write_fault));
     let second = replay(alloc, &mut reader, &mut by_std, given.reads);
     let answers = first == answer && second == answer;
-    answers && writer.taken() == written && by_std.0.taken() == written
+    let comes = answers && writer.taken() == written && by_std.0.taken() == written;
+    drop(writer);
+    drop(by_std);
+    comes
 }
 
 // The same, replayed again where memory is refused.
