@@ -3,12 +3,13 @@ use std::alloc::Global;
 
 // Whether a fault has this line; asked for again where memory is refused.
 fn has_line(alloc: Global, fault: ProgramFault, line: &str) -> bool {
-    match fault.to_string(alloc) {
+    let told = match fault.to_string(alloc) {
+        Ok(told) => Ok(told),
+        Err(_) => fault.to_string(alloc),
+    };
+    match told {
         Ok(told) => told.as_str() == line,
-        Err(_) => match fault.to_string(alloc) {
-            Ok(told) => told.as_str() == line,
-            Err(_) => false,
-        },
+        Err(_) => false,
     }
 }
 

@@ -27,7 +27,9 @@ where
     if served == Err(ProgramFault::NoMemory) {
         served = accept_loop(rt, NoClients, config, connections, &mut out);
     }
-    served == Err(wanted) && out.taken() == told
+    let fails = served == Err(wanted) && out.taken() == told;
+    drop(out);
+    fails
 }
 
 #[test]
@@ -90,9 +92,11 @@ where
     R: AllocGlobal + Threads + Wait + Sync + Net<Stream = TcpStream, Listener = TcpListener>,
 {
     let (listener, address) = listener(rt).ok()?;
-    let _clients = clients(rt, address, 3).ok()?;
+    let clients = clients(rt, address, 3).ok()?;
     let count = Mutex::new(0);
-    accept_all(rt, listener, counters(rt.alloc(), &count)?).ok()?;
+    let accepted = accept_all(rt, listener, counters(rt.alloc(), &count)?);
+    drop(clients);
+    accepted.ok()?;
     Some(count.into_inner())
 }
 

@@ -37,7 +37,9 @@ where
     if ran == Err(ProgramFault::NoMemory) {
         ran = run_loop(rt, NoClients, &config, nobody, &mut out);
     }
-    ran == wanted && out.taken() == told
+    let ends = ran == wanted && out.taken() == told;
+    drop(out);
+    ends
 }
 
 #[test]
@@ -57,21 +59,27 @@ fn is_next<R>(
 where
     R: Wait + Eprint + Clock + Net<Stream = TcpStream>,
 {
-    let Ok(_client) = rt.connect(address) else {
+    let Ok(client) = rt.connect(address) else {
         return false;
     };
     door.last = last;
-    match door.admit(rt) {
-        Some((number, _)) => number == wanted,
+    let guest = door.admit(rt);
+    drop(client);
+    let is_next = match &guest {
+        Some((number, _)) => *number == wanted,
         None => false,
-    }
+    };
+    drop(guest);
+    is_next
 }
 
 #[test]
 fn a_door_numbers_its_guests(rt: HostRuntime) -> Result<(), Fail> {
     let (listener, address) = listener(&rt)?;
     let mut door = Door::new(listener);
-    assert!(rt; door.admit(&rt).is_none());
+    let early = door.admit(&rt);
+    assert!(rt; early.is_none());
+    drop(early);
     door.is_open = true;
     for (last, wanted) in [
         (0, 1),
@@ -81,6 +89,7 @@ fn a_door_numbers_its_guests(rt: HostRuntime) -> Result<(), Fail> {
     ] {
         assert!(rt; is_next(&rt, &mut door, address, last, wanted), "{last}");
     }
+    drop(door);
     Ok(())
 }
 
@@ -150,9 +159,12 @@ where
 {
     let (listener, address) = listener(rt).ok()?;
     let door = Mutex::new(Door::new(listener));
-    let _clients = clients(rt, address, 4).ok()?;
+    let clients = clients(rt, address, 4).ok()?;
     let served = Mutex::new(0);
-    serves_four(rt, &door, &served)?;
+    let done = serves_four(rt, &door, &served);
+    drop(clients);
+    drop(door);
+    done?;
     Some(served.into_inner())
 }
 

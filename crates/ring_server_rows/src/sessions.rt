@@ -1,11 +1,11 @@
 ghost use Rattle.std.specs.Prelude.{◌≡◌, ◌≤◌, All};
 
-use crate::trial::listener;
+use crate::trial::{client, listener};
 use ring_config::Config;
 use ring_server::{Front, Guest, Seat, Serving, close, front, guests, open_gated};
 use ring_workers::{Gate, Pass};
 use std::alloc::Global;
-use std::io::{Read, Write};
+use std::io::Read;
 use std::net::{Net, OpenListener, Shutdown, TcpListener, TcpStream};
 use std::sync::atomic::{AtomicBool, Ordering};
 use std::sync::{Arc, Wait};
@@ -61,14 +61,16 @@ where
     R: Wait + AllocGlobal + Net<Stream = TcpStream, Listener = TcpListener>,
 {
     let (listener, address) = listener(rt)?;
-    let mut client = rt.connect(address)?;
-    client.write_all(lines)?;
+    let mut client = client(rt, address, lines)?;
     client.shutdown(Shutdown::Write)?;
     let (stream, _) = listener.accept()?;
+    drop(listener);
     guest.serve(rt, 1, &stream, false);
     drop(stream);
     let mut replies = Vec::new(rt.alloc());
-    client.read_to_end(&mut replies)?;
+    let read = client.read_to_end(&mut replies);
+    drop(client);
+    read?;
     Ok(replies)
 }
 
@@ -78,7 +80,11 @@ where
     R: Wait + AllocGlobal + Net<Stream = TcpStream, Listener = TcpListener>,
 {
     match replies(rt, guest, lines) {
-        Ok(replies) => replies.as_slice() == told,
+        Ok(replies) => {
+            let is_told = replies.as_slice() == told;
+            drop(replies);
+            is_told
+        }
         Err(_) => false,
     }
 }
@@ -104,7 +110,9 @@ where
     let mut guest = guests(rt.alloc(), front, seats).ok()?.pop()?;
     let begun = is_told(rt, &mut guest, ONE, b"ok\nok\nterm 1\n")
         && has_come(rt, &gate.has_entered);
-    Some(begun && is_told(rt, &mut guest, FIVE, FIVE_TOLD))
+    let all = begun && is_told(rt, &mut guest, FIVE, FIVE_TOLD);
+    drop(guest);
+    Some(all)
 }
 
 // How many of five begins wait for the one worker, which takes none of them, where its inbox holds so many.
@@ -133,12 +141,11 @@ where
     let (service, seats) = open_gated(rt, &config, 1, copy).ok()?;
     let all = starts_six(rt, front(&service), seats, &gate);
     gate.may_end.store(true, Ordering::SeqCst);
+    drop(gate);
     let closing = close(rt, service);
-    if all? {
-        Some(closing.waiting.len())
-    } else {
-        None
-    }
+    let waiting = closing.waiting.len();
+    drop(closing);
+    if all? { Some(waiting) } else { None }
 }
 
 #[test]

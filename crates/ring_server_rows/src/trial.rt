@@ -35,14 +35,14 @@ where
     Ok((listener, address))
 }
 
-// A client that has sent its number.
-fn client<R: Net<Stream = TcpStream>>(
+/// A client that has sent these bytes.
+pub fn client<R: Net<Stream = TcpStream>>(
     rt: &R,
     address: SocketAddr,
-    number: u8,
+    bytes: &[u8],
 ) -> io::Result<TcpStream> {
     let mut stream = rt.connect(address)?;
-    stream.write_all(&[number])?;
+    stream.write_all(bytes)?;
     Ok(stream)
 }
 
@@ -53,7 +53,7 @@ where
 {
     let mut clients = Vec::new(rt.alloc());
     for number in 1..=count {
-        clients.push(client(rt, address, number)?)?;
+        clients.push(client(rt, address, &[number])?)?;
     }
     Ok(clients)
 }
