@@ -79,13 +79,13 @@ impl<A: Access<Any> + Drop> Bench<A> {
         told: &[u8],
     ) -> Vec<Arc<Charter<Any>>> {
         let group = GroupName::from_bytes(b"a").expect(rt, "no name");
-        let (answer, charters) = match self.access.begin(rt, &mut self.seat, 1, group, 1) {
-            (Answer::Unplaced(Refusal::NoMemory), _) => {
-                self.again = true;
-                self.access.begin(rt, &mut self.seat, 1, group, 1)
-            }
-            started => started,
-        };
+        let mut started = self.access.begin(rt, &mut self.seat, 1, group, 1);
+        if matches!(started.0, Answer::Unplaced(Refusal::NoMemory)) {
+            drop(started);
+            self.again = true;
+            started = self.access.begin(rt, &mut self.seat, 1, group, 1);
+        }
+        let (answer, charters) = started;
         assert!(rt; is_spelled(rt, alloc, &answer, told));
         drop(answer);
         charters
