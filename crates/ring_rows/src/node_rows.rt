@@ -1,7 +1,7 @@
 //! A node of the election of Chang and Roberts on 3, 1, 2, receipt by receipt.
 
 use crate::equal::equal;
-use crate::nodes::{counts, offer, seated, shown};
+use crate::nodes::{counts, envelope, offer, seated, shown};
 use crate::rings::{charter, identity};
 use ring_chang::Chang;
 use ring_id::Side;
@@ -12,9 +12,7 @@ use std::sync::Arc;
 
 /// The envelope of what a node has sent to the right at this place.
 fn sent(rt: &impl Abort, node: &Node<Chang>, place: usize) -> Envelope<Chang> {
-    let copy = Arc::try_clone(node.charter()).expect(rt, "no copy");
-    let envelope = node.envelope(copy, Side::Right, place);
-    envelope.expect(rt, "nothing was sent there")
+    envelope(rt, node, place).expect(rt, "nothing was sent there")
 }
 
 /// The fault for which a node doesn't take what another has sent to the right at this place; none where it takes

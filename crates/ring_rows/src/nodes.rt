@@ -37,6 +37,12 @@ pub fn seated(
     }
 }
 
+/// The envelope of what a node has sent to the right at this place, if it has sent anything there.
+pub fn envelope(rt: &impl Abort, node: &Node<Chang>, place: usize) -> Option<Envelope<Chang>> {
+    let copy = Arc::try_clone(node.charter()).expect(rt, "no copy");
+    node.envelope(copy, Side::Right, place)
+}
+
 /// The number of an envelope's message, and its index.
 pub fn shown(envelope: &Envelope<Chang>) -> Option<(u32, usize)> {
     match envelope.packet() {

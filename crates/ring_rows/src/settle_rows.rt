@@ -1,7 +1,7 @@
 //! When nodes of the election of Chang and Roberts on 3, 1, 2 have settled.
 
 use crate::memory::add;
-use crate::nodes::{offer, seated};
+use crate::nodes::{envelope, offer, seated};
 use crate::rings::charter;
 use crate::worlds::{begun, drained};
 use ring_chang::Chang;
@@ -13,6 +13,11 @@ use std::alloc::Global;
 use std::process::Abort;
 use std::sync::Arc;
 
+/// Whether nodes of a charter have settled.
+fn have_settled<E: RingElection>(charter: &Charter<E>, nodes: &[Node<E>]) -> bool {
+    settle(charter, nodes) == Settlement::Settled
+}
+
 /// Whether the world of an election on 3, 1, 2 has settled after so many deliveries, by so many of its nodes.
 fn is_settled(
     rt: &impl Abort,
@@ -23,10 +28,10 @@ fn is_settled(
 ) -> bool {
     let mut world = begun(rt, alloc, algorithm, &[3, 1, 2]);
     drained(rt, &mut world, deliveries);
-    assert!(rt; nodes <= world.nodes().len());
-    let settlement = settle(world.charter(), &world.nodes()[..nodes]);
+    let nodes = world.nodes().get(..nodes).expect(rt, "no such nodes");
+    let is_settled = have_settled(world.charter(), nodes);
     drop(world);
-    settlement == Settlement::Settled
+    is_settled
 }
 
 #[test]
@@ -42,10 +47,8 @@ fn all_nodes_settle_with_the_last_delivery(rt: HostRuntime) {
 /// Hands the node at this position what its left neighbour sent next, if there is anything.
 fn hand_on(rt: &impl Abort, nodes: &mut [Node<Chang>], position: usize, left: usize) {
     assert!(rt; position < nodes.len() && left < nodes.len());
-    let (receiver, sender) = (&nodes[position], &nodes[left]);
-    let copy = Arc::try_clone(sender.charter()).expect(rt, "no copy");
-    let place = receiver.taken(Side::Left);
-    if let Some(envelope) = sender.envelope(copy, Side::Right, place) {
+    let place = nodes[position].taken(Side::Left);
+    if let Some(envelope) = envelope(rt, &nodes[left], place) {
         let taken = offer(rt, &mut nodes[position], envelope);
         assert!(rt; taken.is_ok());
         drop(taken);
@@ -84,10 +87,10 @@ fn doubled_nodes(
 fn nodes_by_themselves_settle_and_a_double_does_not(rt: HostRuntime) {
     let charter = charter(&rt, rt.alloc(), 1, Chang, &[3, 1, 2]);
     let nodes = settled_nodes(&rt, rt.alloc(), &charter);
-    assert!(rt; settle(&charter, &nodes) == Settlement::Settled);
+    assert!(rt; have_settled(&charter, &nodes));
     drop(nodes);
     let nodes = doubled_nodes(&rt, rt.alloc(), &charter);
-    assert!(rt; settle(&charter, &nodes) == Settlement::Incomplete);
+    assert!(rt; !have_settled(&charter, &nodes));
     drop(nodes);
     drop(charter);
 }
