@@ -24,19 +24,23 @@ fn elects<E: RingElection>(rt: &impl Abort, alloc: Global, algorithm: E, rows: &
         let decisions = ring.decisions(rt, alloc);
         let found = (row.0, messages, decisions.as_slice());
         equal(rt, "an election", found, *row);
+        drop(decisions);
+        drop(ring);
     }
 }
+
+/// Elections of LeLann.
+const LELANN: [Row; 4] = [
+    (&[7], 1, &[Some(7)]),
+    (&[5, 9], 4, &[Some(9); 2]),
+    (&[3, 1, 2], 9, &[Some(3); 3]),
+    (&[4, 1, 3, 2], 16, &[Some(4); 4]),
+];
 
 #[test]
 fn all_elect_the_greatest_by_lelann_with_n_times_n_messages(rt: HostRuntime) {
     work_is_square();
-    let rows: [Row; 4] = [
-        (&[7], 1, &[Some(7)]),
-        (&[5, 9], 4, &[Some(9); 2]),
-        (&[3, 1, 2], 9, &[Some(3); 3]),
-        (&[4, 1, 3, 2], 16, &[Some(4); 4]),
-    ];
-    elects(&rt, rt.alloc(), LeLann, &rows);
+    elects(&rt, rt.alloc(), LeLann, &LELANN);
 }
 
 /// Receives a message from that side, and has decided so then.
@@ -63,18 +67,21 @@ fn a_node_of_lelann_shows_what_it_has_seen(rt: HostRuntime) {
     receives(&rt, LeLann, &mut state, Side::Left, me, Some(me));
     let seen = [second, third];
     equal(&rt, "seen", state.seen(), seen.as_slice());
+    drop(state);
 }
+
+/// Elections of Chang and Roberts.
+const CHANG: [Row; 4] = [
+    (&[3, 1, 2], 5, &[Some(3), None, None]),
+    (&[3, 2, 1], 6, &[Some(3), None, None]),
+    (&[1, 2], 3, &[None, Some(2)]),
+    (&[7], 1, &[Some(7)]),
+];
 
 #[test]
 fn the_greatest_alone_decides_by_chang(rt: HostRuntime) {
     one_winner::<Chang>();
-    let rows: [Row; 4] = [
-        (&[3, 1, 2], 5, &[Some(3), None, None]),
-        (&[3, 2, 1], 6, &[Some(3), None, None]),
-        (&[1, 2], 3, &[None, Some(2)]),
-        (&[7], 1, &[Some(7)]),
-    ];
-    elects(&rt, rt.alloc(), Chang, &rows);
+    elects(&rt, rt.alloc(), Chang, &CHANG);
 }
 
 /// How many messages of Chang and Roberts fit all right links of the ring of these numbers.
@@ -84,7 +91,9 @@ fn fitting_in_all(rt: &impl Abort, alloc: Global, numbers: &[u32]) -> usize {
     for position in 0..ring.len() {
         let fits = fitting(alloc, &ring, position).expect(rt, "no memory");
         sum = sum.saturating_add(fits.len());
+        drop(fits);
     }
+    drop(ring);
     sum
 }
 
@@ -97,6 +106,8 @@ fn so_many_messages_of_chang_fit_a_ring(rt: HostRuntime) {
         fitting_in_all(&rt, alloc, &up),
         fitting_in_all(&rt, alloc, &down),
     ];
+    drop(up);
+    drop(down);
     equal(&rt, "messages", fitting, [5, 511, 32896]);
 }
 
@@ -111,48 +122,54 @@ fn a_falling_ring_reaches_the_bound_of_chang(rt: HostRuntime) {
     }
 }
 
+/// Elections of Hirschberg and Sinclair.
+const HIRSCHBERG: [Row; 4] = [
+    (&[3, 1, 2], 23, &[Some(3), None, None]),
+    (&[1, 2, 3, 4], 28, &[None, None, None, Some(4)]),
+    (&[5, 9], 10, &[None, Some(9)]),
+    (&[7], 2, &[Some(7)]),
+];
+
 #[test]
 fn the_greatest_alone_decides_by_hirschberg(rt: HostRuntime) {
     assert!(rt; Hirschberg.two_way() & Hirschberg.greatest());
     phases_are_few();
     messages_are_few();
-    let rows: [Row; 4] = [
-        (&[3, 1, 2], 23, &[Some(3), None, None]),
-        (&[1, 2, 3, 4], 28, &[None, None, None, Some(4)]),
-        (&[5, 9], 10, &[None, Some(9)]),
-        (&[7], 2, &[Some(7)]),
-    ];
-    let [three, four, two, one] = &rows;
+    let [three, four, two, one] = &HIRSCHBERG;
     assert!(rt; (three.1 <= 60) & (four.1 <= 80) & (two.1 <= 24) & (one.1 <= 4));
-    elects(&rt, rt.alloc(), Hirschberg, &rows);
+    elects(&rt, rt.alloc(), Hirschberg, &HIRSCHBERG);
 }
+
+/// Elections of Peterson.
+const PETERSON: [Row; 4] = [
+    (&[3, 1, 2], 12, &[None, Some(1), None]),
+    (&[4, 1, 3, 2], 24, &[None, None, None, Some(2)]),
+    (&[5, 9], 8, &[Some(5), None]),
+    (&[7], 2, &[Some(7)]),
+];
 
 #[test]
 fn the_last_position_alone_decides_by_peterson(rt: HostRuntime) {
     rounds_shrink();
     assert!(rt; !Peterson.two_way() && !Peterson.greatest());
-    let rows: [Row; 4] = [
-        (&[3, 1, 2], 12, &[None, Some(1), None]),
-        (&[4, 1, 3, 2], 24, &[None, None, None, Some(2)]),
-        (&[5, 9], 8, &[Some(5), None]),
-        (&[7], 2, &[Some(7)]),
-    ];
-    elects(&rt, rt.alloc(), Peterson, &rows);
+    elects(&rt, rt.alloc(), Peterson, &PETERSON);
 }
+
+/// Elections of each kind.
+const KINDS: [(Any, Row); 8] = [
+    (Any::LeLann, (&[3, 1, 2], 9, &[Some(3); 3])),
+    (Any::Chang, (&[3, 1, 2], 5, &[Some(3), None, None])),
+    (Any::Hirschberg, (&[3, 1, 2], 23, &[Some(3), None, None])),
+    (Any::Peterson, (&[3, 1, 2], 12, &[None, Some(1), None])),
+    (Any::LeLann, (&[7], 1, &[Some(7)])),
+    (Any::Chang, (&[7], 1, &[Some(7)])),
+    (Any::Hirschberg, (&[7], 2, &[Some(7)])),
+    (Any::Peterson, (&[7], 2, &[Some(7)])),
+];
 
 #[test]
 fn each_kind_elects_its_winner(rt: HostRuntime) {
-    let rows: [(Any, Row); 8] = [
-        (Any::LeLann, (&[3, 1, 2], 9, &[Some(3); 3])),
-        (Any::Chang, (&[3, 1, 2], 5, &[Some(3), None, None])),
-        (Any::Hirschberg, (&[3, 1, 2], 23, &[Some(3), None, None])),
-        (Any::Peterson, (&[3, 1, 2], 12, &[None, Some(1), None])),
-        (Any::LeLann, (&[7], 1, &[Some(7)])),
-        (Any::Chang, (&[7], 1, &[Some(7)])),
-        (Any::Hirschberg, (&[7], 2, &[Some(7)])),
-        (Any::Peterson, (&[7], 2, &[Some(7)])),
-    ];
-    for (kind, row) in &rows {
+    for (kind, row) in &KINDS {
         elects(&rt, rt.alloc(), *kind, &[*row]);
     }
 }

@@ -27,7 +27,9 @@ pub fn identities(rt: &impl Abort, alloc: Global, numbers: &[u32]) -> Vec<NodeId
 /// The ring of these numbers, in this order.
 pub fn ring(rt: &impl Abort, alloc: Global, numbers: &[u32]) -> Roster {
     let members = identities(rt, alloc, numbers);
-    Roster::from_members(alloc, &members).expect(rt, "a ring")
+    let ring = Roster::from_members(alloc, &members);
+    drop(members);
+    ring.expect(rt, "a ring")
 }
 
 /// The numbers up to this one, from 1 on.

@@ -24,8 +24,11 @@ fn a_list_is_refused_for_the_first_that_holds(rt: HostRuntime) {
     for (numbers, refusal) in &refused {
         let members = identities(&rt, alloc, numbers);
         let answer = Roster::from_members(alloc, &members).err();
+        drop(members);
         equal(&rt, "a list", answer, Some(*refusal));
     }
+    drop(many);
+    drop(repeating);
 }
 
 /// The ring of these numbers, made of what is known to be one: it is the same as where it is looked at.
@@ -35,6 +38,8 @@ fn known_ring(rt: &impl Abort, alloc: Global, numbers: &[u32]) -> Roster {
     let _length = looked_at.len();
     let known = Roster::of_ring(alloc, &members).expect(rt, "no memory");
     assert!(rt; known.same(&looked_at));
+    drop(members);
+    drop(looked_at);
     known
 }
 
@@ -46,6 +51,8 @@ fn a_ring_is_made_of_what_is_known_to_be_one(rt: HostRuntime) {
     let lengths = [three.len(), most.len()];
     equal(&rt, "lengths", lengths, [3, Roster::MOST]);
     let members = [three.at(0), three.at(1), three.at(2), most.at(255)];
+    drop(three);
+    drop(most);
     let wanted = [
         NodeId::new(3),
         NodeId::new(1),
@@ -53,6 +60,14 @@ fn a_ring_is_made_of_what_is_known_to_be_one(rt: HostRuntime) {
         NodeId::new(256),
     ];
     equal(&rt, "members", members, wanted);
+}
+
+/// Whether this is the ring of these numbers.
+fn is_ring(rt: &impl Abort, alloc: Global, roster: &Roster, numbers: &[u32]) -> bool {
+    let other = ring(rt, alloc, numbers);
+    let is_same = roster.same(&other);
+    drop(other);
+    is_same
 }
 
 #[test]
@@ -64,14 +79,10 @@ fn members_differ_in_their_numbers_whatever_they_weigh(rt: HostRuntime) {
     let twice = Roster::from_members(alloc, &[three, heavy_one, heavy_three]).err();
     equal(&rt, "a member twice", twice, Some(Refusal::Member));
     let both = Roster::from_members(alloc, &[three, heavy_one]).expect(&rt, "a ring");
-    let is_light = both.same(&ring(&rt, alloc, &[3, 1]));
+    let is_light = is_ring(&rt, alloc, &both, &[3, 1]);
     let found = (both.position(heavy_one.number()), both.at(1), is_light);
+    drop(both);
     equal(&rt, "the other", found, (Some(1), Some(heavy_one), false));
-}
-
-/// Whether this is the ring of these numbers.
-fn is_ring(rt: &impl Abort, alloc: Global, roster: &Roster, numbers: &[u32]) -> bool {
-    roster.same(&ring(rt, alloc, numbers))
 }
 
 #[test]
@@ -94,12 +105,16 @@ fn a_ring_shows_its_members_and_neighbours(rt: HostRuntime) {
         is_ring(&rt, alloc, &three, &[3, 1, 2]),
         is_ring(&rt, alloc, &three, &[1, 2, 3]),
     ];
+    drop(three);
     equal(&rt, "the same", same, [true, false]);
 }
 
 /// Whether a ring is that of the identities with these numbers.
 fn is_of(rt: &impl Abort, alloc: Global, roster: &Roster, numbers: &[u32]) -> bool {
-    roster.is_of(&identities(rt, alloc, numbers))
+    let members = identities(rt, alloc, numbers);
+    let is_of = roster.is_of(&members);
+    drop(members);
+    is_of
 }
 
 #[test]
@@ -115,5 +130,6 @@ fn a_ring_may_have_several_owners(rt: HostRuntime) {
         is_of(&rt, alloc, &again, &[1, 2, 3]),
         is_of(&rt, alloc, &again, &[3, 1]),
     ];
+    drop(again);
     equal(&rt, "the same", found, [true, true, false, false]);
 }

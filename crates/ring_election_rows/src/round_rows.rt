@@ -20,25 +20,28 @@ fn round(rt: &impl Abort, alloc: Global, numbers: &[u32], round: usize) -> Vec<(
     active
 }
 
+/// The numbers of a ring, a round of it, and each position that is active then, with the number that it holds.
+const WORKED: [(&[u32], usize, &[(usize, u32)]); 10] = [
+    (&[3, 1, 2], 0, &[(0, 3), (1, 1), (2, 2)]),
+    (&[3, 1, 2], 1, &[(1, 3)]),
+    (&[3, 1, 2], 2, &[]),
+    (&[4, 1, 3, 2], 0, &[(0, 4), (1, 1), (2, 3), (3, 2)]),
+    (&[4, 1, 3, 2], 1, &[(1, 4), (3, 3)]),
+    (&[4, 1, 3, 2], 2, &[(3, 4)]),
+    (&[4, 1, 3, 2], 3, &[]),
+    (&[5, 9], 1, &[(0, 9)]),
+    (&[7], 0, &[(0, 7)]),
+    (&[7], 1, &[]),
+];
+
 #[test]
 fn rounds_are_those_of_the_worked_rings(rt: HostRuntime) {
-    let worked: [(&[u32], usize, &[(usize, u32)]); 10] = [
-        (&[3, 1, 2], 0, &[(0, 3), (1, 1), (2, 2)]),
-        (&[3, 1, 2], 1, &[(1, 3)]),
-        (&[3, 1, 2], 2, &[]),
-        (&[4, 1, 3, 2], 0, &[(0, 4), (1, 1), (2, 3), (3, 2)]),
-        (&[4, 1, 3, 2], 1, &[(1, 4), (3, 3)]),
-        (&[4, 1, 3, 2], 2, &[(3, 4)]),
-        (&[4, 1, 3, 2], 3, &[]),
-        (&[5, 9], 1, &[(0, 9)]),
-        (&[7], 0, &[(0, 7)]),
-        (&[7], 1, &[]),
-    ];
-    for row in &worked {
+    for row in &WORKED {
         let (numbers, number, _) = *row;
         let active = round(&rt, rt.alloc(), numbers, number);
         let found = (numbers, number, active.as_slice());
         equal(&rt, "a round", found, *row);
+        drop(active);
     }
 }
 
@@ -81,27 +84,32 @@ fn held_and_sent(
     for message in &ring.member(rt, position).right.sent {
         sent.push(message.get()).expect(rt, "no memory");
     }
+    drop(ring);
     (held, sent)
 }
 
+/// The numbers of a ring, a position of it, what its node holds at the beginnings of its rounds, and what it sends.
+const POSITIONS: [(&[u32], usize, &[u32], &[u32]); 10] = [
+    (&[3, 1, 2], 0, &[3], &[3, 2, 3, 3]),
+    (&[3, 1, 2], 1, &[1, 3], &[1, 3, 3, 3]),
+    (&[3, 1, 2], 2, &[2], &[2, 1, 3, 3]),
+    (&[4, 1, 3, 2], 0, &[4], &[4, 2, 3, 4, 4, 4]),
+    (&[4, 1, 3, 2], 1, &[1, 4], &[1, 4, 4, 3, 4, 4]),
+    (&[4, 1, 3, 2], 2, &[3], &[3, 1, 4, 3, 4, 4]),
+    (&[4, 1, 3, 2], 3, &[2, 3, 4], &[2, 3, 3, 4, 4, 4]),
+    (&[5, 9], 0, &[5, 9], &[5, 9, 9, 9]),
+    (&[5, 9], 1, &[9], &[9, 5, 9, 9]),
+    (&[7], 0, &[7], &[7, 7]),
+];
+
 #[test]
 fn a_node_of_peterson_holds_and_sends_the_values_of_the_rounds(rt: HostRuntime) {
-    let positions: [(&[u32], usize, &[u32], &[u32]); 10] = [
-        (&[3, 1, 2], 0, &[3], &[3, 2, 3, 3]),
-        (&[3, 1, 2], 1, &[1, 3], &[1, 3, 3, 3]),
-        (&[3, 1, 2], 2, &[2], &[2, 1, 3, 3]),
-        (&[4, 1, 3, 2], 0, &[4], &[4, 2, 3, 4, 4, 4]),
-        (&[4, 1, 3, 2], 1, &[1, 4], &[1, 4, 4, 3, 4, 4]),
-        (&[4, 1, 3, 2], 2, &[3], &[3, 1, 4, 3, 4, 4]),
-        (&[4, 1, 3, 2], 3, &[2, 3, 4], &[2, 3, 3, 4, 4, 4]),
-        (&[5, 9], 0, &[5, 9], &[5, 9, 9, 9]),
-        (&[5, 9], 1, &[9], &[9, 5, 9, 9]),
-        (&[7], 0, &[7], &[7, 7]),
-    ];
-    for row in &positions {
+    for row in &POSITIONS {
         let (numbers, position, _, _) = *row;
         let (held, sent) = held_and_sent(&rt, rt.alloc(), numbers, position);
         let found = (numbers, position, held.as_slice(), sent.as_slice());
         equal(&rt, "held and sent", found, *row);
+        drop(held);
+        drop(sent);
     }
 }
