@@ -98,6 +98,7 @@ fn the_worked_schedule(rt: HostRuntime) {
         (0, Did::Moved, [0, 0, 0]),
         (0, Did::Idle, [0, 0, 0]),
     ];
+    // the first three are on other links, and the last is where nothing is in flight
     assert!(rt; goes(&rt, rt.alloc(), Any::Chang, &legs) == 5);
 }
 
