@@ -127,10 +127,13 @@ fn put_begin<R: Wait>(
 // Puts the word to stop into an inbox, again and again while it is full.
 fn stop_one<R: Wait>(rt: &R, pass: &mut SenderPass<Item<Any>>) {
     for _ in rt.forever() {
-        match pass.put(rt, Item::Stop) {
-            Put::Stored | Put::Gone(_) => return,
-            Put::Full(_) => thread::yield_now(),
+        let put = pass.put(rt, Item::Stop);
+        let is_full = matches!(put, Put::Full(_));
+        drop(put);
+        if !is_full {
+            return;
         }
+        thread::yield_now();
     }
     unreachable!()
 }

@@ -92,25 +92,27 @@ where
         requires seats { (length seats.items ≡ workers) × All (A.has_seat access.value) seats.items }
         ensures { IfOk result (λ service. service ≡ access.value) }
     {
-        let Ok(mut mesh) = open(alloc, workers, inbox) else {
-            return Err(StartFault::NoMemory);
-        };
-        let Ok(mut crew) = Crew::new(alloc, workers) else {
-            return Err(StartFault::NoMemory);
-        };
-        let Ok(passes) = take_last(alloc, &mut mesh.senders, workers) else {
-            return Err(StartFault::NoMemory);
-        };
-        let posts = Posts::new(alloc, passes);
-        if let Err(fault) = start_all(rt, alloc, &access, &gate, mesh, seats, &mut crew) {
-            let _ = posts.stop(rt);
-            let _ = crew.join(rt);
-            return Err(fault);
-        }
-        Ok(Service {
+        let Ready {
+            mut crew,
+            mut mesh,
+            posts,
+        } = prepare(alloc, workers, inbox)?;
+        let mut seats = seats;
+        let started = start_all(rt, alloc, &access, &gate, &mut mesh, &mut seats, &mut crew);
+        drop(mesh);
+        drop(seats);
+        drop(gate);
+        let service = Service {
             front: Front::new(alloc, access, posts),
             crew,
-        })
+        };
+        match started {
+            Ok(()) => Ok(service),
+            Err(fault) => {
+                drop(service.close(rt));
+                Err(fault)
+            }
+        }
     }
 
     /// What sessions in other threads share. Takes no memory.
@@ -138,6 +140,37 @@ where
     }
 }
 
+// What a service has before its workers are started: room for their threads, the inboxes, and its passes to
+// these.
+#[derive(Drop)]
+struct Ready {
+    crew: Crew,
+    mesh: Mesh,
+    posts: Posts,
+}
+
+// What a service of so many workers begins with, whose inboxes have this capacity.
+fn prepare(alloc: Global, workers: usize, inbox: usize) -> Result<Ready, StartFault>
+    requires workers { workers ≤ 8 }
+    requires inbox { 1 ≤ inbox }
+    ensures threads { IfOk result (λ made. (vec_len made.crew.threads ≡ 0) × (workers ≤ vec_capacity made.crew.threads)) }
+    ensures handed { IfOk result (λ made. (vec_len made.crew.handed ≡ 0) × (workers ≤ vec_capacity made.crew.handed)) }
+    ensures inboxes { IfOk result (λ made. (vec_len made.mesh.receivers ≡ workers) × (vec_len made.mesh.senders ≡ workers)) }
+    ensures senders { IfOk result (λ made. All (λ senders. vec_len senders ≡ workers) made.mesh.senders.items) }
+{
+    let Ok(crew) = Crew::new(alloc, workers) else {
+        return Err(StartFault::NoMemory);
+    };
+    let Ok(mut mesh) = open(alloc, workers, inbox) else {
+        return Err(StartFault::NoMemory);
+    };
+    let Ok(passes) = take_last(alloc, &mut mesh.senders, workers) else {
+        return Err(StartFault::NoMemory);
+    };
+    let posts = Posts::new(alloc, passes);
+    Ok(Ready { crew, mesh, posts })
+}
+
 // Starts the workers, from the last one down to the first.
 fn start_all<
     A: Access<Any> + Send + Sync + Drop + 'static,
@@ -148,31 +181,30 @@ fn start_all<
     alloc: Global,
     access: &Arc<A>,
     gate: &Arc<G>,
-    mesh: Mesh,
-    seats: Vec<A::Seat>,
+    mesh: &mut Mesh,
+    seats: &mut Vec<A::Seat>,
     crew: &mut Crew,
 ) -> Result<(), StartFault>
 where
     A::Seat: Send + 'static,
-    requires receivers { vec_len mesh.receivers ≡ vec_len seats }
-    requires inboxes { vec_len mesh.senders ≡ vec_len seats }
-    requires senders { All (λ senders. vec_len senders ≡ vec_len seats) mesh.senders.items }
-    requires seats { All (A.has_seat access.now.value) seats.items }
-    requires threads { vec_len crew.old.threads + vec_len seats ≤ vec_capacity crew.old.threads }
-    requires handed { vec_len crew.old.threads + vec_len crew.old.handed + vec_len seats ≤ vec_capacity crew.old.handed }
-    ensures started { OnOk result (vec_len crew.new.threads ≡ vec_len crew.old.threads + vec_len seats) }
+    requires receivers { vec_len mesh.old.receivers ≡ vec_len seats.old }
+    requires inboxes { vec_len mesh.old.senders ≡ vec_len seats.old }
+    requires senders { All (λ senders. vec_len senders ≡ vec_len seats.old) mesh.old.senders.items }
+    requires seats { All (A.has_seat access.now.value) seats.old.items }
+    requires threads { vec_len crew.old.threads + vec_len seats.old ≤ vec_capacity crew.old.threads }
+    requires handed { vec_len crew.old.threads + vec_len crew.old.handed + vec_len seats.old ≤ vec_capacity crew.old.handed }
+    ensures started { OnOk result (vec_len crew.new.threads ≡ vec_len crew.old.threads + vec_len seats.old) }
 {
     let workers = seats.len();
-    let (mut mesh, mut seats) = (mesh, seats);
     while let Some(seat) = seats.pop() {
         let number = seats.len();
-        let Ok(senders) = take_last(alloc, &mut mesh.senders, number) else {
+        let Ok(gate) = Arc::try_clone(gate) else {
             return Err(StartFault::NoMemory);
         };
         let Ok(access) = Arc::try_clone(access) else {
             return Err(StartFault::NoMemory);
         };
-        let Ok(gate) = Arc::try_clone(gate) else {
+        let Ok(senders) = take_last(alloc, &mut mesh.senders, number) else {
             return Err(StartFault::NoMemory);
         };
         crew.start(Kit {

@@ -10,7 +10,7 @@ loop-seat-preserved g c =
     record {
       receivers = grind (arith, common_steps, c.pop-in-Some.ensures.len, c.in-Some.ensures.len, c.unwrap.ensures);
       inboxes = c.take_last.ensures.count ∙ c.loop-seat.invariant.inboxes;
-      senders = subst (λ n. All (λ senders. vec_len senders ≡ n) c.take_last.new.inboxes.items) left c.in-Ok.ensures.left;
+      senders = subst (λ n. All (λ senders. vec_len senders ≡ n) c.take_last.new.inboxes.items) left c.in-Ok-take_last.ensures.left;
       few = omega (arith, c.in-Some.ensures.len, c.loop-seat.invariant.few);
       seats = (All-pop (g.A.Access.has_seat c.args.access.now.value) c.loop-seat.seats.items c.pop.new.self.items c.pop.result c.pop.ensures.items c.loop-seat.invariant.seats).0;
       started = omega (arith, c.in_ok-start.ensures.started, c.in-Some.ensures.len, c.loop-seat.invariant.started);
