@@ -1,8 +1,8 @@
 //! Sessions that run at once over one service.
-use anyhow::{Context, Result, anyhow, bail};
+use anyhow::{Context, Error, Result, bail};
 use ring_any::Any;
 use ring_lines::{FromRead, ToWrite};
-use ring_service::{Front, Service, StartFault};
+use ring_service::{Closing, Front, Service, StartFault};
 use ring_table::{LockedSeat, LockedTable, Table};
 use std::alloc::Global;
 use std::sync::{Arc, Wait};
@@ -46,13 +46,31 @@ pub fn gather<R>(rt: &R, alloc: Global, scripts: &[Vec<u8>], last: &[u8]) -> Res
 where
     R: Threads + Wait + Clock + Copy + Send + Sync + Drop + 'static,
 {
-    let Opened { service, mut seats } = open(rt, alloc, scripts.len())?;
+    let Opened { service, seats } = open(rt, alloc, scripts.len())?;
+    let replies = answered(rt, service.front(), alloc, scripts, last, seats);
+    let table = closed(rt, service);
+    let replies = replies?;
+    Ok(Crowd {
+        table: table?,
+        replies,
+    })
+}
+
+// The replies to each of these scripts, all at once, and then to the last one.
+fn answered<R: Threads + Wait + Clock + Sync>(
+    rt: &R,
+    front: &Front<LockedTable<Any>>,
+    alloc: Global,
+    scripts: &[Vec<u8>],
+    last: &[u8],
+    seats: Vec<LockedSeat<Any>>,
+) -> Result<Vec<Vec<u8>>> {
+    let mut seats = seats;
     let seat = seats.pop().context("there is no seat")?;
     let guests = seated(alloc, scripts, seats)?;
-    let mut replies = run_all(rt, service.front(), alloc, guests)?;
-    replies.push(look(rt, service.front(), alloc, seat, last)?)?;
-    let table = closed(rt, service)?;
-    Ok(Crowd { table, replies })
+    let mut replies = run_all(rt, front, alloc, guests)?;
+    replies.push(look(rt, front, alloc, seat, last)?)?;
+    Ok(replies)
 }
 
 // A service without groups, and seats for so many sessions and one more.
@@ -74,8 +92,15 @@ where
             service,
             seats: guests,
         }),
-        Err(StartFault::NoMemory) => Err(anyhow!("there is no memory for the service")),
-        Err(StartFault::Thread) => Err(anyhow!("no thread can be made")),
+        Err(fault) => Err(Error::msg(told_of(fault))),
+    }
+}
+
+// Why a service could not be started, in words.
+fn told_of(fault: StartFault) -> &'static str {
+    match fault {
+        StartFault::NoMemory => "there is no memory for the service",
+        StartFault::Thread => "no thread can be made",
     }
 }
 
@@ -166,7 +191,13 @@ fn look<R: Wait + Clock>(
 
 // The table of a service that is closed.
 fn closed<R: Threads + Wait>(rt: &R, service: Service<LockedTable<Any>>) -> Result<Table<Any>> {
-    let closing = service.close(rt);
-    let table = Arc::into_inner(closing.access).context("the table is still shared")?;
+    let Closing {
+        access,
+        handed,
+        waiting,
+    } = service.close(rt);
+    drop(handed);
+    drop(waiting);
+    let table = Arc::into_inner(access).context("the table is still shared")?;
     Ok(table.into_table())
 }

@@ -17,6 +17,9 @@ use crowd::{Crowd, gather};
 use std::alloc::Global;
 use std::io;
 use std::io::Write;
+use std::sync::Wait;
+use std::thread::Threads;
+use std::time::Clock;
 use telling::tell;
 
 // The scripts on standard input.
@@ -38,6 +41,16 @@ fn read_scripts(rt: &(impl Input + AllocGlobal)) -> Result<Vec<Vec<u8>>> {
     Ok(scripts)
 }
 
+// What the scripts on standard input leave.
+fn gather_input<R>(rt: &R) -> Result<Crowd>
+where
+    R: Input + AllocGlobal + Threads + Wait + Clock + Copy + Send + Sync + Drop + 'static,
+{
+    let mut scripts = read_scripts(rt)?;
+    let last = scripts.pop().context("there is no script")?;
+    gather(rt, rt.alloc(), &scripts, &last)
+}
+
 // Writes all that a crowd left.
 fn write_out<W: Write>(alloc: Global, crowd: &Crowd, out: &mut W) -> Result<()> {
     for entry in crowd.table.history() {
@@ -47,16 +60,13 @@ fn write_out<W: Write>(alloc: Global, crowd: &Crowd, out: &mut W) -> Result<()> 
         out.write_all(b"\n")?;
         out.write_all(replies.as_slice())?;
     }
+    out.flush()?;
     Ok(())
 }
 
 fn main(rt: HostRuntime) -> Result<()> {
     let alloc = rt.alloc();
-    let mut scripts = read_scripts(&rt)?;
-    let last = scripts.pop().context("there is no script")?;
-    let crowd = gather(&rt, alloc, &scripts, &last)?;
+    let crowd = gather_input(&rt)?;
     let mut out = io::BufWriter::new(alloc, io::writer(&rt))?;
-    write_out(alloc, &crowd, &mut out)?;
-    out.flush()?;
-    Ok(())
+    write_out(alloc, &crowd, &mut out)
 }

@@ -14,20 +14,27 @@ use std::str;
 /// of the report.
 pub fn tell(alloc: Global, entry: &Entry<Any>) -> Result<Vec<u8>> {
     let mut text = String::new(alloc);
+    write_entry(&mut text, entry)?;
+    let mut line = text.into_bytes();
+    if let Entry::Call { reply, .. } = entry {
+        reply
+            .spell(&mut line)
+            .map_err(|_| anyhow!("a reply is not written"))?;
+    }
+    Ok(line)
+}
+
+// Writes an entry, up to the reply where it has one.
+fn write_entry(text: &mut String, entry: &Entry<Any>) -> Result<()> {
     match entry {
         Entry::Call {
             session,
             command,
-            reply,
+            ..
         } => {
             write!(text, "{session} ")?;
-            write_command(&mut text, command)?;
+            write_command(text, command)?;
             text.push_str(" => ")?;
-            let mut line = text.into_bytes();
-            reply
-                .spell(&mut line)
-                .map_err(|_| anyhow!("a reply is not written"))?;
-            Ok(line)
         }
         Entry::Filing {
             group,
@@ -37,13 +44,13 @@ pub fn tell(alloc: Global, entry: &Entry<Any>) -> Result<Vec<u8>> {
             noting,
         } => {
             write!(text, "filed {} {} ", name(group)?, term.get())?;
-            write_node(&mut text, *member)?;
+            write_node(text, *member)?;
             text.push(' ')?;
-            write_node(&mut text, *leader)?;
+            write_node(text, *leader)?;
             writeln!(text, " {}", word(*noting))?;
-            Ok(text.into_bytes())
         }
     }
+    Ok(())
 }
 
 // A group's name as text.
@@ -71,21 +78,33 @@ fn write_node(text: &mut String, node: NodeId) -> Result<()> {
 
 // Writes a command as its line spells it.
 fn write_command(text: &mut String, command: &Command<Any>) -> Result<()> {
+    let (word, group) = head(command);
+    text.push_str(word)?;
+    if let Some(group) = group {
+        write!(text, " {}", name(group)?)?;
+    }
     match command {
-        Command::Create(group, kind) => {
-            let kind = str::from_utf8(kind.word())?;
-            write!(text, "create {} {kind}", name(group)?)?;
-        }
-        Command::Join(group, node) => {
-            write!(text, "join {} ", name(group)?)?;
+        Command::Create(_, kind) => write!(text, " {}", str::from_utf8(kind.word())?)?,
+        Command::Join(_, node) => {
+            text.push(' ')?;
             write_node(text, *node)?;
         }
-        Command::Leave(group, node) => write!(text, "leave {} {}", name(group)?, node.get())?,
-        Command::Start(group) => write!(text, "start {}", name(group)?)?,
-        Command::Who(group, node) => write!(text, "who {} {}", name(group)?, node.get())?,
-        Command::Members(group) => write!(text, "members {}", name(group)?)?,
-        Command::Terms(group) => write!(text, "terms {}", name(group)?)?,
-        Command::Groups => text.push_str("groups")?,
+        Command::Leave(_, node) | Command::Who(_, node) => write!(text, " {}", node.get())?,
+        _ => {}
     }
     Ok(())
+}
+
+// The word that a command begins with, and the group that it is about.
+fn head(command: &Command<Any>) -> (&'static str, Option<&GroupName>) {
+    match command {
+        Command::Create(group, _) => ("create", Some(group)),
+        Command::Join(group, _) => ("join", Some(group)),
+        Command::Leave(group, _) => ("leave", Some(group)),
+        Command::Start(group) => ("start", Some(group)),
+        Command::Who(group, _) => ("who", Some(group)),
+        Command::Members(group) => ("members", Some(group)),
+        Command::Terms(group) => ("terms", Some(group)),
+        Command::Groups => ("groups", None),
+    }
 }
