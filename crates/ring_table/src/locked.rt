@@ -52,6 +52,8 @@ impl<E: RingElection> LockedTable<E> {
         ensures { IfOk result (λ made. made.1.items ≡ replicate seats []) }
     {
         let Ok(mut all) = Vec::with_capacity(alloc, seats) else {
+            // by one call: what is dropped without one is dropped part by part, down to the book's
+            drop(table);
             return Err(NoMemory);
         };
         for _ in 0..seats {
@@ -81,6 +83,7 @@ impl<E: RingElection> LockedSeat<E> {
         };
         let reply = table.call(session, command);
         if is_starved(&reply) {
+            drop(reply);
             return Answer::Unplaced(Refusal::NoMemory);
         }
         let place = keep_last(&mut self.own, table);
@@ -102,7 +105,8 @@ impl<E: RingElection> LockedSeat<E> {
         };
         let (reply, charters) = table.begin(session, group, copies);
         if is_starved(&reply) {
-            return (Answer::Unplaced(Refusal::NoMemory), table.no_charters());
+            drop(reply);
+            return (Answer::Unplaced(Refusal::NoMemory), charters);
         }
         let place = keep_last(&mut self.own, table);
         (Answer::Placed { reply, place }, charters)
