@@ -67,6 +67,7 @@ impl<E: RingElection> TurnLock<E> {
         let place = table.entries();
         seat.hand = self.part(&mut seat.place, table, seat.keeps);
         if is_starved(&reply) {
+            drop(reply);
             return Answer::Unplaced(Refusal::NoMemory);
         }
         Answer::Placed { reply, place }
@@ -96,6 +97,7 @@ impl<E: RingElection> TurnLock<E> {
         let place = table.entries();
         seat.hand = self.part(&mut seat.place, table, seat.keeps);
         if is_starved(&reply) {
+            drop(reply);
             return (Answer::Unplaced(Refusal::NoMemory), charters);
         }
         (Answer::Placed { reply, place }, charters)

@@ -36,7 +36,11 @@ impl<E: RingElection> HeldTable<E> {
     {
         match Box::new(alloc, table) {
             Ok(table) => Ok(HeldTable { table }),
-            Err(_) => Err(NoMemory),
+            Err(refused) => {
+                // by one call: what is dropped without one is dropped part by part, down to the book's
+                drop(refused);
+                Err(NoMemory)
+            }
         }
     }
 

@@ -59,10 +59,11 @@ impl<E: RingElection> TurnLock<E> {
         ensures opened { IfOk result (λ made. (made.0.seats ≡ seats) × (made.0.opening ≡ table.history)) }
         ensures seats { IfOk result (λ made. made.1.items ≡ fresh_seats made.0.id turns table.history seats) }
     {
-        let Ok((board, mut maker)) = open(alloc, table, seats, turns) else {
+        let Ok(mut all) = Vec::with_capacity(alloc, seats) else {
+            drop(table);
             return Err(NoMemory);
         };
-        let Ok(mut all) = Vec::with_capacity(alloc, seats) else {
+        let Ok((board, mut maker)) = open(alloc, table, seats, turns) else {
             return Err(NoMemory);
         };
         for _ in 0..seats {
@@ -138,11 +139,18 @@ fn open<E: RingElection>(
     };
     let table = HeldTable::new(alloc, table)?;
     let Ok(mut desks) = Vec::with_capacity(alloc, 1) else {
+        drop(table);
+        drop(start);
         return Err(NoMemory);
     };
     desks.push_reserved(Some(table));
-    match Board::new(alloc, &[0, 0], desks, &start) {
+    let made = Board::new(alloc, &[0, 0], desks, &start);
+    drop(start);
+    match made {
         Ok(made) => Ok(made),
-        Err(_) => Err(NoMemory),
+        Err(refused) => {
+            drop(refused);
+            Err(NoMemory)
+        }
     }
 }

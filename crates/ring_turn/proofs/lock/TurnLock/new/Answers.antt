@@ -6,7 +6,7 @@ use Rattle.ring_turn.proofs.lock.TurnLock.new.Goals as goal
 pub split_seat-place-requires : goal.split_seat-place-requires
 split_seat-place-requires g c = (
   c.loop.invariant.here,
-  omega (arith, c.in-Ok.ensures.words),
+  omega (arith, c.in-Ok-open.ensures.words),
   makes_next _ _ _ _ _ _ c.loop.invariant.knows c.loop-test.true,
 )
 
@@ -18,14 +18,14 @@ loop-preserved g c = record {
   here = c.split_seat-place.ensures.0 ∙ c.loop.invariant.here;
   knows = made_next _ _ _ _ _ _ c.loop.invariant.knows c.split_seat-place.ensures.2 c.loop-test.true;
   fresh = c.push_reserved.ensures.items
-      ∙ fresh_seats_more c.loop.all.items c.in-Ok.board.shared.table_id c.split_seat-place.result.table_id c.args.turns c.loop.counter c.args.table.history c.split_seat-place.result.me c.loop.invariant.fresh
+      ∙ fresh_seats_more c.loop.all.items c.in-Ok-open.board.shared.table_id c.split_seat-place.result.table_id c.args.turns c.loop.counter c.args.table.history c.split_seat-place.result.me c.loop.invariant.fresh
       (c.split_seat-place.ensures.3 ∙ c.loop.invariant.here) (made_seat _ _ _ _ _ _ c.loop.invariant.knows c.split_seat-place.ensures.4);
   count = search rules;
   room = search rules;
 }
 
 pub invariant_of-lock : goal.invariant_of-lock
-invariant_of-lock g c = maker_ready _ _ _ _ _ _ _ c.in-Ok.ensures.words c.in-Ok.ensures.slots c.loop.invariant.here c.loop.invariant.knows
+invariant_of-lock g c = maker_ready _ _ _ _ _ _ _ c.in-Ok-open.ensures.words c.in-Ok-open.ensures.slots c.loop.invariant.here c.loop.invariant.knows
 
 pub returns-clause-opened : goal.returns-clause-opened
 returns-clause-opened g c =
@@ -35,4 +35,4 @@ returns-clause-opened g c =
 pub returns-clause-seats : goal.returns-clause-seats
 returns-clause-seats g c =
     let all : c.loop.counter ≡ c.args.seats = search rules in
-    c.loop.invariant.fresh ∙ ap (λ made. fresh_seats c.in-Ok.board.shared.table_id c.args.turns c.args.table.history made) all
+    c.loop.invariant.fresh ∙ ap (λ made. fresh_seats c.in-Ok-open.board.shared.table_id c.args.turns c.args.table.history made) all
