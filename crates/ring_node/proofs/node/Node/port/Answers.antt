@@ -34,3 +34,7 @@ returns-in-Right-clause-sendable g c =
     let lawful = g.met.E.RingElection.lawful c.self.inside.charter.value.algorithm in
     rw (← c.self.view_is, c.in-Right.is, get_or_from_slice_get _ _ _ 0 c.self.invariant.here)
     (sent_sendable _ _ _ lawful _ _ _ _ _ _ _ _ c.self.invariant Right Right)
+
+pub returns-in-Left-clause-port : goal.returns-in-Left-clause-port
+returns-in-Left-clause-port g c =
+    rw (← c.self.view_is, c.in-Left.is, get_or_from_slice_get _ _ _ 0 c.self.invariant.here) c.self.invariant.left_is
