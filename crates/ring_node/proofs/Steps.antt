@@ -1,5 +1,5 @@
 -- One step of a node keeps what its type keeps, whatever lawful algorithm runs on it.
-use Rattle.std.proofs.Common.{◌≡◌, ◌+◌, ℕ, Bool, false, List, [], ◌∷◌, ◌++◌, length, Option, Some, None, IfSome, slice_get, take, refl, sym, ap, ◌∙◌, append_assoc}
+use Rattle.std.proofs.Common.{◌≡◌, ◌+◌, ℕ, Bool, false, List, [], ◌∷◌, ◌++◌, length, Option, Some, None, IfSome, slice_get, take, refl, sym, ap, ap₂, ◌∙◌, append_assoc}
 use Rattle.std.proofs.lemmas.List.{append-nil}
 use Rattle.std.proofs.lemmas.Option.{slice_get_within}
 use Rattle.ring_id.specs.declared.side.Side.{Side}
@@ -17,7 +17,7 @@ use Rattle.ring_node.specs.private.Envelopes.{AllSendable}
 use Rattle.ring_node.specs.Envelopes.{IsProper, IsSendable, index_after}
 use Rattle.ring_node.specs.Journals.{algo_count, algo_part, algo_sends, announcement, brought, kept_or, known_after, leader_count, news, packets_after, state_on}
 use Rattle.ring_node.specs.private.Kept.{AllName, IsPort, IsSeated}
-use Rattle.ring_node.specs.Ports.{all_algos}
+use Rattle.ring_node.specs.Ports.{all_algos, all_leaders}
 use Rattle.ring_node.specs.Reports.{IsTruthful}
 use Rattle.ring_node.proofs.Receipts.{AllFit-snoc, algo_at, algos_of-packets_after, leader_at, AllName-all_algos, AllName-announcement, AllName-append, algo_count-append, algo_part-snoc, known_after-snoc, leader_count-append, length-taken_from-algo_part, packets_after-snoc, state_after-snoc, taken_from-append}
 
@@ -139,7 +139,7 @@ module _ {S M : Type 0} {two_way greatest : Bool} (t : Table S M) (fits : Fittin
   nothing_left one_way (Leader v) proper = refl
 
   -- a port after the step
-  pub port_after : (to : Side) (p : Packet M) (port port' : Port M)
+  port_after : (to : Side) (p : Packet M) (port port' : Port M)
       → IsPort (packets_after t me to js) (taken_from to js) port
       → port'.sent.items ≡ (port.sent.items ++ algo_sends t to state from p) ++ announcement to (news known (brought t state from p))
       → port'.algos ≡ port.algos + algo_count (taken_from to ((from, p) ∷ []))
@@ -156,7 +156,7 @@ module _ {S M : Type 0} {two_way greatest : Bool} (t : Table S M) (fits : Fittin
   }
 
   -- the node after the step
-  pub seated_after : (p : Packet M) → IsProper fits winner ring (neighbour (length ring) position from) (other from) (index_after (taken_from from js) p) p
+  seated_after : (p : Packet M) → IsProper fits winner ring (neighbour (length ring) position from) (other from) (index_after (taken_from from js) p) p
       → (state' : S) (left' right' : Port M) (known' : Option ℕ)
       → state' ≡ state_on t state from p
       → known' ≡ kept_or known (brought t state from p)
@@ -174,6 +174,46 @@ module _ {S M : Type 0} {two_way greatest : Bool} (t : Table S M) (fits : Fittin
     knows = λ v h. kept_wins known (brought t state from p) old.knows (brought_wins p proper) v (sym known_is ∙ h);
     names = names_after p proper;
   }
+
+  -- the node after a step: what was made ready, the algorithm's part, the announcement and the counts, one after another
+  pub seated_step : (p : Packet M) → IsProper fits winner ring (neighbour (length ring) position from) (other from) (index_after (taken_from from js) p) p
+      → (given : Table S M) → given ≡ t
+      → (state' : S) → state' ≡ state_on given state from p
+      → (came : Option ℕ) → came ≡ brought given state from p
+      → (known' : Option ℕ) → known' ≡ kept_or known came
+      → (told : Option ℕ) → told ≡ news known came
+      → (ready-left ran-left left' : Port M)
+      → (ready-left.sent.items ≡ left.sent.items) × (ready-left.algos ≡ left.algos) × (ready-left.leaders ≡ left.leaders)
+      → ran-left.sent.items ≡ ready-left.sent.items ++ algo_sends given Left state from p
+      → (ran-left.algos ≡ ready-left.algos) × (ran-left.leaders ≡ ready-left.leaders)
+      → left'.sent.items ≡ ran-left.sent.items
+      → left'.algos ≡ ran-left.algos + algo_count (taken_from Left ((from, p) ∷ []))
+      → left'.leaders ≡ ran-left.leaders + leader_count (taken_from Left ((from, p) ∷ []))
+      → (ready-right ran-right told-right right' : Port M)
+      → (ready-right.sent.items ≡ right.sent.items) × (ready-right.algos ≡ right.algos) × (ready-right.leaders ≡ right.leaders)
+      → ran-right.sent.items ≡ ready-right.sent.items ++ algo_sends given Right state from p
+      → (ran-right.algos ≡ ready-right.algos) × (ran-right.leaders ≡ ready-right.leaders)
+      → told-right.sent.items ≡ ran-right.sent.items ++ all_leaders told
+      → told-right.algos ≡ ran-right.algos
+      → told-right.leaders ≡ ran-right.leaders
+      → right'.sent.items ≡ told-right.sent.items
+      → right'.algos ≡ told-right.algos + algo_count (taken_from Right ((from, p) ∷ []))
+      → right'.leaders ≡ told-right.leaders + leader_count (taken_from Right ((from, p) ∷ []))
+      → (js' : List (Side × Packet M)) → js' ≡ js ++ (from, p) ∷ []
+      → IsSeated t fits winner ring position me state' js' left' right' known'
+  seated_step p proper given same state' state_is came came_is known' known_is told told_is
+      ready-left ran-left left' ready_left ran_left counts_left sent_left algos_left leaders_left
+      ready-right ran-right told-right right' ready_right ran_right counts_right told_right told_algos told_leaders sent_right algos_right leaders_right js' journal =
+      let brought_is : came ≡ brought t state from p = rw same at came_is in
+      rw journal
+      (seated_after p proper state' left' right' known' (rw same at state_is) (known_is ∙ ap (kept_or known) brought_is)
+      (port_after Left p left left' old.left_is (sent_left ∙ (rw (same, ready_left.0) at ran_left) ∙ sym (append-nil _))
+      (algos_left ∙ ap (λ (n : ℕ). n + algo_count (taken_from Left ((from, p) ∷ []))) (counts_left.0 ∙ ready_left.1))
+      (leaders_left ∙ ap (λ (n : ℕ). n + leader_count (taken_from Left ((from, p) ∷ []))) (counts_left.1 ∙ ready_left.2)))
+      (port_after Right p right right' old.right_is
+      (sent_right ∙ told_right ∙ ap₂ (λ (l : List (Packet M)) (o : Option ℕ). l ++ all_leaders o) (rw (same, ready_right.0) at ran_right) (told_is ∙ ap (news known) brought_is))
+      (algos_right ∙ ap (λ (n : ℕ). n + algo_count (taken_from Right ((from, p) ∷ []))) (told_algos ∙ counts_right.0 ∙ ready_right.1))
+      (leaders_right ∙ ap (λ (n : ℕ). n + leader_count (taken_from Right ((from, p) ∷ []))) (told_leaders ∙ counts_right.1 ∙ ready_right.2))))
 
   -- the news of the step, by what is known before and after it
   pub news_next : (p : Packet M) → news (known_after t me js) (known_after t me (js ++ (from, p) ∷ [])) ≡ news known (brought t state from p)

@@ -11,8 +11,7 @@ use crate::fault::TakeFault;
 use crate::packet::Packet;
 use crate::port::Port;
 use crate::report::Report;
-use crate::room::find_room;
-use crate::step::{count, learn, run};
+use crate::step::{count, learn, prepare, run};
 use ring_election::RingElection;
 use ring_id::{NoMemory, NodeId, Side};
 use std::alloc::Global;
@@ -201,9 +200,13 @@ impl<E: RingElection> Node<E> {
     {
         let algorithm = self.charter.algorithm();
         let ring = self.charter.roster().len();
-        self.left.make_room(algorithm.two_way(), ring)?;
-        self.right.make_room(true, ring)?;
-        find_room(&mut self.journal, 1, ring)?;
+        prepare(
+            algorithm.two_way(),
+            ring,
+            &mut self.left,
+            &mut self.right,
+            &mut self.journal,
+        )?;
         let brought = run(
             algorithm,
             &mut self.state,

@@ -5,8 +5,31 @@ ghost use Rattle.ring_node.specs.Journals.{algo_count, algo_sends, brought, kept
 
 use crate::packet::Packet;
 use crate::port::Port;
+use crate::room::find_room;
 use ring_election::RingElection;
 use ring_id::{NoMemory, NodeId, Side};
+
+/// Finds room for all that a step may send, and for its receipt, at a node of a ring of this length. What
+/// was sent, taken and received stays in any case.
+#[inline(always)]
+pub fn prepare<M: Copy>(
+    two_way: bool,
+    ring: usize,
+    left: &mut Port<M>,
+    right: &mut Port<M>,
+    journal: &mut Vec<(Side, Packet<M>)>,
+) -> Result<(), NoMemory>
+    ensures left { (left.new.sent.items ≡ left.old.sent.items) × (left.new.algos ≡ left.old.algos) × (left.new.leaders ≡ left.old.leaders) }
+    ensures right { (right.new.sent.items ≡ right.old.sent.items) × (right.new.algos ≡ right.old.algos) × (right.new.leaders ≡ right.old.leaders) }
+    ensures journal { journal.new.items ≡ journal.old.items }
+    ensures room_left { OnOk result (two_way ≡ true → vec_len left.new.sent + 2 ≤ vec_capacity left.new.sent) }
+    ensures room_right { OnOk result (vec_len right.new.sent + 2 ≤ vec_capacity right.new.sent) }
+    ensures room_journal { OnOk result (vec_len journal.new + 1 ≤ vec_capacity journal.new) }
+{
+    left.make_room(two_way, ring)?;
+    right.make_room(true, ring)?;
+    find_room(journal, 1, ring)
+}
 
 /// Gives a packet to the algorithm: its new state, what it sends, and the leader that the packet
 /// brings. Refused for want of memory alone; nothing has changed then.
