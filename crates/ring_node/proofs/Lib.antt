@@ -1,4 +1,5 @@
 pub mod Announcing
+mod Finding
 pub mod Gaining
 pub mod Receipts
 pub mod Steps

@@ -10,6 +10,7 @@ use Rattle.ring_election.specs.Families.{AllFit, Fitting}
 use Rattle.ring_election.specs.Laws.{Lawful}
 use Rattle.ring_election.specs.Tables.{Table, to_side}
 use Rattle.ring_election.specs.Traces.{taken_from}
+use Rattle.ring_node.specs.declared.charter.Charter.{Charter}
 use Rattle.ring_node.specs.declared.packet.Packet.{Packet}
 use Rattle.ring_node.specs.declared.packet.Packet.TheVariants.{Algo, Leader}
 use Rattle.ring_node.specs.declared.port.Port.{Port}
@@ -17,6 +18,7 @@ use Rattle.ring_node.specs.private.Envelopes.{AllSendable}
 use Rattle.ring_node.specs.Envelopes.{IsProper, IsSendable, index_after}
 use Rattle.ring_node.specs.Journals.{algo_count, algo_part, algo_sends, announcement, brought, kept_or, known_after, leader_count, news, packets_after, state_on}
 use Rattle.ring_node.specs.private.Kept.{AllName, IsPort, IsSeated}
+use Rattle.ring_node.specs.Nodes.{Seated}
 use Rattle.ring_node.specs.Ports.{all_algos, all_leaders}
 use Rattle.ring_node.specs.Reports.{IsTruthful}
 use Rattle.ring_node.proofs.Receipts.{AllFit-snoc, algo_at, algos_of-packets_after, leader_at, AllName-all_algos, AllName-announcement, AllName-append, algo_count-append, algo_part-snoc, known_after-snoc, leader_count-append, length-taken_from-algo_part, packets_after-snoc, state_after-snoc, taken_from-append}
@@ -53,6 +55,34 @@ seated_first t fits winner ring position me is_ring here state state_is left rig
   knows = λ v h. cc;
   names = λ to. AllName-append (winner ring) (all_algos (to_side to (t.first_sends me))) [] (AllName-all_algos (winner ring) (to_side to (t.first_sends me))) tt;
 }
+
+-- a node of which a step has changed nothing is seated still
+pub seated_still : {S M : Type 0} (t : Table S M) (fits : Fitting M) (winner : List ℕ → ℕ) (ring : List ℕ) (position me : ℕ) (state : S) (js : List (Side × Packet M)) (left right : Port M) (known : Option ℕ)
+    → IsSeated t fits winner ring position me state js left right known
+    → (state' : S) → state' ≡ state
+    → (js' : List (Side × Packet M)) → js' ≡ js
+    → (left' right' : Port M)
+    → (left'.sent.items ≡ left.sent.items) × (left'.algos ≡ left.algos) × (left'.leaders ≡ left.leaders)
+    → (right'.sent.items ≡ right.sent.items) × (right'.algos ≡ right.algos) × (right'.leaders ≡ right.leaders)
+    → IsSeated t fits winner ring position me state' js' left' right' known
+seated_still t fits winner ring position me state js left right known old state' same_state js' same_journal left' right' same_left same_right =
+    rw (same_state, same_journal)
+    (record {
+      is_ring = old.is_ring;
+      here = old.here;
+      state_is = old.state_is;
+      known_is = old.known_is;
+      left_is = record { sent_is = same_left.0 ∙ old.left_is.sent_is; algos_is = same_left.1 ∙ old.left_is.algos_is; leaders_is = same_left.2 ∙ old.left_is.leaders_is };
+      right_is = record { sent_is = same_right.0 ∙ old.right_is.sent_is; algos_is = same_right.1 ∙ old.right_is.algos_is; leaders_is = same_right.2 ∙ old.right_is.leaders_is };
+      fitting = old.fitting;
+      knows = old.knows;
+      names = old.names;
+    })
+
+-- a node with the same journal is the same
+pub journal_seen : (E M : Type 0) (charter : Charter E) (position : ℕ) (js js' : List (Side × Packet M)) → js' ≡ js
+    → ◌≡◌ {A = Seated E M} (record { charter = charter; position = position; journal = js' }) (record { charter = charter; position = position; journal = js })
+journal_seen E M charter position js js' same = rw same refl
 
 -- what is news is the winner, if it is there
 pub truthful_news : (winner : List ℕ → ℕ) (ring : List ℕ) (position me : ℕ) → IsRing ring → slice_get ring position ≡ Some me

@@ -1,6 +1,7 @@
 -- The fields after the step are what follows from the longer journal, and the old ones where it was refused.
 use Rattle.std.proofs.Common.{◌+◌, ◌<◌, List, [], ◌∷◌, ◌++◌, refl, sym, ap, ◌∙◌, arith}
 use Rattle.std.proofs.lemmas.Option.{get_or_from_slice_get, slice_get_within}
+use Rattle.std.proofs.lemmas.Result.{err_from_is_err_and}
 use Rattle.ring_id.specs.declared.side.Side.{Side}
 use Rattle.ring_id.specs.declared.side.Side.TheVariants.{Left, Right}
 use Rattle.ring_election.specs.Traces.{taken_from}
@@ -9,7 +10,7 @@ use Rattle.ring_node.specs.declared.packet.Packet.{Packet}
 use Rattle.ring_node.specs.Journals.{news}
 use Rattle.ring_node.proofs.Gaining.{receiving_gains}
 use Rattle.ring_node.proofs.Receipts.{counts-length, length-taken_from}
-use Rattle.ring_node.proofs.Steps.{news_is_winner, news_next, nothing_left, seated_step, truthful_news}
+use Rattle.ring_node.proofs.Steps.{news_is_winner, news_next, journal_seen, nothing_left, seated_step, seated_still, truthful_news}
 use Rattle.ring_node.proofs.node.Node.accept.Goals as goal
 
 pub count-requires-clause-left_fits : goal.count-requires-clause-left_fits
@@ -97,3 +98,28 @@ announce-requires g c = c.run.ensures.room
 
 pub push_reserved-requires : goal.push_reserved-requires
 push_reserved-requires g c = omega (arith, c.in_ok-prepare.ensures.room_journal)
+
+pub invariant_of-self : goal.invariant_of-self
+invariant_of-self g c =
+    seated_still _ _ _ _ _ _ _ _ _ _ _ c.self.invariant _ refl _ c.prepare.ensures.journal c.prepare.new.left c.prepare.new.right c.prepare.ensures.left c.prepare.ensures.right
+
+pub returns-in_err-prepare : goal.returns-in_err-prepare
+returns-in_err-prepare g c =
+    let p = err_from_is_err_and c.from_residual.result c.from_residual.ensures.1 in
+    let same = journal_seen g.row.E.Denot g.row.E-Msg.Denot c.self.inside.charter.value c.self.inside.position _ _ c.prepare.ensures.journal in
+    rw p.1 (record { journal = tt; gains = tt; news = tt; truthful = tt; faithful = tt; err = same ∙ c.self.view_is })
+
+pub invariant_of-self-in_err-brought : goal.invariant_of-self-in_err-brought
+invariant_of-self-in_err-brought g c =
+    let before = c.prepare.ensures in
+    let run = c.run.ensures in
+    let gone = c.in_err-brought.ensures in
+    seated_still _ _ _ _ _ _ _ _ _ _ _ c.self.invariant _ gone.err _ before.journal c.run.new.left c.run.new.right
+    (gone.err_left ∙ before.left.0, run.counts_left.0 ∙ before.left.1, run.counts_left.1 ∙ before.left.2)
+    (gone.err_right ∙ before.right.0, run.counts_right.0 ∙ before.right.1, run.counts_right.1 ∙ before.right.2)
+
+pub returns-in_err-brought : goal.returns-in_err-brought
+returns-in_err-brought g c =
+    let p = err_from_is_err_and c.from_residual-in_err-brought.result c.from_residual-in_err-brought.ensures.1 in
+    let same = journal_seen g.row.E.Denot g.row.E-Msg.Denot c.self.inside.charter.value c.self.inside.position _ _ c.prepare.ensures.journal in
+    rw p.1 (record { journal = tt; gains = tt; news = tt; truthful = tt; faithful = tt; err = same ∙ c.self.view_is })

@@ -1,7 +1,7 @@
 -- A node that has started knows nobody and has taken nothing.
 use Rattle.std.proofs.Common.{refl, sym, ap, ◌∙◌}
 use Rattle.std.specs.Prelude.{slice_index}
-use Rattle.std.proofs.lemmas.Option.{get_or_from_slice_get, slice_get_within}
+use Rattle.std.proofs.lemmas.Option.{get_or_from_slice_get, slice_get-get_or, slice_get_within}
 use Rattle.ring_id.specs.declared.side.Side.TheVariants.{Left, Right}
 use Rattle.ring_election.specs.declared.sends.Sends.{Sends}
 use Rattle.ring_election.specs.Tables.{to_side}
@@ -38,3 +38,9 @@ pub returns-clause-few : goal.returns-clause-few
 returns-clause-few g c =
     let ring = c.args.charter.value.roster in
     rw c.new.ensures.items record { each = few_first (g.E.RingElection.table c.args.charter.value.algorithm) (slice_index ring c.args.position) }
+
+pub unwrap-me-requires : goal.unwrap-me-requires
+unwrap-me-requires g c =
+    let ring = c.args.charter.value.roster in
+    let here = rw (c.roster.ensures, c.deref.ensures) at c.at.ensures.value in
+    rw (here ∙ slice_get-get_or ring c.args.position 0 c.requires) refl
