@@ -1,5 +1,5 @@
 -- Facts on IsOneOf: what stands in lists that are made of others.
-use Rattle.std.proofs.Common.{◌≡◌, ◌+◌, ℕ, zero, suc, List, [], ◌∷◌, ◌++◌, Some, slice_get, refl, ap, inl, inr, ◌⊎◌, map}
+use Rattle.std.proofs.Common.{◌≡◌, ℕ, zero, suc, List, [], ◌∷◌, ◌++◌, Some, slice_get, refl, ap, inl, inr, ◌⊎◌, map}
 use Rattle.ring_workers.specs.Lists.{IsOneOf}
 
 -- nothing stands in the empty list

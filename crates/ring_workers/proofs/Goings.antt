@@ -1,5 +1,5 @@
 -- Goings: how what happens to some nodes happens to all, and one thing after another.
-use Rattle.std.proofs.Common.{◌+◌, List, [], ◌++◌, refl, sym, ap, ◌∙◌, inl, inr, append_assoc}
+use Rattle.std.proofs.Common.{List, [], ◌++◌, refl, sym, ap, ◌∙◌, inl, inr, append_assoc}
 use Rattle.std.proofs.lemmas.List.{append-nil}
 use Rattle.ring_election.specs.Tables.{Table}
 use Rattle.ring_node.specs.Envelopes.{Sent}

@@ -9,7 +9,6 @@ use Rattle.ring_workers.specs.declared.handed.Why.{Why}
 use Rattle.ring_workers.specs.declared.handed.Why.TheVariants.{Stopped, Closed, Halted, Starved, Spent}
 use Rattle.ring_workers.specs.declared.item.Item.{Item}
 use Rattle.ring_workers.specs.declared.item.Item.TheVariants.{Begin, Packet, Stop}
-use Rattle.ring_workers.specs.declared.run.Next.TheVariants as next
 use Rattle.ring_workers.specs.Goings.{HasReceived, IsSent}
 use Rattle.ring_workers.specs.Holdings.{AllSeated, Holding, charters_of, nodes_of}
 use Rattle.ring_workers.specs.Lists.{IsOneOf}

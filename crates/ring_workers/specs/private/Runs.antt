@@ -5,7 +5,6 @@ use Rattle.ring_inbox.specs.Values.{ReceiverLog}
 use Rattle.ring_node.specs.declared.charter.Charter.{Charter}
 use Rattle.ring_node.specs.Envelopes.{Sent}
 use Rattle.ring_workers.specs.declared.handed.Why.{Why}
-use Rattle.ring_workers.specs.declared.handed.Why.TheVariants.{Closed}
 use Rattle.ring_workers.specs.declared.item.Item.{Item}
 use Rattle.ring_workers.specs.declared.item.Item.TheVariants.{Begin, Packet, Stop}
 use Rattle.ring_workers.specs.declared.run.Next.{Next}

@@ -2,13 +2,11 @@
 use Rattle.std.proofs.Common.{◌++◌, ◌∷◌, [], slice_get, sym, ap, ◌∙◌, subst, refl}
 use Rattle.std.specs.Map.{lookup}
 use Rattle.std.specs.Str.{bytes_eq}
+use Rattle.std.proofs.lemmas.Result.{err_from_is_err_and}
 use Rattle.indexmap.proofs.CallerLemmas.{insert_entry-new}
 use Rattle.ring_workers.specs.private.Holdings.{IsGroupAt, IsHolding, Steps}
 use Rattle.ring_workers.proofs.Groups.{empty_group, get_pushed, holding_push, other_name, steps_none, steps_push}
 use Rattle.ring_workers.proofs.nodes.Nodes.add.Goals as goal
-
-pub returns-in_err-seats-clause-steps : goal.returns-in_err-seats-clause-steps
-returns-in_err-seats-clause-steps g c = steps_none g.E.RingElection.table c.args.charter.now.value c.args.self.now c.args.self.now _ _ refl refl
 
 pub returns-in_default-clause-steps : goal.returns-in_default-clause-steps
 returns-in_default-clause-steps g c =
@@ -50,3 +48,12 @@ returns-clause-place g c =
       group = ap (λ s. s.charter.group) c.in_ok-seats.ensures.empty;
       term = ap (λ s. s.charter.term) c.in_ok-seats.ensures.empty;
     }
+
+pub returns-in_err-seats : goal.returns-in_err-seats
+returns-in_err-seats g c =
+    let p = err_from_is_err_and c.from_residual.result c.from_residual.ensures.1 in
+    rw p.1
+    (record {
+      steps = steps_none g.E.RingElection.table c.args.charter.now.value c.args.self.now c.args.self.now _ _ refl refl;
+      place = tt;
+    })

@@ -1,5 +1,6 @@
 -- An envelope is handed over after the turn to its term.
 use Rattle.std.proofs.Common.{◌≡◌, true, [], subst}
+use Rattle.std.proofs.lemmas.Result.{err_from_is_err_and}
 use Rattle.ring_node.specs.declared.charter.Charter.{Charter}
 use Rattle.ring_workers.specs.private.Holdings.{Steps}
 use Rattle.ring_workers.proofs.Groups.{steps_before, steps_on}
@@ -14,13 +15,6 @@ pub returns-in-Err-clause-steps : goal.returns-in-Err-clause-steps
 returns-in-Err-clause-steps g c =
     steps_before g.E.RingElection.table c.args.envelope.charter c.args.self.now c.turn_to.new.self c.args.outbox.now.items
     (subst (λ (d : Charter _). Steps g.E.RingElection.table d c.args.self.now c.turn_to.new.self [] []) c.charter.ensures c.turn_to.ensures.steps)
-
-pub returns-in_err-report-clause-steps : goal.returns-in_err-report-clause-steps
-returns-in_err-report-clause-steps g c =
-    steps_on g.E.RingElection.table c.args.envelope.charter c.args.self.now c.turn_to.new.self c.hand_over_at.new.self c.args.outbox.now.items c.args.outbox.now.items c.hand_over_at.new.outbox.items
-    (steps_before g.E.RingElection.table c.args.envelope.charter c.args.self.now c.turn_to.new.self c.args.outbox.now.items
-    (subst (λ (d : Charter _). Steps g.E.RingElection.table d c.args.self.now c.turn_to.new.self [] []) c.charter.ensures c.turn_to.ensures.steps))
-    c.hand_over_at.ensures.steps
 
 pub returns-in-true-default-clause-steps : goal.returns-in-true-default-clause-steps
 returns-in-true-default-clause-steps g c =
@@ -40,3 +34,16 @@ returns-in-false-default-clause-steps g c =
     (steps_before g.E.RingElection.table c.args.envelope.charter c.args.self.now c.turn_to.new.self c.args.outbox.now.items
     (subst (λ (d : Charter _). Steps g.E.RingElection.table d c.args.self.now c.turn_to.new.self [] []) c.charter.ensures c.turn_to.ensures.steps))
     c.hand_over_at.ensures.steps
+
+pub returns-in_err-report : goal.returns-in_err-report
+returns-in_err-report g c =
+    let p = err_from_is_err_and c.from_residual.result c.from_residual.ensures.1 in
+    rw (p.1, p.2)
+    (record {
+      steps = steps_on g.E.RingElection.table c.args.envelope.charter c.args.self.now c.turn_to.new.self c.hand_over_at.new.self c.args.outbox.now.items c.args.outbox.now.items c.hand_over_at.new.outbox.items
+          (steps_before g.E.RingElection.table c.args.envelope.charter c.args.self.now c.turn_to.new.self c.args.outbox.now.items
+          (subst (λ (d : Charter _). Steps g.E.RingElection.table d c.args.self.now c.turn_to.new.self [] []) c.charter.ensures c.turn_to.ensures.steps))
+          c.hand_over_at.ensures.steps;
+      fate = tt;
+      back = c.in_err-report.ensures.back;
+    })

@@ -1,13 +1,11 @@
 -- Seats of an older term give way.
 use Rattle.std.proofs.Common.{[], slice_get, sym, ap, ◌∙◌, subst, refl, true≢false}
 use Rattle.std.proofs.lemmas.Option.{slice_get_within}
+use Rattle.std.proofs.lemmas.Result.{err_from_is_err_and}
 use Rattle.indexmap.specs.IndexMap.{set_value_at}
 use Rattle.ring_workers.specs.private.Holdings.{IsGroupAt, Steps}
 use Rattle.ring_workers.proofs.Groups.{empty_group, get_set_value-same, holding_set, steps_none, steps_replace}
 use Rattle.ring_workers.proofs.nodes.Nodes.replace.Goals as goal
-
-pub returns-in_err-seats-clause-steps : goal.returns-in_err-seats-clause-steps
-returns-in_err-seats-clause-steps g c = steps_none g.E.RingElection.table c.args.charter.now.value c.args.self.now c.args.self.now _ _ refl refl
 
 pub unreachable-requires : goal.unreachable-requires
 unreachable-requires g c =
@@ -43,3 +41,12 @@ returns-clause-place g c =
       group = ap (λ s. s.charter.group) c.in_ok-seats.ensures.empty;
       term = ap (λ s. s.charter.term) c.in_ok-seats.ensures.empty;
     }
+
+pub returns-in_err-seats : goal.returns-in_err-seats
+returns-in_err-seats g c =
+    let p = err_from_is_err_and c.from_residual.result c.from_residual.ensures.1 in
+    rw p.1
+    (record {
+      steps = steps_none g.E.RingElection.table c.args.charter.now.value c.args.self.now c.args.self.now _ _ refl refl;
+      place = tt;
+    })

@@ -1,5 +1,6 @@
 -- Position after position, the nodes that the owner owns are seated.
-use Rattle.std.proofs.Common.{◌+◌, ◌≤◌, length, sym, ap, ◌∙◌, arith, subst, true≢false}
+use Rattle.std.proofs.Common.{◌≤◌, length, sym, ap, ◌∙◌, arith, subst, true≢false}
+use Rattle.std.proofs.lemmas.Result.{err_from_is_err_and}
 use Rattle.ring_workers.specs.private.Seatings.{IsSeating}
 use Rattle.ring_workers.specs.Seatings.{seated_in}
 use Rattle.ring_workers.proofs.Beginning.{keeps_none, keeps_on, so_far_all, so_far_first, so_far_seated, so_far_skipped}
@@ -19,14 +20,8 @@ returns-then-not-same g c = record {
 pub find_room-requires : goal.find_room-requires
 find_room-requires g c = c.self.invariant.1
 
-pub returns-in_err-find_room-clause-goes : goal.returns-in_err-find_room-clause-goes
-returns-in_err-find_room-clause-goes g c = goes_still g.E.RingElection.table _ _ _ _ (ap (λ s. seated_in s.places) c.self.view_is) c.find_room.ensures.outbox
-
 pub loop-position-init : goal.loop-position-init
 loop-position-init g c = so_far_first g.E.RingElection.table c.args.self.now _ _ _ c.self.view_is c.find_room.ensures.outbox c.self.invariant.0
-
-pub returns-in_err-seat-clause-goes : goal.returns-in_err-seat-clause-goes
-returns-in_err-seat-clause-goes g c = goes_on g.E.RingElection.table _ _ _ _ _ _ c.loop-position.invariant.goes c.seat.ensures.goes
 
 pub loop-position-preserved : goal.loop-position-preserved
 loop-position-preserved g c =
@@ -49,20 +44,8 @@ returns-clause-seated g c =
     λ _. so_far_all g.E.RingElection.table c.args.self.now c.loop-position.self c.args.outbox.now.items c.loop-position.outbox.items c.loop-position.position c.args.charter.now c.loop-position.invariant end
     (c.loop-position.invariant.term.charter_is ∙ own)
 
-pub returns-in_err-find_room-clause-term : goal.returns-in_err-find_room-clause-term
-returns-in_err-find_room-clause-term g c = record { number_is = ap (λ s. s.number) c.self.view_is; workers_is = ap (λ s. s.workers) c.self.view_is; charter_is = ap (λ s. s.charter) c.self.view_is }
-
-pub returns-in_err-find_room-clause-kept : goal.returns-in_err-find_room-clause-kept
-returns-in_err-find_room-clause-kept g c = c.self.invariant.0
-
 pub seat-requires : goal.seat-requires
 seat-requires g c = record { inside = c.if-is_free.ensures.inside; empty = c.if-is_free.ensures.empty; owned = c.if-is_free.ensures.owned }
-
-pub returns-in_err-seat-clause-term : goal.returns-in_err-seat-clause-term
-returns-in_err-seat-clause-term g c = keeps_on c.args.self.now c.loop-position.self c.seat.new.self c.loop-position.invariant.term c.seat.ensures.term
-
-pub returns-in_err-seat-clause-kept : goal.returns-in_err-seat-clause-kept
-returns-in_err-seat-clause-kept g c = c.seat.ensures.kept
 
 pub returns-clause-term : goal.returns-clause-term
 returns-clause-term g c = c.loop-position.invariant.term
@@ -72,3 +55,25 @@ returns-clause-kept g c = c.loop-position.invariant.kept
 
 pub returns-clause-goes : goal.returns-clause-goes
 returns-clause-goes g c = c.loop-position.invariant.goes
+
+pub returns-in_err-find_room : goal.returns-in_err-find_room
+returns-in_err-find_room g c =
+    let p = err_from_is_err_and c.from_residual.result c.from_residual.ensures.1 in
+    rw p.1
+    (record {
+      term = record { number_is = ap (λ s. s.number) c.self.view_is; workers_is = ap (λ s. s.workers) c.self.view_is; charter_is = ap (λ s. s.charter) c.self.view_is };
+      kept = c.self.invariant.0;
+      goes = goes_still g.E.RingElection.table _ _ _ _ (ap (λ s. seated_in s.places) c.self.view_is) c.find_room.ensures.outbox;
+      seated = tt;
+    })
+
+pub returns-in_err-seat : goal.returns-in_err-seat
+returns-in_err-seat g c =
+    let p = err_from_is_err_and c.from_residual-in_err-seat.result c.from_residual-in_err-seat.ensures.1 in
+    rw p.1
+    (record {
+      term = keeps_on c.args.self.now c.loop-position.self c.seat.new.self c.loop-position.invariant.term c.seat.ensures.term;
+      kept = c.seat.ensures.kept;
+      goes = goes_on g.E.RingElection.table _ _ _ _ _ _ c.loop-position.invariant.goes c.seat.ensures.goes;
+      seated = tt;
+    })

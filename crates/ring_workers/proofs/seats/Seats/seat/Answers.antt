@@ -1,6 +1,7 @@
 -- A node is seated at its own place, and what it sends has joined the outbox.
 use Rattle.std.proofs.Common.{◌≡◌, ◌<◌, length, Some, slice_get, set, sym, ap, ◌∙◌, subst, arith}
 use Rattle.std.specs.Prelude.{slice_index}
+use Rattle.std.proofs.lemmas.Result.{err_from_is_err_and}
 use Rattle.ring_workers.specs.private.Goings.{Goes}
 use Rattle.ring_workers.specs.Owners.{owner_of}
 use Rattle.ring_workers.specs.Seatings.{seated_in}
@@ -9,15 +10,6 @@ use Rattle.ring_workers.proofs.Taking.{get_set-same, goes_seated, goes_still}
 use Rattle.ring_id.specs.declared.side.Side.TheVariants.{Left, Right}
 use Rattle.ring_workers.proofs.Posting.{first_many, first_room, second_many, second_room}
 use Rattle.ring_workers.proofs.seats.Seats.seat.Goals as goal
-
-pub returns-in_err-find_room-clause-goes : goal.returns-in_err-find_room-clause-goes
-returns-in_err-find_room-clause-goes g c = goes_still g.E.RingElection.table _ _ _ _ (ap (λ s. seated_in s.places) c.self.view_is) c.find_room.ensures.outbox
-
-pub returns-in_err-copy-clause-goes : goal.returns-in_err-copy-clause-goes
-returns-in_err-copy-clause-goes g c = goes_still g.E.RingElection.table _ _ _ _ (ap (λ s. seated_in s.places) c.self.view_is) c.find_room.ensures.outbox
-
-pub returns-in_err-node-clause-goes : goal.returns-in_err-node-clause-goes
-returns-in_err-node-clause-goes g c = goes_still g.E.RingElection.table _ _ _ _ (ap (λ s. seated_in s.places) c.self.view_is) c.find_room.ensures.outbox
 
 pub returns-clause-kept : goal.returns-clause-kept
 returns-clause-kept g c =
@@ -77,23 +69,38 @@ index_mut-requires g c =
     let inside = subst (λ s. c.args.position < length s.charter.roster) (sym c.self.view_is) c.requires.inside in
     omega (arith, c.self.invariant.0.size, inside, c.self.inside.places.ok)
 
-pub returns-in_err-find_room-clause-term : goal.returns-in_err-find_room-clause-term
-returns-in_err-find_room-clause-term g c = record { number_is = ap (λ s. s.number) c.self.view_is; workers_is = ap (λ s. s.workers) c.self.view_is; charter_is = ap (λ s. s.charter) c.self.view_is }
+pub returns-in_err-find_room : goal.returns-in_err-find_room
+returns-in_err-find_room g c =
+    let p = err_from_is_err_and c.from_residual.result c.from_residual.ensures.1 in
+    rw p.1
+    (record {
+      term = record { number_is = ap (λ s. s.number) c.self.view_is; workers_is = ap (λ s. s.workers) c.self.view_is; charter_is = ap (λ s. s.charter) c.self.view_is };
+      kept = c.self.invariant.0;
+      goes = goes_still g.E.RingElection.table _ _ _ _ (ap (λ s. seated_in s.places) c.self.view_is) c.find_room.ensures.outbox;
+      seated = tt;
+    })
 
-pub returns-in_err-find_room-clause-kept : goal.returns-in_err-find_room-clause-kept
-returns-in_err-find_room-clause-kept g c = c.self.invariant.0
+pub returns-in_err-copy : goal.returns-in_err-copy
+returns-in_err-copy g c =
+    let p = err_from_is_err_and c.from_residual-in_err-copy.result c.from_residual-in_err-copy.ensures.1 in
+    rw p.1
+    (record {
+      term = record { number_is = ap (λ s. s.number) c.self.view_is; workers_is = ap (λ s. s.workers) c.self.view_is; charter_is = ap (λ s. s.charter) c.self.view_is };
+      kept = c.self.invariant.0;
+      goes = goes_still g.E.RingElection.table _ _ _ _ (ap (λ s. seated_in s.places) c.self.view_is) c.find_room.ensures.outbox;
+      seated = tt;
+    })
 
-pub returns-in_err-copy-clause-term : goal.returns-in_err-copy-clause-term
-returns-in_err-copy-clause-term g c = record { number_is = ap (λ s. s.number) c.self.view_is; workers_is = ap (λ s. s.workers) c.self.view_is; charter_is = ap (λ s. s.charter) c.self.view_is }
-
-pub returns-in_err-copy-clause-kept : goal.returns-in_err-copy-clause-kept
-returns-in_err-copy-clause-kept g c = c.self.invariant.0
-
-pub returns-in_err-node-clause-term : goal.returns-in_err-node-clause-term
-returns-in_err-node-clause-term g c = record { number_is = ap (λ s. s.number) c.self.view_is; workers_is = ap (λ s. s.workers) c.self.view_is; charter_is = ap (λ s. s.charter) c.self.view_is }
-
-pub returns-in_err-node-clause-kept : goal.returns-in_err-node-clause-kept
-returns-in_err-node-clause-kept g c = c.self.invariant.0
+pub returns-in_err-node : goal.returns-in_err-node
+returns-in_err-node g c =
+    let p = err_from_is_err_and c.from_residual-in_err-node.result c.from_residual-in_err-node.ensures.1 in
+    rw p.1
+    (record {
+      term = record { number_is = ap (λ s. s.number) c.self.view_is; workers_is = ap (λ s. s.workers) c.self.view_is; charter_is = ap (λ s. s.charter) c.self.view_is };
+      kept = c.self.invariant.0;
+      goes = goes_still g.E.RingElection.table _ _ _ _ (ap (λ s. seated_in s.places) c.self.view_is) c.find_room.ensures.outbox;
+      seated = tt;
+    })
 
 pub returns-clause-term : goal.returns-clause-term
 returns-clause-term g c = record { number_is = ap (λ s. s.number) c.self.view_is; workers_is = ap (λ s. s.workers) c.self.view_is; charter_is = ap (λ s. s.charter) c.self.view_is }
