@@ -1,4 +1,4 @@
--- Nothing is left behind the last receipt.
+-- A receipt from the side is the next that is counted, and nothing is left behind the last one.
 use Rattle.std.proofs.Common.{◌≡◌, List, sym, ap, ap₂, ◌∙◌, rules, tests}
 use Rattle.std.specs.Prelude.{slice_get}
 use Rattle.std.proofs.lemmas.List.{at_drop_all}
