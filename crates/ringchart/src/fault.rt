@@ -1,39 +1,33 @@
 //! Why the program ends before its work is done.
 use ring_id::NoMemory;
 use std::alloc::{AllocError, AllocFailed};
-use std::{fmt, io};
+use std::io;
+use thiserror::Error;
 
-/// A fault that ends the program with status 1. What it displays is what standard error gets.
-#[derive(Drop)]
+/// A fault that ends the program with status 1. Its text is what standard error gets.
+#[derive(Debug, Drop, Error)]
 pub enum Fault {
     /// The schedule could not be read, or is no text.
+    #[error("the schedule can't be read")]
     Unreadable,
     /// A line spells nothing that a schedule has.
+    #[error("line {0} is bad")]
     BadLine(u64),
     /// A row says another reply than this one.
+    #[error("line {0} is answered: {1}")]
     Otherwise(u64, String),
     /// There is nothing to draw.
+    #[error("no term was started")]
     NoTerm,
     /// The deliveries that were drawn are not those that were made.
+    #[error("what line {0} did can't be followed")]
     Lost(u64),
     /// A picture could not be written.
+    #[error("writing failed")]
     Write,
     /// Memory was refused.
+    #[error("no memory")]
     NoMemory,
-}
-
-impl fmt::Display for Fault {
-    fn fmt<W: fmt::Write>(&self, f: &mut fmt::Formatter<W>) -> fmt::Result {
-        match self {
-            Fault::Unreadable => f.write_str("the schedule can't be read"),
-            Fault::BadLine(place) => write!(f, "line {place} is bad"),
-            Fault::Otherwise(place, reply) => write!(f, "line {place} is answered: {reply}"),
-            Fault::NoTerm => f.write_str("no term was started"),
-            Fault::Lost(place) => write!(f, "what line {place} did can't be followed"),
-            Fault::Write => f.write_str("writing failed"),
-            Fault::NoMemory => f.write_str("no memory"),
-        }
-    }
 }
 
 impl From<AllocError> for Fault {

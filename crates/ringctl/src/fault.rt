@@ -3,19 +3,25 @@ ghost use Rattle.std.specs.Prelude.{◌≡◌};
 ghost use Rattle.ringctl.specs.Faults.{status_of};
 
 use std::alloc::{AllocError, Global};
+use thiserror::Error;
 
-/// A fault that ends the program.
-#[derive(Drop)]
+/// A fault that ends the program. Its text is the one line that standard error gets.
+#[derive(Debug, Drop, Error)]
 pub enum Fault {
     /// The service refused the command with this word.
+    #[error("{0}")]
     Refused(String),
     /// Nothing answers at the address, or what answers is no such service, or it stopped answering.
+    #[error("ringctl: no service answers")]
     NoService,
     /// Standard input could not be read.
+    #[error("ringctl: read failed")]
     Read,
     /// Standard output could not be written.
+    #[error("ringctl: write failed")]
     Write,
     /// Memory was refused.
+    #[error("ringctl: no memory")]
     NoMemory,
 }
 
@@ -25,17 +31,6 @@ impl Fault {
         match String::from_str(alloc, word) {
             Ok(word) => Fault::Refused(word),
             Err(_) => Fault::NoMemory,
-        }
-    }
-
-    /// The one line that standard error gets.
-    pub fn text(&self) -> &str {
-        match self {
-            Fault::Refused(word) => word.as_str(),
-            Fault::NoService => "ringctl: no service answers",
-            Fault::Read => "ringctl: read failed",
-            Fault::Write => "ringctl: write failed",
-            Fault::NoMemory => "ringctl: no memory",
         }
     }
 

@@ -65,7 +65,7 @@ fn ended(rt: &impl Eprint, done: Result<(), Fault>) -> ExitCode
     match done {
         Ok(()) => ExitCode::SUCCESS,
         Err(fault) => {
-            let _ = rt.eprintln(fault.text());
+            let _ = eprintln!(rt; "{fault}");
             ExitCode::from(fault.status())
         }
     }
