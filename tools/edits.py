@@ -1,13 +1,8 @@
 """What the scripts that try edits of the sources share: an edit's file, and a check of a copy."""
 
-import os
-import pathlib
-import shutil
 import subprocess
-import sys
 
-TOP = pathlib.Path(__file__).resolve().parents[1]
-PARTS = ("src", "specs", "proofs")
+from crates import PARTS, TOP, kit, words_of
 
 
 class BadEdit(Exception):
@@ -74,64 +69,6 @@ def place_of(text, after, old, file):
     if at < 0:
         raise BadEdit(f"an 'old:' text isn't in {file} behind its 'after:' text")
     return at
-
-
-def kit():
-    """The folder of the kit, by rt in PATH or by $RATTLE_KIT."""
-    found = shutil.which("rt")
-    if found:
-        return pathlib.Path(found).resolve().parents[1]
-    if "RATTLE_KIT" not in os.environ:
-        sys.exit("there is no rt in PATH, and $RATTLE_KIT names no kit")
-    return pathlib.Path(os.environ["RATTLE_KIT"])
-
-
-def libraries():
-    """What each crate stands on, by the lines of crates.txt."""
-    found = {}
-    for line in (TOP / "crates.txt").read_text(encoding="utf-8").splitlines():
-        head, _, named = line.partition("#")[0].partition(":")
-        if head.strip():
-            found[head.split()[0]] = named.split()
-    return found
-
-
-def below(crate, named):
-    """The crates of the repository that a crate stands on, near and far."""
-    found, left = {}, [crate]
-    while left:
-        new = [it for it in named[left.pop()] if it in named and it not in found]
-        found.update(dict.fromkeys(new))
-        left += new
-    return list(found)
-
-
-def words_of(crate):
-    """The words of `rattle check` that say what a crate is, and on what it stands."""
-    named, home = libraries(), kit()
-    is_program = (TOP / "crates" / crate / "src/main.rt").exists()
-    words = ["--crate-name", crate, "src/main.rt" if is_program else "src/lib.rt"]
-    for name in ["std", *named[crate]]:
-        at = TOP / "crates" / name / "out/rlib" if name in named else home / "rlibs"
-        words += ["--extern", f"{name}={at}/{name}.rlib"]
-    words += ["-L", f"dependency={home}/rlibs"]
-    for name in below(crate, named):
-        words += ["-L", f"dependency={TOP}/crates/{name}/out/rlib"]
-    words += ["--antt-project", f"{home}/rattle/logic/antt-project.json"]
-    return [*words, "--logic-built", f"{home}/logic_built", "--links", f"{crate}=", "--jobs", "1"]
-
-
-def missing(crate):
-    """The libraries below a crate that aren't built, which `rt ci` or `rt all check` does."""
-    at = [(it, TOP / "crates" / it / "out/rlib" / f"{it}.rlib") for it in below(crate, libraries())]
-    return [name for name, rlib in at if not rlib.is_dir()]
-
-
-def copy_of(crate, to):
-    """Copies the sources of a crate."""
-    for part in PARTS:
-        if (TOP / "crates" / crate / part).is_dir():
-            shutil.copytree(TOP / "crates" / crate / part, to / part)
 
 
 def check(crate, folder, *words):
