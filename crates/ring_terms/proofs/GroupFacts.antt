@@ -1,6 +1,6 @@
 -- What a group keeps of its terms from one call to the next, and what its last term shows.
-use Rattle.std.proofs.Common.{inl, inr, ◌≡◌, ◌+◌, ◌-◌, ◌<◌, ℕ, Bool, false, true, List, [], ◌∷◌, ◌++◌, length, map, Option, None, Some, refl, sym, ◌∙◌, ap, subst, arith, slice_index_or, slice_set}
-use Rattle.std.specs.Prelude.{slice_get, Result, Ok, Err}
+use Rattle.std.proofs.Common.{inl, inr, ◌≡◌, ◌+◌, ◌-◌, ◌<◌, ◌==◌, ℕ, Bool, false, true, List, [], ◌∷◌, ◌++◌, length, map, Option, None, Some, refl, sym, ◌∙◌, ap, subst, arith, slice_index_or, slice_set}
+use Rattle.std.specs.Prelude.{nat_le, slice_get, Result, Ok, Err}
 use Rattle.std.proofs.lemmas.List.{length-map, length-replicate, length-set, map-set}
 use Rattle.std.proofs.lemmas.Bool.{false≢true}
 use Rattle.std.proofs.lemmas.Bool.Decides.{nat_tests}
@@ -61,6 +61,12 @@ leaders_shown g = leaders_seen g.terms.items
 -- where start isn't refused, there are members and fewer terms than the most
 pub start_allowed : {E : Type 0} (group : GroupView E) → start_refusal group ≡ None → (0 < length group.members) × (length group.terms < 1000)
 start_allowed group none = (grind (arith, nat_tests), grind (arith, nat_tests))
+
+-- where there are members and fewer terms than the most, start isn't refused
+pub allowed_start : {E : Type 0} (group : GroupView E) → (length group.members == 0) ≡ false → length group.terms < 1000 → start_refusal group ≡ None
+allowed_start group some short =
+    let few : nat_le 1000 (length group.terms) ≡ false = grind (arith, nat_tests) in
+    rw (some, few) refl
 
 module _ {E : Type 0} (winner : E → List ℕ → ℕ) (name : List ℕ) (g : Group E) (kept : IsGroupOf winner name g) where
   -- a group with these terms keeps what groups keep, where one more is of this group

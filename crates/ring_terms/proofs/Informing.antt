@@ -1,7 +1,8 @@
 -- A report of a term's own charter: the member that it names becomes informed, and the leader is the
 -- winner of the ring.
-use Rattle.std.proofs.Common.{◌≡◌, ℕ, Bool, true, false, List, Option, None, Some, refl, sym, ◌∙◌, ap, subst, true≢false}
+use Rattle.std.proofs.Common.{◌≡◌, ◌<◌, ℕ, Bool, true, false, List, length, get_or, Option, None, Some, is_some, refl, sym, ◌∙◌, ap, subst, true≢false}
 use Rattle.std.specs.Prelude.{slice_get, IsSome}
+use Rattle.std.proofs.lemmas.Option.{slice_get-get_or}
 use Rattle.ring_roster.specs.Ring.{IsRing, position_of}
 use Rattle.ring_election.specs.Tables.{Table}
 use Rattle.ring_election.specs.Laws.{Lawful}
@@ -27,6 +28,15 @@ leads_after greatest ring winner (Some leader) wins named = sym (wins leader ref
 leader_is : (winner : ℕ) (was : Option ℕ) → ((leader : ℕ) → was ≡ Some leader → leader ≡ winner) → IsSome was → was ≡ Some winner
 leader_is winner None wins there = absurd (true≢false (sym there))
 leader_is winner (Some leader) wins there = ap Some (wins leader refl)
+
+-- where there is no leader, a position's mark is not set
+unset_mark : (term : TermView) (position : ℕ) (mark : Bool) → ((p : ℕ) → slice_get term.informed p ≡ Some true → IsSome term.leader) → term.leader ≡ None → slice_get term.informed position ≡ Some mark → slice_get term.informed position ≡ Some false
+unset_mark term position false led none there = there
+unset_mark term position true led none there = absurd (true≢false (sym (led position there) ∙ ap (λ v. is_some v) none))
+
+-- where there is no leader, nobody is informed
+pub uninformed_without_leader : (winner : List ℕ → ℕ) (term : TermView) → IsTermKept winner term → (position : ℕ) → position < length term.ring → term.leader ≡ None → slice_get term.informed position ≡ Some false
+uninformed_without_leader winner term kept position within none = unset_mark term position (get_or term.informed position false) kept.led none (slice_get-get_or term.informed position false (rw kept.marked within))
 
 module _ (winner : List ℕ → ℕ) (term : TermView) (kept : IsTermKept winner term) (member leader position : ℕ)
     (placed : position_of member term.ring ≡ Some position) (leads : leader ≡ winner term.ring) where

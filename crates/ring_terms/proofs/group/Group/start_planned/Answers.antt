@@ -1,6 +1,6 @@
 -- One more term, of the charter that was planned; or none, where there was no memory for it.
-use Rattle.std.proofs.Common.{refl, sym, ◌∙◌, ap, arith}
-use Rattle.std.proofs.lemmas.List.{length-map, length_push}
+use Rattle.std.proofs.Common.{◌≡◌, [], ◌∷◌, ◌++◌, map, refl, sym, ◌∙◌, ap, arith}
+use Rattle.std.proofs.lemmas.List.{length-map, length_push, map_push}
 use Rattle.ring_terms.specs.Books.{group_view, term_view}
 use Rattle.ring_terms.specs.Object.{new_term}
 use Rattle.ring_terms.proofs.GroupFacts.{each_after_push, next_term, start_allowed}
@@ -32,4 +32,18 @@ returns-clause-kept g c =
       distinct = kept.distinct;
       short = rw c.in-Ok.ensures.items (omega (arith, length_push this.terms.items term, allowed.1, length-map this.terms.items (term_view {E = g.row.E.Denot})));
       each = rw c.in-Ok.ensures.items (each_after_push g.E.RingElection.winner this.name this kept term of);
+    }
+
+pub returns-clause-started : goal.returns-clause-started
+returns-clause-started g c =
+    let this = c.args.self.now in
+    let view = term_view {E = g.row.E.Denot} in
+    let shown : view c.in_ok-term.term ≡ new_term this.members.items = c.in_ok-term.ensures.fresh ∙ ap (λ charter. new_term charter.roster) c.requires.planned in
+    let pushed = ap (map view) c.in-Ok.ensures.items ∙ map_push view this.terms.items c.in_ok-term.term ∙ ap (λ v. map view this.terms.items ++ v ∷ []) shown in
+    record {
+      chartered = c.requires.planned;
+      starts = record {
+        numbered = ap (λ charter. charter.term) c.requires.planned;
+        started = ap (λ ts. record (group_view this) { terms = ts }) pushed;
+      };
     }
