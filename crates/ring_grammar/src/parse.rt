@@ -146,18 +146,19 @@ fn event_of_three(word: &[u8], group: &[u8], argument: &[u8]) -> Option<Event<An
 fn event_of_four(word: &[u8], group: &[u8], argument: &[u8], end: &[u8]) -> Option<Event<Any>>
     ensures { Reads event_words IsEvent (word.now ∷ group.now ∷ argument.now ∷ end.now ∷ []) result }
 {
+    let Some(group) = name(group) else {
+        return None;
+    };
+    let Some(node) = node_number(argument) else {
+        return None;
+    };
+    let Some(side) = side(end) else {
+        return None;
+    };
     if word == b"deliver".as_slice() {
-        Some(Event::Deliver {
-            group: name(group)?,
-            node: node_number(argument)?,
-            side: side(end)?,
-        })
+        Some(Event::Deliver { group, node, side })
     } else if word == b"cut".as_slice() {
-        Some(Event::Cut {
-            group: name(group)?,
-            node: node_number(argument)?,
-            side: side(end)?,
-        })
+        Some(Event::Cut { group, node, side })
     } else {
         None
     }
