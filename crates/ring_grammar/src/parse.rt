@@ -146,15 +146,9 @@ fn event_of_three(word: &[u8], group: &[u8], argument: &[u8]) -> Option<Event<An
 fn event_of_four(word: &[u8], group: &[u8], argument: &[u8], end: &[u8]) -> Option<Event<Any>>
     ensures { Reads event_words IsEvent (word.now ∷ group.now ∷ argument.now ∷ end.now ∷ []) result }
 {
-    let Some(group) = name(group) else {
-        return None;
-    };
-    let Some(node) = node_number(argument) else {
-        return None;
-    };
-    let Some(side) = side(end) else {
-        return None;
-    };
+    let group = name(group)?;
+    let node = node_number(argument)?;
+    let side = side(end)?;
     if word == b"deliver".as_slice() {
         Some(Event::Deliver { group, node, side })
     } else if word == b"cut".as_slice() {
