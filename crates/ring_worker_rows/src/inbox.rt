@@ -15,5 +15,6 @@ fn alone<T: Drop>(rt: &impl Abort, alloc: Global) -> (ReceiverPass<T>, SenderPas
     let (receiver, mut senders) = inbox::<T>(alloc, 2, 1).expect(rt, "no memory");
     assert!(rt; senders.len() == 1);
     let sender = senders.remove(0);
+    drop(senders);
     (receiver, sender)
 }

@@ -7,7 +7,7 @@ use std::alloc::Global;
 use std::process::Abort;
 use std::sync::{Arc, Wait};
 use std::thread;
-use std::thread::Threads;
+use std::thread::{JoinHandle, Threads};
 
 type Item = Arc<u64, Global>;
 
@@ -20,7 +20,7 @@ const ITEMS: u64 = 1000;
 type Counts = [u64; SENDERS];
 
 // Puts the item until it is stored or the receiver is gone, and answers whether it was stored.
-fn put_once<R: Wait>(rt: &R, pass: &mut SenderPass<Item>, item: Item) -> bool
+fn put_once<T: Drop, R: Wait>(rt: &R, pass: &mut SenderPass<T>, item: T) -> bool
     ensures { pass.new.inbox ≡ pass.old.inbox }
 {
     let mut left = item;
@@ -47,7 +47,7 @@ fn put_all<R: Abort + Wait>(rt: &R, alloc: Global, mut pass: SenderPass<Item>) -
 }
 
 // The next item, where it is awaited if there is none.
-fn take_next<R: Wait>(rt: &R, receiver: &mut ReceiverPass<Item>) -> Option<(usize, Item)>
+fn take_next<T: Drop, R: Wait>(rt: &R, receiver: &mut ReceiverPass<T>) -> Option<(usize, T)>
     ensures { receiver.new.inbox ≡ receiver.old.inbox }
 {
     if let TryTake::Taken(sender, item) = receiver.try_take(rt) {
@@ -59,10 +59,10 @@ fn take_next<R: Wait>(rt: &R, receiver: &mut ReceiverPass<Item>) -> Option<(usiz
     }
 }
 
-// Counts the item if it is the next one of its sender, and answers whether it is.
-fn is_next(counts: &mut Counts, sender: usize, item: &Item) -> bool {
+// Counts an item of this number if it is the next one of its sender, and answers whether it is.
+fn is_next(counts: &mut Counts, sender: usize, number: u64) -> bool {
     match counts.get_mut(sender) {
-        Some(count) if *count == **item && *count < ITEMS => {
+        Some(count) if *count == number && *count < ITEMS => {
             *count += 1;
             true
         }
@@ -79,11 +79,34 @@ fn take_all<R: Wait>(rt: &R, receiver: &mut ReceiverPass<Item>, most: u64) -> Co
         let Some((sender, item)) = take_next(rt, receiver) else {
             break;
         };
-        if !is_next(&mut counts, sender, &item) {
+        let number = *item;
+        drop(item);
+        if !is_next(&mut counts, sender, number) {
             break;
         }
     }
     counts
+}
+
+// Starts a thread for each sender, in which it stores its items.
+fn start<R: Abort + Threads + Wait + Copy + Send + 'static>(
+    rt: R,
+    alloc: Global,
+    senders: Vec<SenderPass<Item>>,
+) -> Vec<JoinHandle<()>> {
+    let mut workers = Vec::new(alloc);
+    for pass in senders {
+        let worker = thread::spawn(&rt, move || drop(put_all(&rt, alloc, pass)));
+        assert!(rt; workers.push(worker.expect(&rt, "no thread")).is_ok());
+    }
+    workers
+}
+
+// Waits until these threads have ended.
+fn join_all<R: Threads>(rt: &R, workers: Vec<JoinHandle<()>>) {
+    for worker in workers {
+        worker.join(rt);
+    }
 }
 
 // Each of three threads stores its items in an inbox of this capacity, and this one takes them in the order of each.
@@ -96,16 +119,10 @@ fn passes_through<R: Abort + Threads + Wait + Copy + Send + 'static>(
 {
     let opened = inbox::<Item>(alloc, capacity, SENDERS);
     let (mut receiver, senders) = opened.expect(&rt, "no memory");
-    let mut workers = Vec::new(alloc);
-    for pass in senders {
-        let worker = thread::spawn(&rt, move || drop(put_all(&rt, alloc, pass)));
-        assert!(rt; workers.push(worker.expect(&rt, "no thread")).is_ok());
-    }
+    let workers = start(rt, alloc, senders);
     let counts = take_all(&rt, &mut receiver, u64::MAX);
     drop(receiver);
-    for worker in workers {
-        worker.join(&rt);
-    }
+    join_all(&rt, workers);
     equal(&rt, "how many of each", counts, [ITEMS; SENDERS]);
 }
 
