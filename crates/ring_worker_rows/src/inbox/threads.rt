@@ -19,6 +19,11 @@ const ITEMS: u64 = 1000;
 // How many items of each sender were taken, in the order in which it stored them.
 type Counts = [u64; SENDERS];
 
+// The item of this number.
+fn new_item(rt: &impl Abort, alloc: Global, number: u64) -> Item {
+    Arc::new(alloc, number).expect(rt, "no memory")
+}
+
 // Puts the item until it is stored or the receiver is gone, and answers whether it was stored.
 fn put_once<T: Drop, R: Wait>(rt: &R, pass: &mut SenderPass<T>, item: T) -> bool
     ensures { pass.new.inbox ≡ pass.old.inbox }
@@ -40,7 +45,7 @@ fn put_all<R: Abort + Wait>(rt: &R, alloc: Global, mut pass: SenderPass<Item>) -
     ensures { result.inbox ≡ pass.inbox }
 {
     for number in 0..ITEMS {
-        let item = Arc::new(alloc, number).expect(rt, "no memory");
+        let item = new_item(rt, alloc, number);
         assert!(rt; put_once(rt, &mut pass, item));
     }
     pass
@@ -139,9 +144,8 @@ fn pass_one<R: Abort + Wait>(
     sender: &mut SenderPass<Item>,
     receiver: &mut ReceiverPass<Item>,
 ) {
-    let item = Arc::new(alloc, 3).expect(rt, "no memory");
-    let wanted = TryTake::Taken(0, Arc::new(alloc, 3).expect(rt, "no memory"));
-    assert!(rt; put_once(rt, sender, item));
+    let wanted = TryTake::Taken(0, new_item(rt, alloc, 3));
+    assert!(rt; put_once(rt, sender, new_item(rt, alloc, 3)));
     equal(rt, "the one", receiver.try_take(rt), wanted);
     equal(rt, "none", receiver.try_take(rt), TryTake::Empty);
 }
