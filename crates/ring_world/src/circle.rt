@@ -164,11 +164,12 @@ impl<E: RingElection> Circle<E> {
         ensures proper { IfSome result (λ front. IsComing E.fits E.winner (node_at self.now position) side front.0) }
     {
         let sender = self.node(self.neighbour(position, side));
+        let to = side.other();
         let taken = self.node(position).taken(side);
-        let Some(packet) = sender.packet(side.other(), taken) else {
+        let Some(packet) = sender.packet(to, taken) else {
             return None;
         };
-        Some((packet, sender.sent(side.other()) - taken == 1))
+        Some((packet, sender.sent(to) - taken == 1))
     }
 
     /// How many packets stand on a link.
@@ -212,8 +213,9 @@ impl<E: RingElection> Circle<E> {
         let more = self.sent(position, to) - before;
         if more > 0 {
             let receiver = self.neighbour(position, to);
-            let place = place_of(receiver, to.other());
-            if self.is_cut(receiver, to.other()) {
+            let from = to.other();
+            let place = place_of(receiver, from);
+            if self.is_cut(receiver, from) {
                 ready.put(place, false);
             } else {
                 ready.insert(place);
