@@ -49,19 +49,19 @@ def built_by_rt(crate):
     return TOP / "crates" / crate / "out/rlib" / f"{crate}.rlib"
 
 
-def words_of(crate):
-    """The words of `rattle check` that say what a crate is, on what it stands and where that lies."""
+def words_of(crate, library=built_by_rt, jobs=1):
+    """The words of `rattle check` and `rattle build` that say what a crate is, on what it stands and where that lies."""
     named, home = libraries(), kit()
     is_program = (TOP / "crates" / crate / "src/main.rt").exists()
     words = ["--crate-name", crate, "src/main.rt" if is_program else "src/lib.rt"]
     for name in ["std", *named[crate]]:
-        at = built_by_rt(name) if name in named else home / "rlibs" / f"{name}.rlib"
+        at = library(name) if name in named else home / "rlibs" / f"{name}.rlib"
         words += ["--extern", f"{name}={at}"]
     words += ["-L", f"dependency={home}/rlibs"]
     for name in below(crate, named):
-        words += ["-L", f"dependency={built_by_rt(name).parent}"]
+        words += ["-L", f"dependency={library(name).parent}"]
     words += ["--antt-project", f"{home}/rattle/logic/antt-project.json"]
-    return [*words, "--logic-built", f"{home}/logic_built", "--links", f"{crate}=", "--jobs", "1"]
+    return [*words, "--logic-built", f"{home}/logic_built", "--links", f"{crate}=", "--jobs", str(jobs)]
 
 
 def missing(crate):
