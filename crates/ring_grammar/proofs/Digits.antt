@@ -1,5 +1,5 @@
 -- Numbers read by their digits.
-use Rattle.std.proofs.Common.{◌≡◌, ◌+◌, ◌-◌, ◌*◌, ◌<◌, ◌≤◌, ◌^◌, ℕ, zero, suc, List, length, take, get_or, sym, ◌∙◌, ap, arith, refl, decimal, below_more}
+use Rattle.std.proofs.Common.{◌≡◌, ◌+◌, ◌-◌, ◌*◌, ◌<◌, ◌≤◌, ◌^◌, ℕ, zero, suc, List, length, take, get_or, sym, ◌∙◌, ap, arith, decimal, below_more}
 use Rattle.std.specs.Int.{IsInRange}
 use Rattle.std.specs.Str.Parse.{digits_value}
 use Rattle.std.proofs.lemmas.Fmt.{decimal-digits_value, decimal_digit, decimal_nonempty, digits_decimal, digits_value-decimal, first_decimal, length-decimal-le}
@@ -21,11 +21,7 @@ pub record Reading (text : List ℕ) (end read : ℕ) : Type 0 where
   pub digits : AreDigits text end
   pub value : read ≡ digits_value 10 (take end text)
 
--- nothing at first
-pub reading_none : (text : List ℕ) → Reading text 0 0
-reading_none text = record { digits = λ i below. absurd (omega arith); value = refl }
-
--- and one digit more
+-- one digit more
 pub reading_more : (text : List ℕ) (end read : ℕ) → end < length text → 48 ≤ get_or text end 0 → get_or text end 0 ≤ 57 → Reading text end read → Reading text (end + 1) (read * 10 + (get_or text end 0 - 48))
 reading_more text end read within low high before =
     let digit = digit_value_digit (get_or text end 0) (low, high) in

@@ -7,7 +7,7 @@ use Rattle.std.specs.declared.cmp.Ordering.TheVariants.{Less, Equal, Greater}
 use Rattle.std.proofs.lemmas.Bool.{cases_lt, ne_eqb, or_parts}
 use Rattle.std.proofs.lemmas.Bool.Decides.{nat_tests}
 use Rattle.std.proofs.lemmas.Cmp.{ranked}
-use Rattle.std.proofs.lemmas.List.Elements.{All-get_or, All-nil, All-push, Contains-append_left, Contains-push}
+use Rattle.std.proofs.lemmas.List.Elements.{All-get_or, All-push, Contains-append_left, Contains-push}
 use Rattle.std.proofs.lemmas.List.Sorted.{All-permutation, Contains-permutation}
 use Rattle.std.proofs.lemmas.List.Sums.{position_or_len_is}
 use Rattle.ring_roster.specs.private.Order.{IsOrder, number_at}
@@ -78,11 +78,7 @@ pub record AreFirst (ring order : List ℕ) (count : ℕ) : Type 0 where
   pub sound : All (λ position. position < length ring) order
   pub complete : (position : ℕ) → position < count → Contains order position
 
--- none at first
-pub first_none : (ring : List ℕ) → AreFirst ring [] 0
-first_none ring = record { sound = All-nil (λ position. position < length ring); complete = λ position below. absurd (omega arith) }
-
--- and one more
+-- one more
 pub first_more : (ring order : List ℕ) (count : ℕ) → count < length ring → AreFirst ring order count → AreFirst ring (order ++ count ∷ []) (count + 1)
 first_more ring order count within first = record {
   sound = All-push (λ position. position < length ring) order count first.sound within;

@@ -10,7 +10,6 @@ use std::alloc::Global;
 
 /// What answers a schedule: a line that spells an event by the reply of a mux to its step, and any
 /// other line by `no bad-line`.
-#[derive(Clone, Copy, Debug)]
 struct Replayer;
 
 impl Answerer for Replayer {

@@ -1,5 +1,5 @@
 -- Facts on IsOneOf: what stands in lists that are made of others.
-use Rattle.std.proofs.Common.{◌≡◌, ℕ, zero, suc, List, [], ◌∷◌, ◌++◌, Some, slice_get, refl, ap, inl, inr, ◌⊎◌, map}
+use Rattle.std.proofs.Common.{◌≡◌, ℕ, zero, suc, List, [], ◌∷◌, ◌++◌, Some, slice_get, refl, ap, inl, inr, ◌⊎◌}
 use Rattle.ring_workers.specs.Lists.{IsOneOf}
 
 -- nothing stands in the empty list
@@ -52,12 +52,3 @@ among_one y x h = elim (among_cons y [] x h) [ inl e ↦ e | inr t ↦ elim (amo
 -- the last element
 pub among_last : {A : Type 0} (xs : List A) (x : A) → IsOneOf (xs ++ x ∷ []) x
 among_last xs x = among_right xs (x ∷ []) x (among_first x [])
-
--- where a function leads an element
-pub among_map : {A B : Type 0} (f : A → B) (xs : List A) (x : A) → IsOneOf xs x → IsOneOf (map f xs) (f x)
-among_map f xs x h = record { place = h.place; there = at xs h.place h.there }
-  where
-    at : (zs : List _) (k : ℕ) → slice_get zs k ≡ Some x → slice_get (map f zs) k ≡ Some (f x)
-    at [] k e = cc
-    at (z ∷ zs) zero e = let same : z ≡ x = cc in ap (λ a. Some (f a)) same
-    at (z ∷ zs) (suc k) e = at zs k e

@@ -4,28 +4,13 @@ use Rattle.std.proofs.lemmas.Bool.{cases_lt}
 use Rattle.std.proofs.lemmas.Bool.Decides.{nat_tests}
 use Rattle.std.specs.Prelude.{not}
 use Rattle.std.specs.Int.{bit_at, trailing_zeros}
-use Rattle.std.proofs.lemmas.List.{get_or_past}
 use Rattle.std.proofs.lemmas.Nat.Bits.{bit_at-trailing_zeros, bit_at-zero}
 use Rattle.ring_world.specs.private.LinkSets.{IsFirst, IsSummary, bit_of}
 use Rattle.ring_world.proofs.Links.{same_or_not}
 
--- where each word is 0, so is what stands past the last
-word_or_none : (words : List ℕ) → ((k : ℕ) → k < length words → get_or words k 0 ≡ 0) → (k : ℕ) → get_or words k 0 ≡ 0
-word_or_none words zeros k =
-    elim (cases_lt k (length words)) [
-      | inl below ↦ zeros k below
-      | inr past ↦ get_or_past words k 0 past
-    ]
-
 -- a number with a bit isn't 0
 pub bit_not_zero : (n k : ℕ) → bit_at n k ≡ 1 → n ≢ 0
 bit_not_zero n k there = λ zero. absurd (omega (arith, there, ap (λ (m : ℕ). bit_at m k) zero, bit_at-zero k))
-
--- without a word that isn't 0 there is no bit
-pub no_bit : (words : List ℕ) → ((k : ℕ) → k < length words → get_or words k 0 ≡ 0) → (place : ℕ) → bit_of words place ≡ 0
-no_bit words zeros place =
-    let word : get_or words (place / 64) 0 ≡ 0 = word_or_none words zeros (place / 64) in
-    ap (λ (n : ℕ). bit_at n (place % 64)) word ∙ bit_at-zero (place % 64)
 
 -- the first bit of the first word that isn't 0
 pub first_bit : (words : List ℕ) (index word : ℕ) → ((k : ℕ) → k < index → get_or words k 0 ≡ 0) → get_or words index 0 ≡ word → word ≢ 0 → word < 2 ^ 64
