@@ -1,6 +1,7 @@
 //! Rows of histories: their entries in order, also where they take several chunks.
 
 use ring_any::Any;
+use ring_election::RingElection;
 use ring_events::{Command, Reply};
 use ring_id::{GroupName, Refusal};
 use ring_table::{Entry, History, Table};
@@ -16,7 +17,12 @@ fn is_refused(reply: &Reply) -> bool {
 }
 
 // Makes a call of each of these sessions, which is refused since there are no groups.
-fn ask(rt: &impl Abort, table: &mut Table<Any>, group: GroupName, sessions: Range<u32>) {
+fn ask<E: RingElection>(
+    rt: &impl Abort,
+    table: &mut Table<E>,
+    group: GroupName,
+    sessions: Range<u32>,
+) {
     for session in sessions {
         let reply = table.call(session, Command::Members(group));
         assert!(rt; is_refused(&reply));
@@ -25,7 +31,7 @@ fn ask(rt: &impl Abort, table: &mut Table<Any>, group: GroupName, sessions: Rang
 }
 
 // Whether an entry is a call of this session.
-fn is_call(entry: Option<&Entry<Any>>, number: u32) -> bool {
+fn is_call<E>(entry: Option<&Entry<E>>, number: u32) -> bool {
     match entry {
         Some(Entry::Call { session, .. }) => *session == number,
         _ => false,
@@ -33,7 +39,7 @@ fn is_call(entry: Option<&Entry<Any>>, number: u32) -> bool {
 }
 
 // Whether a history has one call each of the sessions from 1 to this one, in order, and no others.
-fn has_calls(history: &History<Any>, count: u32) -> bool {
+fn has_calls<E: RingElection>(history: &History<E>, count: u32) -> bool {
     let mut session = 0u32;
     for entry in history {
         let at = session as usize;
@@ -48,7 +54,7 @@ fn has_calls(history: &History<Any>, count: u32) -> bool {
 #[test]
 fn entries_stand_in_order_over_several_chunks(rt: HostRuntime) {
     let group = GroupName::from_bytes(b"a").expect(&rt, "no name");
-    let mut table = Table::new(rt.alloc());
+    let mut table = Table::<Any>::new(rt.alloc());
     assert!(rt; table.history().is_empty() && table.history().last().is_none());
     ask(&rt, &mut table, group, 1..8193);
     // a full chunk ends the history

@@ -1,7 +1,7 @@
 //! What the rows of tables and of seats share: how something is spelled, and the election of a ring of one member. What
 //! is refused memory is asked for once more; whatever else goes wrong stops the test where it does.
 
-use ring_any::Any;
+use ring_election::RingElection;
 use ring_id::{NoMemory, Side};
 use ring_lines::Spell;
 use ring_node::{Charter, Node, Report, TakeFault};
@@ -29,17 +29,17 @@ pub fn is_spelled<S: Spell>(rt: &impl Abort, alloc: Global, told: &S, line: &[u8
 }
 
 /// The node of the one member of a charter's ring, which has received nothing.
-fn seated_once(
+fn seated_once<E: RingElection>(
     rt: &impl Abort,
     alloc: Global,
-    charter: &Arc<Charter<Any>>,
-) -> Result<Node<Any>, NoMemory> {
+    charter: &Arc<Charter<E>>,
+) -> Result<Node<E>, NoMemory> {
     assert!(rt; charter.roster().len() == 1);
     Node::seat(alloc, Arc::try_clone(charter).expect(rt, "no copy"), 0)
 }
 
 /// The same, asked for once more where memory was refused.
-fn seated(rt: &impl Abort, alloc: Global, charter: &Arc<Charter<Any>>) -> Node<Any> {
+fn seated<E: RingElection>(rt: &impl Abort, alloc: Global, charter: &Arc<Charter<E>>) -> Node<E> {
     match seated_once(rt, alloc, charter) {
         Ok(node) => node,
         Err(NoMemory) => seated_once(rt, alloc, charter).expect(rt, TWICE),
@@ -47,7 +47,11 @@ fn seated(rt: &impl Abort, alloc: Global, charter: &Arc<Charter<Any>>) -> Node<A
 }
 
 /// The node of the one member of a charter's ring, once it knows that it leads.
-pub fn elect(rt: &impl Abort, alloc: Global, charter: &Arc<Charter<Any>>) -> Node<Any> {
+pub fn elect<E: RingElection>(
+    rt: &impl Abort,
+    alloc: Global,
+    charter: &Arc<Charter<E>>,
+) -> Node<E> {
     let mut node = seated(rt, alloc, charter);
     let copy = Arc::try_clone(node.charter()).expect(rt, "no copy");
     let envelope = node.envelope(copy, Side::Right, 0);
@@ -61,7 +65,7 @@ pub fn elect(rt: &impl Abort, alloc: Global, charter: &Arc<Charter<Any>>) -> Nod
 }
 
 /// What a node tells that knows the leader.
-pub fn told_by(rt: &impl Abort, node: &Node<Any>) -> Report<Any> {
+pub fn told_by<E: RingElection>(rt: &impl Abort, node: &Node<E>) -> Report<E> {
     let copy = Arc::try_clone(node.charter()).expect(rt, "no copy");
     node.report(copy).expect(rt, "it knows no leader")
 }

@@ -3,6 +3,7 @@
 
 use crate::rings_of_one::{elect, is_spelled, told_by};
 use ring_any::Any;
+use ring_election::RingElection;
 use ring_events::Reply;
 use ring_id::{GroupName, Refusal};
 use ring_lines::parse_command;
@@ -37,12 +38,12 @@ fn tells(
 }
 
 // A start of the group `a`, with two copies of the new term's charter, is answered so: the charters.
-fn starts(
+fn starts<E: RingElection>(
     rt: &impl Abort,
     alloc: Global,
-    table: &mut Table<Any>,
+    table: &mut Table<E>,
     reply: &[u8],
-) -> Vec<Arc<Charter<Any>>> {
+) -> Vec<Arc<Charter<E>>> {
     let group = GroupName::from_bytes(b"a").expect(rt, "no name");
     let (told, charters) = match table.begin(1, group, 2) {
         (Reply::Refused(Refusal::NoMemory), _) => table.begin(1, group, 2),
@@ -68,7 +69,7 @@ fn begin(rt: &impl Abort, alloc: Global, table: &mut Table<Any>) -> Node<Any> {
 }
 
 // Whether the last entry is a filing that became this.
-fn ends_with(table: &Table<Any>, became: Noting) -> bool {
+fn ends_with<E: RingElection>(table: &Table<E>, became: Noting) -> bool {
     match table.history().last() {
         Some(Entry::Filing { noting, .. }) => *noting == became,
         _ => false,
@@ -76,7 +77,12 @@ fn ends_with(table: &Table<Any>, became: Noting) -> bool {
 }
 
 // This becomes of a report.
-fn files(rt: &impl Abort, table: &mut Table<Any>, report: &Report<Any>, became: Filed) {
+fn files<E: RingElection>(
+    rt: &impl Abort,
+    table: &mut Table<E>,
+    report: &Report<E>,
+    became: Filed,
+) {
     let filed = match table.report(report) {
         Filed::Refused(Refusal::NoMemory) => table.report(report),
         filed => filed,

@@ -4,7 +4,7 @@ ghost use Rattle.std.specs.Prelude.{◌≤◌};
 use crate::grounds::{Ended, Ground, shared};
 use crate::meetings::{new_meeting, reaches};
 use crate::telling::{FOUR, FOUR_ITEMS, FOUR_TOLD, all_know_two, nodes_of, repeated};
-use ring_any::Any;
+use ring_election::RingElection;
 use ring_id::GroupName;
 use ring_node::Node;
 use ring_service::Waiting;
@@ -19,7 +19,7 @@ use std::thread::Threads;
 use std::time::Clock;
 
 // How many reports that were known already stand in a history.
-fn known(table: &Table<Any>) -> usize {
+fn known<E: RingElection>(table: &Table<E>) -> usize {
     let mut known = 0usize;
     for entry in table.history() {
         if let Entry::Filing {
@@ -34,7 +34,7 @@ fn known(table: &Table<Any>) -> usize {
 }
 
 // The reports of four settled nodes are all filed anew, and known already.
-fn finish_known(rt: &impl Abort, table: &mut Table<Any>, nodes: &[Node<Any>]) {
+fn finish_known<E: RingElection>(rt: &impl Abort, table: &mut Table<E>, nodes: &[Node<E>]) {
     let (before, told) = (table.history().len(), known(table));
     assert!(rt; table.finish(nodes).is_ok());
     assert!(rt; known(table) == told.saturating_add(4));
@@ -94,7 +94,7 @@ fn twenty_groups(rt: &impl Abort, alloc: Global) -> Vec<u8> {
 }
 
 // Whether a node is that of a group's member whose worker, of two, has this number.
-fn is_node_of(node: &Node<Any>, group: GroupName, worker: u32) -> bool {
+fn is_node_of<E: RingElection>(node: &Node<E>, group: GroupName, worker: u32) -> bool {
     let charter = node.charter();
     match charter.roster().at(node.position()) {
         Some(member) => charter.group() == group && member.get() % 2 == worker,
@@ -102,18 +102,18 @@ fn is_node_of(node: &Node<Any>, group: GroupName, worker: u32) -> bool {
     }
 }
 
-// Whether a worker of two has the node of its member of this group, or its begin waits.
-fn has_begun(
-    group: GroupName,
-    worker: u32,
-    nodes: &[Node<Any>],
-    waiting: &VecDeque<Waiting>,
-) -> bool {
+// Whether a worker of two has the node of its member of this group.
+fn has_node<E: RingElection>(nodes: &[Node<E>], group: GroupName, worker: u32) -> bool {
     for node in nodes {
         if is_node_of(node, group, worker) {
             return true;
         }
     }
+    false
+}
+
+// Whether the begin of this group waits for a worker.
+fn waits(waiting: &VecDeque<Waiting>, group: GroupName, worker: u32) -> bool {
     for begin in waiting {
         if begin.worker == worker as usize && begin.charter.group() == group {
             return true;
@@ -122,14 +122,26 @@ fn has_begun(
     false
 }
 
-// Both workers have begun each of the twenty groups.
-fn all_begun(rt: &impl Abort, alloc: Global, nodes: &[Node<Any>], waiting: &VecDeque<Waiting>) {
+// The group with this number of the twenty.
+fn group_of(rt: &impl Abort, alloc: Global, number: u32) -> GroupName {
+    let name = format!(in alloc; "g{number}").expect(rt, "no memory");
+    let group = GroupName::from_bytes(name.as_bytes()).expect(rt, "no name");
+    drop(name);
+    group
+}
+
+// Both workers have begun each of the twenty groups, or its begin waits.
+fn all_begun<E: RingElection>(
+    rt: &impl Abort,
+    alloc: Global,
+    nodes: &[Node<E>],
+    waiting: &VecDeque<Waiting>,
+) {
     for number in 0..20 {
-        let name = format!(in alloc; "g{number}").expect(rt, "no memory");
-        let group = GroupName::from_bytes(name.as_bytes()).expect(rt, "no name");
-        drop(name);
-        assert!(rt; has_begun(group, 0, nodes, waiting));
-        assert!(rt; has_begun(group, 1, nodes, waiting));
+        let group = group_of(rt, alloc, number);
+        for worker in [0, 1] {
+            assert!(rt; has_node(nodes, group, worker) || waits(waiting, group, worker));
+        }
     }
 }
 

@@ -3,6 +3,7 @@
 
 use crate::grounds::{Ended, Ground, shared};
 use ring_any::Any;
+use ring_election::RingElection;
 use ring_service::Service;
 use ring_table::{Entry, LockedTable, Table};
 use ring_workers::OpenGate;
@@ -18,7 +19,7 @@ const SECOND: &[u8] = b"join a 5\ncut a 5 left\ngroups";
 const SECOND_TOLD: &[u8] = b"no member\nno bad-line\ngroups a\n";
 
 // How many calls stand in a history.
-fn calls(table: &Table<Any>) -> usize {
+fn calls<E: RingElection>(table: &Table<E>) -> usize {
     let mut calls = 0usize;
     for entry in table.history() {
         if matches!(entry, Entry::Call { .. }) {

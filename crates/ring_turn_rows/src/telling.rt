@@ -2,6 +2,7 @@
 //! refused, the test ends.
 
 use ring_any::Any;
+use ring_election::RingElection;
 use ring_id::NodeId;
 use ring_lines::{FromRead, ToWrite};
 use ring_node::Node;
@@ -63,7 +64,11 @@ pub fn repeated(rt: &impl Abort, alloc: Global, text: &[u8], times: u32) -> Vec<
 }
 
 /// The nodes that all workers handed over, each of which was told to stop.
-pub fn nodes_of(rt: &impl Abort, alloc: Global, handed: Vec<Handed<Any>>) -> Vec<Node<Any>> {
+pub fn nodes_of<E: RingElection>(
+    rt: &impl Abort,
+    alloc: Global,
+    handed: Vec<Handed<E>>,
+) -> Vec<Node<E>> {
     let mut nodes = Vec::new(alloc);
     for one in handed {
         assert!(rt; one.why == Why::Stopped);
@@ -85,7 +90,7 @@ pub const FOUR_TOLD: &[u8] = b"ok\nok\nok\nok\nok\nterm 1\n";
 pub const FOUR_ITEMS: u64 = 30;
 
 /// These are the four nodes of that term, settled, which all know 2.
-pub fn all_know_two(rt: &impl Abort, nodes: &[Node<Any>]) {
+pub fn all_know_two<E: RingElection>(rt: &impl Abort, nodes: &[Node<E>]) {
     let first = nodes.first().expect(rt, "no node");
     assert!(rt; nodes.len() == 4);
     assert!(rt; settle(first.charter(), nodes) == Settlement::Settled);

@@ -4,6 +4,7 @@ ghost use Rattle.std.specs.Prelude.{◌≡◌, ℕ, [], vec_capacity, vec_len};
 ghost use Rattle.ring_turn.specs.Seats.{fresh_seats};
 
 use ring_any::Any;
+use ring_election::RingElection;
 use ring_events::{Command, Reply};
 use ring_id::{GroupName, NodeId};
 use ring_lines::parse_command;
@@ -207,7 +208,7 @@ fn join_hundred<R: Abort + Wait, S: Shared>(
 }
 
 // Whether an entry is that of this call, which was told that it is done.
-fn is_join(entry: Option<&Entry<Any>>, from: u32, number: u32) -> bool {
+fn is_join<E>(entry: Option<&Entry<E>>, from: u32, number: u32) -> bool {
     let Some(
         Entry::Call {
             session,
@@ -222,7 +223,7 @@ fn is_join(entry: Option<&Entry<Any>>, from: u32, number: u32) -> bool {
 }
 
 // There are a hundred places, which rise, ten and ten of them without a gap, and each has its call.
-fn are_placed(rt: &impl Abort, table: &Table<Any>, places: &[usize], from: u32) {
+fn are_placed<E: RingElection>(rt: &impl Abort, table: &Table<E>, places: &[usize], from: u32) {
     let (mut last, mut number) = (0_usize, from);
     for place in places {
         let entry = table.history().get(place.saturating_sub(1));
