@@ -3,7 +3,7 @@ use anyhow::{Context, Error, Result, bail};
 use ring_any::Any;
 use ring_lines::{FromRead, ToWrite};
 use ring_service::{Closing, Front, Service, StartFault};
-use ring_table::{LockedSeat, LockedTable, Table};
+use ring_table::{Access, LockedSeat, LockedTable, Table};
 use std::alloc::Global;
 use std::sync::{Arc, Wait};
 use std::thread;
@@ -48,12 +48,17 @@ where
 {
     let Opened { service, seats } = open(rt, alloc, scripts.len())?;
     let replies = answered(rt, service.front(), alloc, scripts, last, seats);
-    let table = closed(rt, service);
-    let replies = replies?;
+    let (replies, table) = both(replies, closed(rt, service))?;
     Ok(Crowd {
-        table: table?,
+        table: table.into_table(),
         replies,
     })
+}
+
+// Two results as one: the first that has failed is why there is none.
+fn both<T: Drop, U: Drop>(first: Result<T>, second: Result<U>) -> Result<(T, U)> {
+    let first = first?;
+    Ok((first, second?))
 }
 
 // The replies to each of these scripts, all at once, and then to the last one.
@@ -161,7 +166,12 @@ fn run_all<R: Threads + Wait + Sync>(
 // Whether a reply in this text is undecided.
 fn is_undecided(replies: &[u8]) -> bool {
     let word = b"undecided".as_slice();
-    replies.windows(word.len()).any(|part| part == word)
+    for part in replies.windows(word.len()) {
+        if part == word {
+            return true;
+        }
+    }
+    false
 }
 
 // All replies of the last session, which asks until none is undecided.
@@ -189,8 +199,12 @@ fn look<R: Wait + Clock>(
     bail!("a term that was left alone is still undecided")
 }
 
-// The table of a service that is closed.
-fn closed<R: Threads + Wait>(rt: &R, service: Service<LockedTable<Any>>) -> Result<Table<Any>> {
+// What a service stood on that is closed.
+fn closed<A, R: Threads + Wait>(rt: &R, service: Service<A>) -> Result<A>
+where
+    A: Access<Any> + Send + Sync + Drop + 'static,
+    A::Seat: Send + 'static,
+{
     let Closing {
         access,
         handed,
@@ -198,6 +212,5 @@ fn closed<R: Threads + Wait>(rt: &R, service: Service<LockedTable<Any>>) -> Resu
     } = service.close(rt);
     drop(handed);
     drop(waiting);
-    let table = Arc::into_inner(access).context("the table is still shared")?;
-    Ok(table.into_table())
+    Arc::into_inner(access).context("the table is still shared")
 }

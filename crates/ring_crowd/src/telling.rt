@@ -1,8 +1,8 @@
 //! The lines of a history.
-use anyhow::{Result, anyhow};
+use anyhow::{Result, ensure};
 use ring_any::Any;
 use ring_events::Command;
-use ring_id::{GroupName, NodeId};
+use ring_id::{GroupName, NodeId, TermNo};
 use ring_lines::Spell;
 use ring_table::Entry;
 use ring_terms::Noting;
@@ -17,9 +17,7 @@ pub fn tell(alloc: Global, entry: &Entry<Any>) -> Result<Vec<u8>> {
     write_entry(&mut text, entry)?;
     let mut line = text.into_bytes();
     if let Entry::Call { reply, .. } = entry {
-        reply
-            .spell(&mut line)
-            .map_err(|_| anyhow!("a reply is not written"))?;
+        ensure!(reply.spell(&mut line).is_ok(), "a reply is not written");
     }
     Ok(line)
 }
@@ -31,11 +29,7 @@ fn write_entry(text: &mut String, entry: &Entry<Any>) -> Result<()> {
             session,
             command,
             ..
-        } => {
-            write!(text, "{session} ")?;
-            write_command(text, command)?;
-            text.push_str(" => ")?;
-        }
+        } => write_call(text, *session, command),
         Entry::Filing {
             group,
             term,
@@ -43,14 +37,30 @@ fn write_entry(text: &mut String, entry: &Entry<Any>) -> Result<()> {
             leader,
             noting,
         } => {
-            write!(text, "filed {} {} ", name(group)?, term.get())?;
-            write_node(text, *member)?;
-            text.push(' ')?;
-            write_node(text, *leader)?;
-            writeln!(text, " {}", word(*noting))?;
+            write_term(text, group, *term)?;
+            write_nodes(text, *member, *leader)?;
+            Ok(writeln!(text, " {}", word(*noting))?)
         }
     }
-    Ok(())
+}
+
+// Writes a call, up to its reply.
+fn write_call(text: &mut String, session: u32, command: &Command<Any>) -> Result<()> {
+    write!(text, "{session} ")?;
+    write_command(text, command)?;
+    Ok(text.push_str(" => ")?)
+}
+
+// Writes the term of a report, and a space.
+fn write_term(text: &mut String, group: &GroupName, term: TermNo) -> Result<()> {
+    Ok(write!(text, "filed {} {} ", name(group)?, term.get())?)
+}
+
+// Writes a member and a leader, with a space between.
+fn write_nodes(text: &mut String, member: NodeId, leader: NodeId) -> Result<()> {
+    write_node(text, member)?;
+    text.push(' ')?;
+    write_node(text, leader)
 }
 
 // A group's name as text.
@@ -81,22 +91,31 @@ fn write_command(text: &mut String, command: &Command<Any>) -> Result<()> {
     let (word, group) = head(command);
     text.push_str(word)?;
     if let Some(group) = group {
-        write!(text, " {}", name(group)?)?;
+        write_word(text, group.bytes())?;
     }
     match command {
-        Command::Create(_, kind) => write!(text, " {}", str::from_utf8(kind.word())?)?,
+        Command::Create(_, kind) => write_word(text, kind.word()),
         Command::Join(_, node) => {
             text.push(' ')?;
-            write_node(text, *node)?;
+            write_node(text, *node)
         }
-        Command::Leave(_, node) | Command::Who(_, node) => write!(text, " {}", node.get())?,
-        _ => {}
+        Command::Leave(_, node) | Command::Who(_, node) => write_number(text, node.get()),
+        _ => Ok(()),
     }
-    Ok(())
+}
+
+// Writes a space and a word.
+fn write_word(text: &mut String, word: &[u8]) -> Result<()> {
+    Ok(write!(text, " {}", str::from_utf8(word)?)?)
+}
+
+// Writes a space and a number.
+fn write_number(text: &mut String, number: u32) -> Result<()> {
+    Ok(write!(text, " {number}")?)
 }
 
 // The word that a command begins with, and the group that it is about.
-fn head(command: &Command<Any>) -> (&'static str, Option<&GroupName>) {
+fn head<E>(command: &Command<E>) -> (&'static str, Option<&GroupName>) {
     match command {
         Command::Create(group, _) => ("create", Some(group)),
         Command::Join(group, _) => ("join", Some(group)),

@@ -14,17 +14,32 @@ use std::process::Abort;
 use std::sync::Wait;
 use std::time::Clock;
 
+/// An item that comes to a worker.
+#[derive(Clone, Copy)]
+pub enum Comes {
+    /// The charter of a ring, which begins.
+    Begin(Ring),
+    /// The first packet of a ring.
+    Packet(Ring),
+}
+
 /// What comes to a worker, and when it ends.
 #[derive(Clone, Copy)]
 pub struct Course<'a> {
-    /// The rings whose charters begin.
-    pub begins: &'a [Ring],
-    /// The rings whose first packets come then.
-    pub packets: &'a [Ring],
+    /// What comes, in order.
+    pub items: &'a [Comes],
     /// When it ends.
     pub until: Until,
     /// What its desk answers.
     pub filed: Filed,
+}
+
+/// An item of an election, as it comes to a worker.
+fn item<E: RingElection>(rt: &impl Abort, alloc: Global, algorithm: E, comes: Comes) -> Item<E> {
+    match comes {
+        Comes::Begin(ring) => Item::Begin(charter(rt, alloc, algorithm, ring)),
+        Comes::Packet(ring) => first_packet(rt, alloc, charter(rt, alloc, algorithm, ring)),
+    }
 }
 
 /// Puts what comes to a worker into its inbox.
@@ -35,13 +50,8 @@ fn fill<E: RingElection, R: Abort + Wait>(
     course: &Course,
     to: &mut SenderPass<Item<E>>,
 ) {
-    for ring in course.begins {
-        let charter = charter(rt, alloc, algorithm, *ring);
-        assert!(rt; stores(rt, to, Item::Begin(charter)));
-    }
-    for ring in course.packets {
-        let charter = charter(rt, alloc, algorithm, *ring);
-        assert!(rt; stores(rt, to, first_packet(rt, alloc, charter)));
+    for comes in course.items {
+        assert!(rt; stores(rt, to, item(rt, alloc, algorithm, *comes)));
     }
 }
 
@@ -106,6 +116,16 @@ fn handed<E: RingElection, R: Abort + Wait + Clock + Copy>(
     handed
 }
 
+/// Why a worker ended that handed this over.
+fn why_of<E: RingElection>(rt: &impl Abort, alloc: Global, handed: Handed<E>) -> Why {
+    let mut nodes = Vec::new(alloc);
+    let rest = moved(rt, handed, &mut nodes);
+    let why = rest.why;
+    drop(rest);
+    drop(nodes);
+    why
+}
+
 /// Why a worker ends whose inbox has no senders left. Its own pass is to another inbox.
 pub fn why_alone<E: RingElection, R: Abort + Wait + Clock>(rt: &R, alloc: Global) -> Why {
     let Place { receiver, senders } = Place::<E>::opened(rt, alloc, 1, 1);
@@ -116,8 +136,7 @@ pub fn why_alone<E: RingElection, R: Abort + Wait + Clock>(rt: &R, alloc: Global
     } = Place::<E>::opened(rt, alloc, 1, 1);
     let place = Place { receiver, senders };
     let handed = worked(rt, alloc, 0, place, &OpenGate, Filed::Noted);
-    let why = handed.why;
-    drop(handed);
+    let why = why_of(rt, alloc, handed);
     drop(other);
     why
 }
@@ -130,7 +149,10 @@ pub fn moved<E: RingElection>(
 ) -> Rest<E> {
     match handed.append_to(nodes) {
         Ok(rest) => rest,
-        Err(back) => back.append_to(nodes).ok().expect(rt, TWICE),
+        Err(back) => match back.append_to(nodes) {
+            Ok(rest) => rest,
+            Err(_) => panic!(rt; "{TWICE}"),
+        },
     }
 }
 

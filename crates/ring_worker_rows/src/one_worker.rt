@@ -1,7 +1,7 @@
 //! One worker, in one thread, on the election of Chang and Roberts: how it settles a ring, what it drops, and how it
 //! ends.
 
-use crate::courses::{Course, End, Run, ran, why_alone};
+use crate::courses::{Comes, Course, End, Run, ran, why_alone};
 use crate::equal::equal;
 use crate::gates::Until;
 use crate::rings::Ring;
@@ -64,8 +64,7 @@ fn comes_to<R: Abort + Wait + Clock + Copy>(
 #[test]
 fn a_ring_settles(rt: HostRuntime) {
     let course = Course {
-        begins: &[RING],
-        packets: &[],
+        items: &[Comes::Begin(RING)],
         until: Until::Stop(ITEMS),
         filed: Filed::Noted,
     };
@@ -75,8 +74,11 @@ fn a_ring_settles(rt: HostRuntime) {
 #[test]
 fn a_repeat_and_a_stranger_are_dropped_and_counted(rt: HostRuntime) {
     let course = Course {
-        begins: &[RING],
-        packets: &[RING, OTHER],
+        items: &[
+            Comes::Begin(RING),
+            Comes::Packet(RING),
+            Comes::Packet(OTHER),
+        ],
         until: Until::Stop(ITEMS + 2),
         filed: Filed::Noted,
     };
@@ -86,8 +88,7 @@ fn a_repeat_and_a_stranger_are_dropped_and_counted(rt: HostRuntime) {
 #[test]
 fn a_newer_term_drops_the_older_nodes(rt: HostRuntime) {
     let course = Course {
-        begins: &[RING, NEWER],
-        packets: &[],
+        items: &[Comes::Begin(RING), Comes::Begin(NEWER)],
         until: Until::Stop(10),
         filed: Filed::Noted,
     };
@@ -97,8 +98,7 @@ fn a_newer_term_drops_the_older_nodes(rt: HostRuntime) {
 #[test]
 fn an_item_of_an_older_term_is_dropped_and_not_counted(rt: HostRuntime) {
     let course = Course {
-        begins: &[NEWER, RING],
-        packets: &[RING],
+        items: &[Comes::Begin(NEWER), Comes::Begin(RING), Comes::Packet(RING)],
         until: Until::Stop(8),
         filed: Filed::Noted,
     };
@@ -109,8 +109,7 @@ fn an_item_of_an_older_term_is_dropped_and_not_counted(rt: HostRuntime) {
 #[test]
 fn a_packet_seats_its_receiver_first(rt: HostRuntime) {
     let course = Course {
-        begins: &[],
-        packets: &[RING],
+        items: &[Comes::Packet(RING)],
         until: Until::Stop(1),
         filed: Filed::Noted,
     };
@@ -129,8 +128,11 @@ fn a_packet_seats_its_receiver_first(rt: HostRuntime) {
 fn a_halted_worker_has_not_handled_all(rt: HostRuntime) {
     for turn in 1..ITEMS + 3 {
         let course = Course {
-            begins: &[RING],
-            packets: &[RING, OTHER],
+            items: &[
+                Comes::Begin(RING),
+                Comes::Packet(RING),
+                Comes::Packet(OTHER),
+            ],
             until: Until::Halt(turn),
             filed: Filed::Noted,
         };
@@ -155,8 +157,7 @@ fn keeps_reports<R: Abort + Wait + Clock + Copy>(
     unfiled: usize,
 ) {
     let course = Course {
-        begins: &[ring],
-        packets: &[],
+        items: &[Comes::Begin(ring)],
         until: Until::Stop(ITEMS),
         filed: Filed::Refused(refusal),
     };

@@ -3,7 +3,7 @@
 //! What is refused memory before the worker begins, or when that has ended, is asked for once more, so the row comes to its
 //! end whichever growth is refused, if it is one alone: a sweep refuses each in turn.
 
-use crate::courses::{Course, End, Run, ran};
+use crate::courses::{Comes, Course, End, Run, ran};
 use crate::equal::equal;
 use crate::gates::Until;
 use crate::rings::Ring;
@@ -21,8 +21,7 @@ const ITEMS: u64 = 13;
 
 /// The course of a worker on the ring.
 const COURSE: Course = Course {
-    begins: &[RING],
-    packets: &[],
+    items: &[Comes::Begin(RING)],
     until: Until::Stop(ITEMS),
     filed: Filed::Noted,
 };

@@ -72,10 +72,10 @@ fn begun<E: RingElection, R: Abort + Wait>(
     (place, own)
 }
 
-/// Exchanges a pass of two places that have two each, all to their own inbox: then each has one to each inbox.
-fn exchange<E: RingElection>(rt: &impl Abort, zero: &mut Place<E>, one: &mut Place<E>) {
-    assert!(rt; zero.senders.len() == WORKERS && one.senders.len() == WORKERS);
-    mem::swap(&mut zero.senders[1], &mut one.senders[0]);
+/// Exchanges a pass of two workers that have two each, all to their own inbox: then each has one to each inbox.
+fn exchange<T>(rt: &impl Abort, zero: &mut Vec<T>, one: &mut Vec<T>) {
+    assert!(rt; zero.len() == WORKERS && one.len() == WORKERS);
+    mem::swap(&mut zero[1], &mut one[0]);
 }
 
 /// Runs both workers, and gives their nodes.
@@ -108,7 +108,7 @@ fn settles<R: Abort + Threads + Wait + Clock + Copy + Send + Sync>(
     let charter = charter(rt, alloc, Peterson, Ring(1, &[4, 1, 3, 2]));
     let (mut first, mut to_first) = begun(rt, alloc, &charter, capacity);
     let (mut last, mut to_last) = begun(rt, alloc, &charter, capacity);
-    exchange(rt, &mut first, &mut last);
+    exchange(rt, &mut first.senders, &mut last.senders);
     let gate = Meeting::new(*rt, 2);
     let (nodes, _) = thread::join(
         rt,
