@@ -18,16 +18,16 @@ SHARED = ("session_rows::", "thread_rows::")
 # Tests that ask once more, by crate and by the beginnings of their names: for each growth they have to pass.
 ASK_AGAIN = {
     "ring_line_rows_tests": ("",),
-    "ring_rows_tests": ("",),
-    "ring_table_rows_tests": ("seat_rows::", "table_rows::"),
-    "ring_turn_rows_tests": SHARED,
-    "ring_word_rows_tests": ("",),
-    "ring_worker_rows_tests": ("starved_worker::",),
+    "ring_rows_tests": (
+        "node_rows::", "note_rows::", "scan_rows::", "schedules::", "settle_rows::", "work_rows::",
+        "workers::starved_worker::", "world_rows::",
+    ),
+    "ring_table_rows_tests": ("seat_rows::", "table_rows::", *SHARED),
 }
 # Tests that start threads, and end whichever growth is refused.
 THREADED = {
     "ring_server_rows_tests": ("listening::a_failed_", "running::a_run_says_", "running::a_spent_guest_"),
-    "ring_turn_rows_tests": SHARED,
+    "ring_table_rows_tests": SHARED,
 }
 # What the test program says where a test ends by an error, and where it stops at an assertion.
 ENDED, STOPPED = b"the test failed: its result gives status 1\n", b"\ntest stopped at "

@@ -1,10 +1,13 @@
 //! Worked rows of lines: what a client may ask, lines of replies, lists of events, what readers give, pages and ends
-//! take, how lines are answered, and replays that fail. Each has the values that it must come to. What a line and its
-//! reply can say is in the schedules of `ring_replays`.
+//! take, how lines are answered, and replays that fail. And of the program's words and its configuration: the order that
+//! a command line gives, or the text that refuses it, and the configuration that a text spells, or none. Each has the
+//! values that it must come to. What a line and its reply can say is in the schedules of `ring_replays`.
 #![tactic(auto)]
 
 #[cfg(test)]
 mod answering;
+#[cfg(test)]
+mod configurations;
 #[cfg(test)]
 mod ends;
 #[cfg(test)]
@@ -23,3 +26,5 @@ mod queue;
 mod reader;
 #[cfg(test)]
 mod replaying;
+#[cfg(test)]
+mod words;

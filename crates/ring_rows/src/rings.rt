@@ -1,4 +1,4 @@
-//! The rings of the rows, and their charters.
+//! The identities and rings of the rows, and their charters. What is refused memory is asked for once more.
 
 use crate::memory::{TWICE, add};
 use ring_election::RingElection;
@@ -14,17 +14,44 @@ pub fn identity(rt: &impl Abort, number: u32) -> NodeId {
     NodeId::new(number).expect(rt, "no identity is 0")
 }
 
+/// The identity with this number and this weight.
+pub fn weighted(rt: &impl Abort, number: u32, weight: u16) -> NodeId {
+    NodeId::weighted(number, weight).expect(rt, "no identity is 0")
+}
+
+/// The identities with these numbers.
+pub fn identities(rt: &impl Abort, alloc: Global, numbers: &[u32]) -> Vec<NodeId> {
+    let mut members = Vec::new(alloc);
+    for number in numbers {
+        add(rt, &mut members, identity(rt, *number));
+    }
+    members
+}
+
+/// The numbers up to this one, from 1 on.
+pub fn rising(rt: &impl Abort, alloc: Global, most: u32) -> Vec<u32> {
+    let mut numbers = Vec::new(alloc);
+    for number in 0..most {
+        add(rt, &mut numbers, number + 1);
+    }
+    numbers
+}
+
+/// The same numbers, the greatest first.
+pub fn falling(rt: &impl Abort, alloc: Global, most: u32) -> Vec<u32> {
+    let mut numbers = rising(rt, alloc, most);
+    numbers.reverse();
+    numbers
+}
+
 /// The name of the group that rows speak of.
 pub fn name(rt: &impl Abort) -> GroupName {
     GroupName::from_bytes(b"a").expect(rt, "no name")
 }
 
-/// The ring of these numbers, in this order. Asked for once more where memory was refused.
+/// The ring of these numbers, in this order.
 pub fn ring(rt: &impl Abort, alloc: Global, numbers: &[u32]) -> Roster {
-    let mut members = Vec::new(alloc);
-    for number in numbers {
-        add(rt, &mut members, identity(rt, *number));
-    }
+    let members = identities(rt, alloc, numbers);
     let ring = match Roster::from_members(alloc, &members) {
         Ok(ring) => ring,
         Err(_) => Roster::from_members(alloc, &members).expect(rt, "no ring"),
@@ -33,8 +60,19 @@ pub fn ring(rt: &impl Abort, alloc: Global, numbers: &[u32]) -> Roster {
     ring
 }
 
-/// The charter of this term of a group on the ring of these numbers. Asked for once more where memory was
-/// refused.
+/// The charter of a term of a group on the ring of these numbers.
+fn charter_once<E: RingElection>(
+    rt: &impl Abort,
+    alloc: Global,
+    term: u16,
+    algorithm: E,
+    numbers: &[u32],
+) -> Result<Arc<Charter<E>>, NoMemory> {
+    let term = TermNo::new(term).expect(rt, "terms go from 1 to 1000");
+    Charter::new(alloc, name(rt), term, algorithm, ring(rt, alloc, numbers))
+}
+
+/// The same, asked for once more where memory was refused.
 pub fn charter<E: RingElection>(
     rt: &impl Abort,
     alloc: Global,
@@ -42,13 +80,8 @@ pub fn charter<E: RingElection>(
     algorithm: E,
     numbers: &[u32],
 ) -> Arc<Charter<E>> {
-    let term = TermNo::new(term).expect(rt, "terms go from 1 to 1000");
-    let group = name(rt);
-    match Charter::new(alloc, group, term, algorithm, ring(rt, alloc, numbers)) {
+    match charter_once(rt, alloc, term, algorithm, numbers) {
         Ok(charter) => charter,
-        Err(NoMemory) => {
-            let ring = ring(rt, alloc, numbers);
-            Charter::new(alloc, group, term, algorithm, ring).expect(rt, TWICE)
-        }
+        Err(NoMemory) => charter_once(rt, alloc, term, algorithm, numbers).expect(rt, TWICE),
     }
 }

@@ -1,6 +1,7 @@
 //! What the rows of tables and of seats share: how something is spelled, and the election of a ring of one member. What
 //! is refused memory is asked for once more; whatever else goes wrong stops the test where it does.
 
+use crate::memory::{TWICE, with_room};
 use ring_election::RingElection;
 use ring_id::{NoMemory, Side};
 use ring_lines::Spell;
@@ -9,20 +10,9 @@ use std::alloc::Global;
 use std::process::Abort;
 use std::sync::Arc;
 
-/// What a test says that stops where memory was refused twice.
-pub const TWICE: &str = "memory was refused twice";
-
-/// Room for a line.
-fn room(rt: &impl Abort, alloc: Global) -> Vec<u8> {
-    match Vec::with_capacity(alloc, 64) {
-        Ok(text) => text,
-        Err(_) => Vec::with_capacity(alloc, 64).expect(rt, TWICE),
-    }
-}
-
 /// Whether a reply or an answer is spelled by this line.
 pub fn is_spelled<S: Spell>(rt: &impl Abort, alloc: Global, told: &S, line: &[u8]) -> bool {
-    let mut text = room(rt, alloc);
+    let mut text = with_room(rt, alloc, 64);
     let is_spelled = told.spell(&mut text).is_ok() && text.as_slice() == line;
     drop(text);
     is_spelled

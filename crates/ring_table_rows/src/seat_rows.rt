@@ -2,7 +2,8 @@
 //! is refused memory is asked for once more.
 ghost use Rattle.std.specs.Prelude.{◌≡◌, ◌*◌, ◌^◌, ◌<◌};
 
-use crate::rings_of_one::{TWICE, elect, is_spelled, told_by};
+use crate::memory::TWICE;
+use crate::rings_of_one::{elect, is_spelled, told_by};
 use ring_any::Any;
 use ring_id::{GroupName, NoMemory, Refusal};
 use ring_lines::parse_command;

@@ -1,0 +1,200 @@
+//! Courses of one worker, in one thread: what comes to it, when it ends, and what it comes to. What is refused memory
+//! outside the worker is asked for once more.
+ghost use Rattle.std.specs.Prelude.{◌<◌};
+
+use crate::memory::TWICE;
+use crate::workers::gates::{Answers, EndGate, Until};
+use crate::workers::items::{Ring, charter, first_packet, stores};
+use ring_election::RingElection;
+use ring_inbox::{ReceiverPass, SenderPass, inbox};
+use ring_node::Node;
+use ring_workers::{Filed, Gate, Handed, Item, OpenGate, Rest, Why, Worker, run_worker};
+use ring_world::{Settlement, settle};
+use std::alloc::Global;
+use std::process::Abort;
+use std::sync::Wait;
+use std::time::Clock;
+
+/// An item that comes to a worker.
+#[derive(Clone, Copy)]
+pub enum Comes {
+    /// The charter of a ring, which begins.
+    Begin(Ring),
+    /// The first packet of a ring.
+    Packet(Ring),
+}
+
+/// What comes to a worker, and when it ends.
+#[derive(Clone, Copy)]
+pub struct Course<'a> {
+    /// What comes, in order.
+    pub items: &'a [Comes],
+    /// When it ends.
+    pub until: Until,
+    /// What its desk answers.
+    pub filed: Filed,
+}
+
+/// An item of an election, as it comes to a worker.
+fn item<E: RingElection>(rt: &impl Abort, alloc: Global, algorithm: E, comes: Comes) -> Item<E> {
+    match comes {
+        Comes::Begin(ring) => Item::Begin(charter(rt, alloc, algorithm, ring)),
+        Comes::Packet(ring) => first_packet(rt, alloc, charter(rt, alloc, algorithm, ring)),
+    }
+}
+
+/// Puts what comes to a worker into its inbox.
+fn fill<E: RingElection, R: Abort + Wait>(
+    rt: &R,
+    alloc: Global,
+    algorithm: E,
+    course: &Course,
+    to: &mut SenderPass<Item<E>>,
+) {
+    for comes in course.items {
+        assert!(rt; stores(rt, to, item(rt, alloc, algorithm, *comes)));
+    }
+}
+
+/// A worker's inbox, and its passes to the inboxes of all workers.
+#[derive(Drop)]
+pub struct Place<E: RingElection> {
+    pub receiver: ReceiverPass<Item<E>>,
+    pub senders: Vec<SenderPass<Item<E>>>,
+}
+
+impl<E: RingElection> Place<E> {
+    /// An inbox of this capacity, and so many passes, all to itself. Asked for once more where memory was refused.
+    pub fn opened(rt: &impl Abort, alloc: Global, capacity: usize, senders: usize) -> Place<E>
+        requires capacity { 0 < capacity }
+        requires senders { 0 < senders }
+    {
+        let (receiver, senders) = match inbox::<Item<E>>(alloc, capacity, senders) {
+            Ok(opened) => opened,
+            Err(_) => inbox::<Item<E>>(alloc, capacity, senders).expect(rt, TWICE),
+        };
+        Place { receiver, senders }
+    }
+}
+
+/// Runs the worker of this number, one of as many as it has passes.
+pub fn worked<E: RingElection, R: Abort + Wait + Clock, G: Gate>(
+    rt: &R,
+    alloc: Global,
+    number: usize,
+    mut place: Place<E>,
+    gate: &G,
+    filed: Filed,
+) -> Handed<E> {
+    let workers = place.senders.len();
+    assert!(rt; number < workers);
+    let worker = Worker::new(alloc, number, workers);
+    let handed = run_worker(
+        rt,
+        worker,
+        &mut place.receiver,
+        &mut place.senders,
+        gate,
+        Answers(filed),
+    );
+    drop(place);
+    handed
+}
+
+/// Runs a worker on its course.
+fn handed<E: RingElection, R: Abort + Wait + Clock + Copy>(
+    rt: &R,
+    alloc: Global,
+    algorithm: E,
+    course: &Course,
+) -> Handed<E> {
+    let mut place = Place::opened(rt, alloc, 64, 2);
+    let mut own = place.senders.pop().expect(rt, "two passes");
+    fill(rt, alloc, algorithm, course, &mut own);
+    let gate = EndGate::new(*rt, course.until, own);
+    let handed = worked(rt, alloc, 0, place, &gate, course.filed);
+    drop(gate);
+    handed
+}
+
+/// Why a worker ended that handed this over.
+fn why_of<E: RingElection>(rt: &impl Abort, alloc: Global, handed: Handed<E>) -> Why {
+    let mut nodes = Vec::new(alloc);
+    let rest = moved(rt, handed, &mut nodes);
+    let why = rest.why;
+    drop(rest);
+    drop(nodes);
+    why
+}
+
+/// Why a worker ends whose inbox has no senders left. Its own pass is to another inbox.
+pub fn why_alone<E: RingElection, R: Abort + Wait + Clock>(rt: &R, alloc: Global) -> Why {
+    let Place { receiver, senders } = Place::<E>::opened(rt, alloc, 1, 1);
+    drop(senders);
+    let Place {
+        receiver: other,
+        senders,
+    } = Place::<E>::opened(rt, alloc, 1, 1);
+    let place = Place { receiver, senders };
+    let handed = worked(rt, alloc, 0, place, &OpenGate, Filed::Noted);
+    let why = why_of(rt, alloc, handed);
+    drop(other);
+    why
+}
+
+/// Moves the nodes of a worker behind a list, and gives the rest. Asked for once more where memory was refused.
+pub fn moved<E: RingElection>(
+    rt: &impl Abort,
+    handed: Handed<E>,
+    nodes: &mut Vec<Node<E>>,
+) -> Rest<E> {
+    match handed.append_to(nodes) {
+        Ok(rest) => rest,
+        Err(back) => match back.append_to(nodes) {
+            Ok(rest) => rest,
+            Err(_) => panic!(rt; "{TWICE}"),
+        },
+    }
+}
+
+/// What a worker comes to.
+#[derive(Clone, Copy, Debug, PartialEq)]
+pub struct End {
+    pub why: Why,
+    pub dropped: u64,
+    pub unfiled: usize,
+    pub outbox: usize,
+    pub nodes: usize,
+    pub settlement: Settlement,
+}
+
+/// A worker's run: its end, and its nodes.
+#[derive(Drop)]
+pub struct Run<E: RingElection> {
+    pub end: End,
+    pub nodes: Vec<Node<E>>,
+}
+
+/// Runs a worker on its course, and judges its nodes by the charter of a ring.
+pub fn ran<E: RingElection, R: Abort + Wait + Clock + Copy>(
+    rt: &R,
+    alloc: Global,
+    algorithm: E,
+    course: &Course,
+    ring: Ring,
+) -> Run<E> {
+    let charter = charter(rt, alloc, algorithm, ring);
+    let mut nodes = Vec::new(alloc);
+    let rest = moved(rt, handed(rt, alloc, algorithm, course), &mut nodes);
+    let end = End {
+        why: rest.why,
+        dropped: rest.dropped,
+        unfiled: rest.unfiled.len(),
+        outbox: rest.outbox.len(),
+        nodes: nodes.len(),
+        settlement: settle(&charter, &nodes),
+    };
+    drop(rest);
+    drop(charter);
+    Run { end, nodes }
+}

@@ -1,0 +1,51 @@
+//! What comes to the workers of the rows: the rings, and items of them. Whatever goes wrong stops the test where it does.
+
+use crate::rings;
+use ring_election::RingElection;
+use ring_id::Side;
+use ring_inbox::{Put, SenderPass};
+use ring_node::{Charter, Node};
+use ring_workers::Item;
+use std::alloc::Global;
+use std::process::Abort;
+use std::sync::{Arc, Wait};
+
+/// The ring of a term of group `a`: its term, and the numbers of its members.
+#[derive(Clone, Copy)]
+pub struct Ring(pub u16, pub &'static [u32]);
+
+/// The charter of an election on a ring. Asked for once more where memory was refused.
+pub fn charter<E: RingElection>(
+    rt: &impl Abort,
+    alloc: Global,
+    algorithm: E,
+    ring: Ring,
+) -> Arc<Charter<E>> {
+    rings::charter(rt, alloc, ring.0, algorithm, ring.1)
+}
+
+/// The item of the first packet that the node at position 0 sends to the right.
+pub fn first_packet<E: RingElection>(
+    rt: &impl Abort,
+    alloc: Global,
+    charter: Arc<Charter<E>>,
+) -> Item<E> {
+    assert!(rt; 0 < charter.roster().len());
+    let copy = Arc::try_clone(&charter).expect(rt, "no copy");
+    let node = Node::seat(alloc, copy, 0).expect(rt, "no memory");
+    let envelope = node.envelope(charter, Side::Right, 0);
+    drop(node);
+    Item::Packet(envelope.expect(rt, "nothing was sent there"))
+}
+
+/// Puts an item into an inbox, and answers whether it was stored.
+pub fn stores<E: RingElection, R: Wait>(
+    rt: &R,
+    to: &mut SenderPass<Item<E>>,
+    item: Item<E>,
+) -> bool {
+    let put = to.put(rt, item);
+    let is_stored = matches!(put, Put::Stored);
+    drop(put);
+    is_stored
+}

@@ -1,0 +1,62 @@
+//! Rows of services: what they answer, and what they leave that end or cannot be started. Where memory is refused to what
+//! a row needs besides, the test ends.
+
+use crate::grounds::{Ended, Ground};
+use crate::memory::shared;
+use ring_any::Any;
+use ring_election::RingElection;
+use ring_service::Service;
+use ring_table::{Entry, LockedTable, Table};
+use ring_workers::OpenGate;
+use std::process::Abort;
+use std::sync::Arc;
+
+const FIRST: &[u8] = b"create a chang\njoin a 5\nstart a\nmembers a\ndrain a 1\n";
+
+const FIRST_TOLD: &[u8] = b"ok\nok\nterm 1\nmembers 5\nno bad-line\n";
+
+const SECOND: &[u8] = b"join a 5\ncut a 5 left\ngroups";
+
+const SECOND_TOLD: &[u8] = b"no member\nno bad-line\ngroups a\n";
+
+// How many calls stand in a history.
+fn calls<E: RingElection>(table: &Table<E>) -> usize {
+    let mut calls = 0usize;
+    for entry in table.history() {
+        if matches!(entry, Entry::Call { .. }) {
+            calls = calls.saturating_add(1);
+        }
+    }
+    calls
+}
+
+// A service with one worker answers two sessions, one after the other, and is ended: each line got its reply, each
+// command its entry, the worker handed over, and no begin waits.
+#[test]
+fn a_service_answers_each_line_and_hands_over(rt: HostRuntime) {
+    let alloc = rt.alloc();
+    let gate = shared(&rt, alloc, OpenGate);
+    let mut ground = Ground::open(&rt, alloc, 1, 64, gate).expect(&rt, "no service");
+    ground.tells(&rt, alloc, 1, FIRST, FIRST_TOLD);
+    ground.tells(&rt, alloc, 2, SECOND, SECOND_TOLD);
+    let ended = ground.end(&rt);
+    assert!(rt; ended.handed.len() == 1);
+    assert!(rt; ended.waiting.is_empty());
+    assert!(rt; calls(&ended.table) == 6);
+    drop(ended);
+}
+
+// Starts a service and closes it, or is told why it can't be started: nothing of it is left to share the table.
+#[test]
+fn a_service_that_ends_or_cannot_start_leaves_nothing(rt: HostRuntime) {
+    let alloc = rt.alloc();
+    let made = LockedTable::new(alloc, Table::<Any>::new(alloc), 3);
+    let (table, seats) = made.expect(&rt, "no table");
+    assert!(rt; seats.len() == 3);
+    let access = shared(&rt, alloc, table);
+    let copy = Arc::try_clone(&access).expect(&rt, "no copy");
+    if let Ok(service) = Service::new(&rt, alloc, copy, seats, 3, 1) {
+        drop(service.close(&rt));
+    }
+    drop(Arc::into_inner(access).expect(&rt, "something shares the table still"));
+}
