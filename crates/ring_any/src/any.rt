@@ -72,12 +72,16 @@ impl Any {
     pub fn from_word(word: &[u8]) -> Option<Any>
         ensures { (kind : Any) → (result ≡ Some kind) ↔ (word.now ≡ word_of kind) }
     {
-        match word {
-            b"lelann" => Some(Any::LeLann),
-            b"chang" => Some(Any::Chang),
-            b"hirschberg" => Some(Any::Hirschberg),
-            b"peterson" => Some(Any::Peterson),
-            _ => None,
+        if word == Any::LeLann.word() {
+            Some(Any::LeLann)
+        } else if word == Any::Chang.word() {
+            Some(Any::Chang)
+        } else if word == Any::Hirschberg.word() {
+            Some(Any::Hirschberg)
+        } else if word == Any::Peterson.word() {
+            Some(Any::Peterson)
+        } else {
+            None
         }
     }
 }
