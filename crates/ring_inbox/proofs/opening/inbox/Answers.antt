@@ -1,7 +1,7 @@
 use Rattle.std.proofs.Common.{◌≡◌, ◌+◌, [], refl, ap, sym, ◌∙◌}
 use Rattle.crossbeam_channel.specs.Claims.{view}
 use Rattle.crossbeam_channel.specs.Ends.{sends_on, ruled_capacity}
-use Rattle.ring_inbox.specs.Rule.{receiver}
+use Rattle.ring_inbox.specs.Rule.{receiver, sender}
 use Rattle.ring_inbox.specs.Values.{name_of}
 use Rattle.ring_inbox.proofs.Moves.{begins, makes_as}
 use Rattle.ring_inbox.proofs.Values.{name_of-same_channel, fresh_senders_more}
@@ -29,3 +29,10 @@ loop-number-preserved g c =
       c.another.ensures.rule.0 ∙ ap (λ v. receiver v.capacity (v.made + 1) v.taken) was.1,
       c.in_ok-push.ensures.items ∙ fresh_senders_more _ _ _ _ _ was.2 name (λ i. record { inbox = new_name i; number = c.loop-number.number; stored = stored i }),
     )
+
+-- the new pass is at the channel, and knows the number of senders before it, the channel's capacity, and that it stored nothing
+pub invariant_of-one : goal.invariant_of-one
+invariant_of-one g c =
+    let capacity = ruled_capacity (sends_on c.in_ok-to.to) in
+    let knows : view c.another.result ≡ sender capacity c.loop-number.number [] = c.another.ensures.rule.1 ∙ ap (λ v. sender v.capacity v.made []) c.loop-number.invariant.1 in
+    rw c.in_ok-try_clone.ensures (c.another.ensures.channel.2, knows ∙ (λ i. sender capacity c.loop-number.number ((sym knows i).stored)))
