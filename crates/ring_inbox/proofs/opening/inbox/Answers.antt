@@ -1,4 +1,4 @@
-use Rattle.std.proofs.Common.{◌≡◌, ◌+◌, [], refl, ap, sym, ◌∙◌}
+use Rattle.std.proofs.Common.{◌≡◌, ◌+◌, [], refl, ap, sym, ◌∙◌, arith}
 use Rattle.crossbeam_channel.specs.Claims.{view}
 use Rattle.crossbeam_channel.specs.Ends.{sends_on, ruled_capacity}
 use Rattle.ring_inbox.specs.Rule.{receiver, sender}
@@ -36,3 +36,9 @@ invariant_of-one g c =
     let capacity = ruled_capacity (sends_on c.in_ok-to.to) in
     let knows : view c.another.result ≡ sender capacity c.loop-number.number [] = c.another.ensures.rule.1 ∙ ap (λ v. sender v.capacity v.made []) c.loop-number.invariant.1 in
     rw c.in_ok-try_clone.ensures (c.another.ensures.channel.2, knows ∙ (λ i. sender capacity c.loop-number.number ((sym knows i).stored)))
+
+-- the loop made all senders that were asked for
+pub returns-clause-senders : goal.returns-clause-senders
+returns-clause-senders g c =
+    let all_made : c.loop-number.number ≡ c.args.senders = omega (arith, c.loop-number-test.false, c.loop-number.auto.number-end) in
+    rw (c.in_ok-to.ensures.0, ← all_made) c.loop-number.invariant.2
