@@ -1,12 +1,13 @@
 -- What a group keeps of its terms from one call to the next, and what its last term shows.
 use Rattle.std.proofs.Common.{inl, inr, ◌≡◌, ◌+◌, ◌-◌, ◌<◌, ◌==◌, ℕ, Bool, false, true, List, [], ◌∷◌, ◌++◌, length, map, Option, None, Some, refl, sym, ◌∙◌, ap, subst, arith, slice_index_or, slice_set}
 use Rattle.std.specs.Prelude.{nat_le, slice_get, Result, Ok, Err}
+use Rattle.std.specs.List.{list_any}
 use Rattle.std.proofs.lemmas.List.{length-map, length-replicate, length-set, map-set}
 use Rattle.std.proofs.lemmas.Bool.{false≢true}
 use Rattle.std.proofs.lemmas.Bool.Decides.{nat_tests}
 use Rattle.std.proofs.lemmas.Option.{none-some, same_Some, slice_get-map, slice_get_read, slice_get_within}
 use Rattle.ring_id.specs.declared.refusal.Refusal.{Refusal}
-use Rattle.ring_roster.specs.Ring.{IsRing}
+use Rattle.ring_roster.specs.Ring.{IsRing, has_number}
 use Rattle.ring_node.specs.declared.charter.Charter.{Charter}
 use Rattle.ring_node.specs.Reports.{Told}
 use Rattle.ring_terms.specs.declared.group.Group.{Group}
@@ -17,7 +18,7 @@ use Rattle.ring_terms.specs.declared.term.Term.{Term}
 use Rattle.ring_terms.specs.Books.{group_view, term_view}
 use Rattle.ring_terms.specs.private.Books.{IsGroupOf, IsSound, IsTermOf, NotesGroup, NotesTerm}
 use Rattle.ring_terms.specs.Charters.{next_charter, running_charter}
-use Rattle.ring_terms.specs.Commands.{member_refusal, start_refusal, who_refusal, Shows}
+use Rattle.ring_terms.specs.Commands.{join_refusal, member_refusal, start_refusal, who_refusal, Shows}
 use Rattle.ring_terms.specs.Kept.{IsTermKept}
 use Rattle.ring_terms.specs.Object.{GroupView, TermView, last_term, leaders, new_term, with_last}
 use Rattle.ring_terms.specs.Standings.{Tells, TellsIn}
@@ -67,6 +68,12 @@ pub allowed_start : {E : Type 0} (group : GroupView E) → (length group.members
 allowed_start group some short =
     let few : nat_le 1000 (length group.terms) ≡ false = grind (arith, nat_tests) in
     rw (some, few) refl
+
+-- where no member has the number and there are fewer members than the most, join isn't refused
+pub allowed_join : {E : Type 0} (group : GroupView E) (node : ℕ) → list_any (has_number node) group.members ≡ false → length group.members < 256 → join_refusal node group ≡ None
+allowed_join group node free short =
+    let few : nat_le 256 (length group.members) ≡ false = grind (arith, nat_tests) in
+    rw (free, few) refl
 
 module _ {E : Type 0} (winner : E → List ℕ → ℕ) (name : List ℕ) (g : Group E) (kept : IsGroupOf winner name g) where
   -- a group with these terms keeps what groups keep, where one more is of this group

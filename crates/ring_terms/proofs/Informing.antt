@@ -2,7 +2,8 @@
 -- winner of the ring.
 use Rattle.std.proofs.Common.{◌≡◌, ◌<◌, ℕ, Bool, true, false, List, length, get_or, Option, None, Some, is_some, refl, sym, ◌∙◌, ap, subst, true≢false}
 use Rattle.std.specs.Prelude.{slice_get, IsSome}
-use Rattle.std.proofs.lemmas.Option.{slice_get-get_or}
+use Rattle.std.proofs.lemmas.List.{length-set}
+use Rattle.std.proofs.lemmas.Option.{same_Some, slice_get-get_or}
 use Rattle.ring_roster.specs.Ring.{IsRing, position_of}
 use Rattle.ring_election.specs.Tables.{Table}
 use Rattle.ring_election.specs.Laws.{Lawful}
@@ -37,6 +38,15 @@ unset_mark term position true led none there = absurd (true≢false (sym (led po
 -- where there is no leader, nobody is informed
 pub uninformed_without_leader : (winner : List ℕ → ℕ) (term : TermView) → IsTermKept winner term → (position : ℕ) → position < length term.ring → term.leader ≡ None → slice_get term.informed position ≡ Some false
 uninformed_without_leader winner term kept position within none = unset_mark term position (get_or term.informed position false) kept.led none (slice_get-get_or term.informed position false (rw kept.marked within))
+
+-- a term in which a member becomes informed of the winner keeps what terms keep
+pub inform_kept : (winner : List ℕ → ℕ) (term : TermView) → IsTermKept winner term → (position leader : ℕ) → leader ≡ winner term.ring → IsTermKept winner (inform position leader term)
+inform_kept winner term kept position leader leads = record {
+  is_ring = kept.is_ring;
+  marked = length-set term.informed position true ∙ kept.marked;
+  wins = λ other same. sym (same_Some leader other same) ∙ leads;
+  led = λ p there. refl;
+}
 
 module _ (winner : List ℕ → ℕ) (term : TermView) (kept : IsTermKept winner term) (member leader position : ℕ)
     (placed : position_of member term.ring ≡ Some position) (leads : leader ≡ winner term.ring) where

@@ -17,6 +17,11 @@ returns-in_default-clause-kept g c =
       each = rw c.in_default.ensures.items kept.each;
     }
 
+-- A term that isn't added leaves the terms as they were, and nothing else is written.
+pub returns-in_default-clause-err : goal.returns-in_default-clause-err
+returns-in_default-clause-err g c =
+    ap (λ ts. record (group_view c.args.self.now) { terms = map (term_view {E = g.row.E.Denot}) ts }) c.in_default.ensures.items
+
 pub returns-clause-kept : goal.returns-clause-kept
 returns-clause-kept g c =
     let this = c.args.self.now in

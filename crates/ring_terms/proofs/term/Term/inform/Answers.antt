@@ -5,7 +5,7 @@ use Rattle.std.proofs.lemmas.Option.{slice_get-get_or, slice_get_read}
 use Rattle.ring_id.specs.Identity.{number_of}
 use Rattle.ring_roster.specs.Ring.{position_of}
 use Rattle.ring_terms.proofs.Members.{position_of-at}
-use Rattle.ring_terms.proofs.Informing.{known, noted, winner_named}
+use Rattle.ring_terms.proofs.Informing.{inform_kept, known, noted, winner_named}
 use Rattle.ring_terms.proofs.term.Term.inform.Goals as goal
 
 pub returns-then-index-clause-notes : goal.returns-then-index-clause-notes
@@ -26,3 +26,8 @@ returns-clause-notes g c =
     slice_get_read c.args.self.now.informed.items (length c.args.self.now.informed.items) c.args.position false refl (omega (arith, c.requires.sound.marked, c.requires.inside)) (rw c.if-index.false at c.index.ensures) in
     let named = winner_named (g.met.E.RingElection.lawful c.args.self.now.charter.value.algorithm) ring c.requires.sound.is_ring in
     (refl, refl, noted _ _ c.requires.sound _ _ _ placed c.requires.wins _ named uninformed)
+
+-- The ring stays, there are as many marks as before, and the leader is the winner.
+pub returns-clause-kept : goal.returns-clause-kept
+returns-clause-kept g c =
+    inform_kept _ _ c.requires.sound c.args.position c.args.leader c.requires.wins
