@@ -64,3 +64,17 @@ unasked-uncounted rest group argument cut uncounted = λ event legal same.
     let two : words_in rest ≡ asks.group ∷ decimal asks.number ∷ [] = asks.same in
     let last : words_in argument ≡ decimal asks.number ∷ [] = cc in
     uncounted asks.number asks.is_number (one_word argument (decimal asks.number) last)
+
+-- what is one word alone is no question
+pub unasked-uncut : (rest : List ℕ) → words_in rest ≡ rest ∷ [] → Reads event_words IsEvent (codes "who" ∷ words_in rest) None
+unasked-uncut rest uncut = λ event legal same.
+    let asks = asks_alone event (words_in rest) legal same in
+    let two : words_in rest ≡ asks.group ∷ decimal asks.number ∷ [] = asks.same in
+    cc
+
+-- what begins with no name is no question
+pub unasked-unnamed : (rest group argument : List ℕ) → words_in rest ≡ group ∷ words_in argument → Reads (λ n. n) IsName group None → Reads event_words IsEvent (codes "who" ∷ words_in rest) None
+unasked-unnamed rest group argument cut unnamed = λ event legal same.
+    let asks = asks_alone event (words_in rest) legal same in
+    let two : words_in rest ≡ asks.group ∷ decimal asks.number ∷ [] = asks.same in
+    unnamed asks.group asks.is_name cc

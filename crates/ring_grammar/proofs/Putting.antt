@@ -1,8 +1,9 @@
 -- Lines put word by word.
-use Rattle.std.proofs.Common.{◌≡◌, ◌<◌, ◌≤◌, ◌+◌, ℕ, Bool, true, false, List, [], ◌∷◌, ◌++◌, length, take, drop, get_or, map, Option, Result, Ok, Err, OnErr, OnOk, zero, suc, refl, sym, ◌∙◌, ap, subst, append_assoc, append-nil, arith, codes, decimal}
+use Rattle.std.proofs.Common.{◌≡◌, ◌<◌, ◌≤◌, ◌+◌, ℕ, Bool, true, false, List, [], ◌∷◌, ◌++◌, length, take, drop, get_or, map, Option, Result, Ok, Err, OnErr, OnOk, zero, suc, refl, sym, ◌∙◌, ap, subst, append_assoc, append-nil, arith, codes, decimal, if◌then◌else◌}
 use Rattle.std.proofs.lemmas.List.{get_or-map, length-map, take-append-drop, take_all, take_more}
 use Rattle.std.proofs.lemmas.List.Elements.{All-more}
 use Rattle.std.specs.List.{All}
+use Rattle.std.specs.Result.{is_ok}
 use Rattle.ring_grammar.specs.Sinks.{IsSequence}
 use Rattle.ring_grammar.specs.Spelling.{line_of, starved_words, term_word, term_words}
 
@@ -15,6 +16,11 @@ on_err_anyway (Err fault) p = p
 pub on_ok_anyway : {T E P : Type 0} (result : Result T E) → P → OnOk result P
 on_ok_anyway (Ok value) p = p
 on_ok_anyway (Err fault) p = tt
+
+-- where a list grew by a text if one result is a value, and another is one exactly then, it grew by it where that is one
+pub appended_whole : {T E U F : Type 0} (first : Result T E) (second : Result U F) (old text new : List ℕ) → new ≡ (if is_ok first then old ++ text else old) → is_ok second ≡ is_ok first → OnOk second (new ≡ old ++ text)
+appended_whole first (Ok value) old text new items same = rw (← same) at items
+appended_whole first (Err fault) old text new items same = tt
 
 -- the end of a reply to a drain
 abbrev pub starved_text : Bool → List ℕ
