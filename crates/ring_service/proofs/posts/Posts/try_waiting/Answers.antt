@@ -1,6 +1,6 @@
 -- What still waits did so before, for the same workers.
 use Rattle.std.proofs.Common.{◌≡◌, ◌<◌, Some, length, slice_get, refl, arith, vec_len}
-use Rattle.std.proofs.lemmas.List.Elements.{All-drop}
+use Rattle.std.proofs.lemmas.List.Elements.{All-drop, All-push}
 use Rattle.std.proofs.lemmas.Option.{slice_get_read}
 use Rattle.ring_service.proofs.Posting.{all_first, tries_all, tries_kept, tries_none, tries_stored}
 use Rattle.ring_service.proofs.posts.Posts.try_waiting.Goals as goal
@@ -35,3 +35,18 @@ loop-preserved g c =
 pub returns : goal.returns
 returns g c =
     tries_all c.loop.counter c.args.self.now.waiting.items c.loop.self.waiting.items c.args.self.now.passes.items c.loop.self.passes.items c.loop.invariant (omega arith)
+
+-- The begin that is tried was for a worker that has a pass.
+pub index_mut-requires : goal.index_mut-requires
+index_mut-requires g c =
+    all_first (λ begin. begin.worker < vec_len c.loop.self.passes) c.loop.self.waiting.items c.pop_front.new.self.items c.in-Some.field-0 c.in-Some.ensures.items c.loop.self.known
+
+-- What goes on waiting is for the same worker.
+pub invariant_of-self-in-Some-put_begin : goal.invariant_of-self-in-Some-put_begin
+invariant_of-self-in-Some-put_begin g c =
+    let within : c.in-Some.field-0.worker < vec_len c.loop.self.passes =
+    all_first (λ begin. begin.worker < vec_len c.loop.self.passes) c.loop.self.waiting.items c.pop_front.new.self.items c.in-Some.field-0 c.in-Some.ensures.items c.loop.self.known in
+    record {
+      known = rw (c.push_back_reserved.ensures.items, c.pop_front.ensures.rest)
+          (All-push (λ begin. begin.worker < vec_len c.loop.self.passes) _ _ (All-drop (λ begin. begin.worker < vec_len c.loop.self.passes) 1 c.loop.self.waiting.items c.loop.self.known) within);
+    }
