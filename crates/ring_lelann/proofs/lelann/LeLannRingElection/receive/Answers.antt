@@ -4,3 +4,10 @@ use Rattle.ring_lelann.proofs.lelann.LeLannRingElection.receive.Goals as goal
 
 pub returns-in_err-map_err-clause-err : goal.returns-in_err-map_err-clause-err
 returns-in_err-map_err-clause-err c = search rules
+
+-- On each path the state and the sends are those of the table.
+pub returns-clause-state : goal.returns-clause-state
+returns-clause-state c = search rules
+
+pub returns-clause-sends : goal.returns-clause-sends
+returns-clause-sends c = search rules
