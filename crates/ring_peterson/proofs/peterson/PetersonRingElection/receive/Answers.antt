@@ -1,0 +1,6 @@
+-- What goes to the right is what the receipt from the left gives; from the right nothing happens.
+use Rattle.std.proofs.Common.{rules}
+use Rattle.ring_peterson.proofs.peterson.PetersonRingElection.receive.Goals as goal
+
+pub returns-clause-sends : goal.returns-clause-sends
+returns-clause-sends c = search rules
