@@ -1,0 +1,6 @@
+-- A failed read is told as one.
+use Rattle.std.proofs.Common.{rules}
+use Rattle.ring_door.proofs.fault.ProgramFaultFromLineFault.from.Goals as goal
+
+pub returns-in-Read : goal.returns-in-Read
+returns-in-Read c = search rules
