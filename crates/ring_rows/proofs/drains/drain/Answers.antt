@@ -15,3 +15,7 @@ loop-done-preserved g c =
         moved = c.in-Moved.ensures.delivers.1;
       },
     )
+
+-- Where no link is ready, as many deliveries were made as the loop has counted.
+pub returns-in_default-clause-made : goal.returns-in_default-clause-made
+returns-in_default-clause-made g c = c.loop-done.invariant
