@@ -98,6 +98,11 @@ spaced_more head words i word at = rw (take_more words i word at.below, spaced-a
 spaced_all : (head : List ℕ) (words : List (List ℕ)) (i : ℕ) → (head ++ spaced (take i words)) ++ spaced (drop i words) ≡ line_of (head ∷ words)
 spaced_all head words i = rw (append_assoc, ← spaced-append, take-append-drop) (sym (line_of-spaced head words))
 
+-- where a second piece was not put, a front of it was, and so a front of both
+pub put_stopped_last : {S T E : Type 0} {takes takes_front : S → List ℕ → S → Type 0} (laws : IsSequence takes takes_front) (result : Result T E) (a b c : S) (first second : List ℕ) → takes a first b → OnErr result (takes_front b second c) → OnErr result (takes_front a (first ++ second) c)
+put_stopped_last laws (Ok value) a b c first second put next = tt
+put_stopped_last laws (Err fault) a b c first second put next = laws.then_front a b c first second put next
+
 module _ {S : Type 0} {takes takes_front : S → List ℕ → S → Type 0} (laws : IsSequence takes takes_front) (head : List ℕ) (words : List (List ℕ)) where
   -- the first word was put
   pub put_first : {a b : S} → takes a head b → takes a (head ++ spaced (take 0 words)) b
