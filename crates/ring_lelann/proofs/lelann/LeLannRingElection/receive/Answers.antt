@@ -11,3 +11,7 @@ returns-clause-state c = search rules
 
 pub returns-clause-sends : goal.returns-clause-sends
 returns-clause-sends c = search rules
+
+-- Only another's identity is stored, so the node's own is never refused.
+pub returns-in_err-map_err-clause-free_at_home : goal.returns-in_err-map_err-clause-free_at_home
+returns-in_err-map_err-clause-free_at_home c = search rules depth 4 fits 100
