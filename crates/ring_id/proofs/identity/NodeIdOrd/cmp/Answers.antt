@@ -1,0 +1,6 @@
+-- Ranks are compared, which are the identities.
+use Rattle.std.proofs.Common.{rules}
+use Rattle.ring_id.proofs.identity.NodeIdOrd.cmp.Goals as goal
+
+pub returns : goal.returns
+returns c = search rules
