@@ -1,5 +1,8 @@
--- A guess that is right, a place in the order, and a place that is looked at have the number.
-use Rattle.std.proofs.Common.{sym}
+-- A guess that is right, a place in the order, and a place that is looked at have the number; so has the one found by looking at all.
+use Rattle.std.proofs.Common.{rules, sym, tests}
+use Rattle.std.proofs.lemmas.Iterator.{YieldsList-from_slice}
+use Rattle.std.proofs.lemmas.Iterator.Search.{position_from_yields_List}
+use Rattle.ring_roster.specs.Ring.{is_numbered}
 use Rattle.ring_roster.proofs.Orders.{position_absent, position_found}
 use Rattle.ring_roster.proofs.index.Index.find.Goals as goal
 
@@ -15,3 +18,7 @@ returns-in-Some c =
 
 pub returns-in-None : goal.returns-in-None
 returns-in-None c = sym (position_absent c.args.members.now c.args.node c.in-None.ensures.none)
+
+pub returns-in_default : goal.returns-in_default
+returns-in_default c =
+    position_from_yields_List (is_numbered c.args.node) _ _ _ c.position.ensures.ran (YieldsList-from_slice c.args.members.now cc) (λ x b q called. search (rules, tests))
