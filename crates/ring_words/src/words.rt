@@ -10,23 +10,40 @@ use clap::{Arg, ArgAction, ArgMatches, Command};
 use std::alloc::{AllocError, Global};
 use thiserror::Error;
 
-// The version that `--version` tells.
+// The version that `--version` prints.
 const VERSION: &str = "1.0.0";
 
-// How many sessions `run` has at a time where no number is given.
+// The number of clients that `run` serves at a time without `--sessions`.
 const SESSIONS: u32 = 16;
+
+// The end of the help.
+const NOTES: &str = "`ringctl` sends commands to a running service; `ringctl --help` lists them.
+The manual page ringd(1) lists all lines and replies.
+
+An example without a service:
+
+  printf 'create a chang\\njoin a 3\\njoin a 1\\nstart a\\ndrain a 9\\nwho a 1\\n' | ringd replay";
+
+// The end of the help for `serve` and `run`.
+const CONFIG: &str = "CONFIG is a TOML file with three integers:
+
+  workers = 2    # the number of threads that work on elections, 1 to 8
+  inbox = 1024   # the number of items that the inbox of each of them holds, 1 to 65536
+  port = 7400    # the port on 127.0.0.1, 1 to 65535
+
+The service keeps everything in memory, and loses it when it ends.";
 
 /// What the words ask the program to do.
 #[derive(Debug, Drop)]
 pub enum Order {
-    /// `ringd replay`: replies on standard output to the lines of standard input.
+    /// `ringd replay`: answer the lines of standard input on standard output.
     Replay,
-    /// `ringd serve CONFIG --connections K`: sessions for so many clients, and then the end.
+    /// `ringd serve CONFIG --connections K`: serve `connections` clients, then exit.
     Serve {
         path: String,
         connections: u32,
     },
-    /// `ringd run CONFIG`: sessions for all clients, so many at a time, until the process is ended.
+    /// `ringd run CONFIG`: serve clients, `sessions` at a time, until a signal ends the process.
     Run {
         path: String,
         sessions: u32,
@@ -35,13 +52,13 @@ pub enum Order {
     },
 }
 
-/// Why the words gave no order.
+/// Why the words give no order.
 #[derive(Debug, Drop, Error)]
 pub enum WordsFault {
-    /// The command line was refused, or asked for help or for the version. The text is clap's.
+    /// The command line was refused, or asks for help or for the version. The text is clap's.
     #[error(transparent)]
     Usage(clap::Error),
-    /// Memory was refused.
+    /// An allocation failed.
     #[error("no memory")]
     NoMemory,
 }
@@ -72,10 +89,13 @@ impl From<AllocError> for WordsFault {
 fn command<'a>(alloc: Global) -> Result<Command<'a>, AllocError>
     ensures { IfOk result (λ c. app_of c ≡ ringd_app) }
 {
-    let replay = Command::new(alloc, "replay").about("Answers the lines of standard input");
+    let replay = Command::new(alloc, "replay").about(
+        "Read lines from standard input, and print one reply for each",
+    );
     let command = Command::new(alloc, "ringd")
         .version(VERSION)
-        .about("Keeps a leader for each of many groups")
+        .about("Elects a leader for each of many groups")
+        .after_help(NOTES)
         .subcommand_required(true)
         .subcommand(replay);
     with_subcommand(
@@ -90,7 +110,8 @@ fn serve_command<'a>(alloc: Global) -> Result<Command<'a>, AllocError>
     ensures local { IfOk result IsLocal }
 {
     let command = Command::new(alloc, "serve")
-        .about("Serves so many clients on 127.0.0.1, and ends after them")
+        .after_help(CONFIG)
+        .about("Serve K clients on 127.0.0.1, then exit")
         .arg(config_arg(alloc));
     with_arg(command, connections_arg(alloc))
 }
@@ -101,8 +122,9 @@ fn run_command<'a>(alloc: Global) -> Result<Command<'a>, AllocError>
     ensures local { IfOk result IsLocal }
 {
     let command = Command::new(alloc, "run")
+        .after_help(CONFIG)
         .about(
-            "Serves clients until the process is ended; on 127.0.0.1 alone, since nothing is encrypted and nobody is asked who they are",
+            "Serve clients on 127.0.0.1 until a signal ends the process; without passwords or encryption",
         )
         .arg(config_arg(alloc));
     let command = with_arg(command, sessions_arg(alloc));
@@ -110,7 +132,7 @@ fn run_command<'a>(alloc: Global) -> Result<Command<'a>, AllocError>
     with_arg(command, places_arg(alloc))
 }
 
-// The command with one more argument, where memory wasn't refused before.
+// Returns the command with one more argument, or the error that it is.
 fn with_arg<'a>(
     command: Result<Command<'a>, AllocError>,
     arg: Arg<'a>,
@@ -129,7 +151,7 @@ fn with_arg<'a>(
     }
 }
 
-// The command with one more subcommand, where memory was refused for neither.
+// Returns the command with one more subcommand, or the error that one of them is.
 fn with_subcommand<'a>(
     command: Result<Command<'a>, AllocError>,
     below: Result<Command<'a>, AllocError>,
@@ -152,7 +174,7 @@ fn with_subcommand<'a>(
     }
 }
 
-// The file of the configuration.
+// The argument of `serve` and `run`: the file of the configuration.
 fn config_arg<'a>(alloc: Global) -> Arg<'a>
     ensures rule { rule_of result ≡ config_rule }
     ensures own { result.global ≡ false }
@@ -160,10 +182,10 @@ fn config_arg<'a>(alloc: Global) -> Arg<'a>
     Arg::new(alloc, "config")
         .value_name("CONFIG")
         .required(true)
-        .help("The file of the configuration")
+        .help("The configuration: a TOML file, as below")
 }
 
-// An option that has a value.
+// An option with a value.
 fn option_arg<'a>(alloc: Global, name: &'a str, value: &'a str) -> Arg<'a>
     ensures rule { rule_of result ≡ record (new_rule name.now) { long = Some name.now; value_names = 1 } }
     ensures own { result.global ≡ false }
@@ -171,7 +193,7 @@ fn option_arg<'a>(alloc: Global, name: &'a str, value: &'a str) -> Arg<'a>
     Arg::new(alloc, name).long(name).value_name(value)
 }
 
-// How many clients `serve` accepts.
+// The option of `serve`: how many clients it accepts.
 fn connections_arg<'a>(alloc: Global) -> Arg<'a>
     ensures rule { rule_of result ≡ connections_rule }
     ensures own { result.global ≡ false }
@@ -179,20 +201,20 @@ fn connections_arg<'a>(alloc: Global) -> Arg<'a>
     option_arg(alloc, "connections", "K")
         .required(true)
         .value_parser(clap::value_parser!(u32).range(1..=64))
-        .help("How many clients are accepted, 1 to 64")
+        .help("Serve K clients, 1 to 64")
 }
 
-// How many clients `run` serves at a time.
+// An option of `run`: how many clients it serves at a time.
 fn sessions_arg<'a>(alloc: Global) -> Arg<'a>
     ensures rule { rule_of result ≡ sessions_rule }
     ensures own { result.global ≡ false }
 {
     option_arg(alloc, "sessions", "N")
         .value_parser(clap::value_parser!(u32).range(1..=64))
-        .help("How many clients are served at a time, 1 to 64; 16 where it isn't given")
+        .help("Serve N clients at a time, 1 to 64, and let others wait [default: 16]")
 }
 
-// After how many seconds without a byte `run` ends a session.
+// An option of `run`: after how many seconds without a byte it ends a session.
 fn idle_arg<'a>(alloc: Global) -> Arg<'a>
     ensures rule { rule_of result ≡ idle_rule }
     ensures own { result.global ≡ false }
@@ -200,11 +222,11 @@ fn idle_arg<'a>(alloc: Global) -> Arg<'a>
     option_arg(alloc, "idle", "SECONDS")
         .value_parser(clap::value_parser!(u32).range(0..=86400))
         .help(
-            "Ends a session whose client sends nothing, or takes no reply, for so long, 1 to 86400; never at 0, or where it isn't given",
+            "End a session if its client sends nothing, or takes no reply, for SECONDS seconds, 0 to 86400; 0 is never [default: 0]",
         )
 }
 
-// Whether `run` tells the place of each reply.
+// An option of `run`: whether it writes the place of each reply.
 fn places_arg<'a>(alloc: Global) -> Arg<'a>
     ensures rule { rule_of result ≡ places_rule }
     ensures own { result.global ≡ false }
@@ -213,11 +235,12 @@ fn places_arg<'a>(alloc: Global) -> Arg<'a>
         .long("places")
         .action(ArgAction::SetTrue)
         .help(
-            "Tells before each reply its place in the history of all commands, or - where it has none",
+            "Begin each reply with its place in the history of all commands, or with - if it has none",
         )
 }
 
-/// The refusal of a command line that has a word of other bytes than UTF-8.
+/// Returns the refusal of a command line with a word that is not UTF-8. Fails only if an allocation
+/// fails.
 pub fn not_text(alloc: Global) -> Result<clap::Error, AllocError>
     ensures { IfOk result (λ error. kind_of error ≡ ValueValidation) }
 {
@@ -227,18 +250,18 @@ pub fn not_text(alloc: Global) -> Result<clap::Error, AllocError>
     error
 }
 
-/// Whether the words asked for the version.
+/// Returns whether the words ask for the version.
 pub fn asks_version(error: &clap::Error) -> bool
     ensures { IsTrue result ↔ (kind_of error.now ≡ DisplayVersion) }
 {
     error.kind() == ErrorKind::DisplayVersion
 }
 
-/// Reads the words of a command line, of which the first is the program's name.
+/// Returns the order that the words of a command line give. The first word is the program's name.
 ///
-/// The order is the one that the words give. `Usage` comes only of words that the command line does
-/// not take, requests for help and for the version among them; the error says which kind of mistake
-/// they have.
+/// If the command line takes the words, the result is their order, or `NoMemory` if an allocation
+/// failed. `Usage` is returned only if the command line does not take them; its error has the kind
+/// of their mistake. Requests for help and for the version count as such mistakes.
 pub fn read_words(alloc: Global, words: &[String]) -> Result<Order, WordsFault>
     ensures order { IfOk result (IsGiven (map string_bytes words.now)) }
     ensures usage { IfErr result (HasCause (map string_bytes words.now)) }
@@ -260,7 +283,7 @@ pub fn read_words(alloc: Global, words: &[String]) -> Result<Order, WordsFault>
     }
 }
 
-// The order of `serve`.
+// Returns the order of `serve`.
 fn serve_order(alloc: Global, given: &ArgMatches<'_>) -> Result<Order, WordsFault>
     requires { IsServed (rows_of (found_of given.now)) }
     ensures order { IfOk result (IsServeOf (rows_of (found_of given.now))) }
@@ -270,7 +293,7 @@ fn serve_order(alloc: Global, given: &ArgMatches<'_>) -> Result<Order, WordsFaul
         unreachable!("the file is required");
     };
     let Some(connections) = given.get_one::<u32>("connections") else {
-        unreachable!("the number is required, and lies in its range");
+        unreachable!("the number is required, and is in its range");
     };
     Ok(Order::Serve {
         path: String::from_str(alloc, path)?,
@@ -278,7 +301,7 @@ fn serve_order(alloc: Global, given: &ArgMatches<'_>) -> Result<Order, WordsFaul
     })
 }
 
-// The order of `run`.
+// Returns the order of `run`.
 fn run_order(alloc: Global, given: &ArgMatches<'_>) -> Result<Order, WordsFault>
     requires { IsRun (rows_of (found_of given.now)) }
     ensures order { IfOk result (IsRunOf (rows_of (found_of given.now))) }
