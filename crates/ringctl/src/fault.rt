@@ -1,32 +1,32 @@
-//! Why the program ends without having done what it was asked.
+//! Why the program ends without doing what the words ask for.
 ghost use Rattle.std.specs.Prelude.{◌≡◌};
 ghost use Rattle.ringctl.specs.Faults.{status_of};
 
 use std::alloc::{AllocError, Global};
 use thiserror::Error;
 
-/// A fault that ends the program. Its text is the one line that standard error gets.
+/// A fault that ends the program. Its text is the line that the program prints on standard error.
 #[derive(Debug, Drop, Error)]
 pub enum Fault {
     /// The service refused the command with this word.
     #[error("{0}")]
     Refused(String),
-    /// Nothing answers at the address, or what answers is no such service, or it stopped answering.
+    /// No service answers at the address, or another kind of service does, or it stopped answering.
     #[error("ringctl: no service answers")]
     NoService,
     /// Standard input could not be read.
-    #[error("ringctl: read failed")]
+    #[error("ringctl: cannot read standard input")]
     Read,
     /// Standard output could not be written.
-    #[error("ringctl: write failed")]
+    #[error("ringctl: cannot write standard output")]
     Write,
-    /// Memory was refused.
+    /// An allocation failed.
     #[error("ringctl: no memory")]
     NoMemory,
 }
 
 impl Fault {
-    /// The fault of a refusal with this word.
+    /// Returns the fault of a refusal with this word, or `NoMemory` if an allocation fails.
     pub fn refused(alloc: Global, word: &str) -> Fault {
         match String::from_str(alloc, word) {
             Ok(word) => Fault::Refused(word),
@@ -34,7 +34,7 @@ impl Fault {
         }
     }
 
-    /// The status that the program ends with: 3 where no service answers, else 1.
+    /// Returns the exit status of the program: 3 if no service answers, else 1.
     pub fn status(&self) -> u8
         ensures { result ≡ status_of self.now }
     {

@@ -1,13 +1,13 @@
-//! The program `ringctl`: asks a running `ringd`.
+//! The program `ringctl`: sends commands to a running `ringd`.
 //!
-//! `ringctl COMMAND WORDS..` sends one line and prints its reply. `ringctl` alone asks each line of
-//! standard input, with a prompt at a terminal. `ringctl watch G` prints a line each time that a
-//! term of the group starts or its leader becomes known.
+//! `ringctl COMMAND WORD..` sends one line and prints its reply. `ringctl` alone sends each line of
+//! standard input, with a prompt at a terminal. `ringctl watch G` prints a line when a term of the
+//! group starts, and when its leader becomes known.
 //!
-//! It ends with status 0 where all was done; with 1 where the command was refused, with the word of
-//! the refusal on standard error, and where its own input, output or memory fails; with 2 and clap's
-//! text on standard error where the words are none that it takes, a request for help among them; and
-//! with 3 where no service answers.
+//! Its exit status is 0 if all was done. It is 1 if the command was refused, with the word of the
+//! refusal on standard error, or if its own input, output or memory failed. It is 2 if the command
+//! line is refused or asks for help, with clap's text on standard error. It is 3 if no service
+//! answers.
 #![tactic(auto)]
 
 ghost use Rattle.std.specs.Prelude.{◌≡◌, MatchResult};
@@ -31,7 +31,7 @@ use std::rt::Env;
 use std::time::Clock;
 use words::{Asked, Order, WordsFault, not_text, read_words};
 
-// What the words of the command line ask for, of which the first is the program's name.
+// Returns what the words of the command line ask for. The first word is the program's name.
 fn asked_by(rt: &(impl Env + AllocGlobal)) -> Result<Asked, WordsFault> {
     match std::env::args(rt) {
         Ok(words) => {
@@ -58,7 +58,7 @@ where
     done
 }
 
-// Ends with status 0, or says the fault and ends with its status.
+// Returns status 0, or prints the fault and returns its status.
 fn ended(rt: &impl Eprint, done: Result<(), Fault>) -> ExitCode
     ensures { MatchResult done (λ _. exit_status result ≡ 0) (λ fault. exit_status result ≡ status_of fault) }
 {
@@ -71,7 +71,7 @@ fn ended(rt: &impl Eprint, done: Result<(), Fault>) -> ExitCode
     }
 }
 
-// Says why the command line was refused, and ends with status 2.
+// Prints why the command line was refused, and returns status 2.
 fn refused(rt: &impl Eprint, error: &clap::Error) -> ExitCode
     ensures { exit_status result ≡ 2 }
 {

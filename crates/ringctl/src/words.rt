@@ -8,34 +8,39 @@ use ring_grammar::parse_command;
 use ring_id::GroupName;
 use std::alloc::{AllocError, Global};
 
-// Where a service listens that has not been told otherwise.
+// The address of the service without `--address`.
 const ADDRESS: &str = "127.0.0.1:7400";
 
-// What stands below the options in the help.
-const COMMANDS: &str = "Commands:
-  create G KIND   a new group; KIND is lelann, chang, hirschberg or peterson
-  join G N        a new member, the last in the order
-  join G N/V      one of weight V, 1 to 65535; without it the weight is 0
-  leave G N       a member leaves
-  start G         a new term on the present members
-  who G N         what that member of the last term knows of its leader
-  members G       the members in joining order
-  terms G         the leader of each term, or none
-  groups          all groups
-  watch G         a line each time that a term starts or its leader becomes known
+// The end of the help.
+const COMMANDS: &str = "Commands, for a group G and a member N:
+  create G KIND   create G, electing by KIND: lelann, chang, hirschberg or peterson
+  join G N        add a member with the number N, 1 to 4294967295, as the last
+  join G N/V      add a member with the weight V, 1 to 65535; without V the weight is 0
+  leave G N       remove the member
+  start G         start a term, in which the present members elect a leader
+  who G N         print what N knows: 'leader TERM MEMBER' or 'undecided TERM'
+  members G       print the members, in the order in which they joined
+  terms G         print each term with its leader, or with - if no leader is known
+  groups          print the groups, in the order in which they were created
+  watch G         print a line when a term starts, and when its leader becomes known
 
-Without a command each line of standard input is sent, and its reply printed.
+The greatest member leads: the one with the greatest weight, and of these the greatest
+number. Under peterson another may lead.
 
-A watch asks a member of the group once a second what it knows, and for the terms each time
-that the answer is another. The service keeps each of these commands in memory for as long as
-it lives: about 8 MB for a day of watching, and 12 bytes for each term of the group at each
-change.
+Without a command, ringctl sends each line of standard input and prints its reply.
 
-The status is 0 where all was done, 1 where the command was refused (the word is on standard
-error) or reading, writing or memory failed, 2 for words that are none of these, and 3 where
-no service answers.";
+A watch asks a member once a second what it knows. When the answer has changed, it asks for
+the terms. The service keeps each of these commands in memory until it ends: about 8 MB for a
+day of watching, and 12 bytes for each term of the group at each change.
 
-/// What the words ask for, and of which service.
+Exit status:
+  0   The command was done.
+  1   The command was refused, and standard error has the word of the refusal.
+      Or reading, writing or an allocation failed.
+  2   The command line is wrong, or asks for help.
+  3   No service answered at the address within ten seconds.";
+
+/// The order that the words give, and the service that it is for.
 #[derive(Drop)]
 pub struct Asked {
     pub address: String,
@@ -45,20 +50,20 @@ pub struct Asked {
 /// What the words ask the program to do.
 #[derive(Drop)]
 pub enum Order {
-    /// Each line of standard input.
+    /// Send each line of standard input.
     Session,
-    /// One line, without its LF.
+    /// Send one line, given without its LF.
     Ask(String),
-    /// The terms of a group, for so many seconds or until the process is ended.
+    /// Print the terms of a group for `seconds` seconds; if there is none, until the process is ended.
     Watch { group: String, seconds: Option<u32> },
 }
 
-/// Why the words gave no order.
+/// Why the words give no order.
 #[derive(Drop)]
 pub enum WordsFault {
-    /// The command line was refused, or asked for help. The text is clap's.
+    /// The command line was refused, or asks for help. The text is clap's.
     Usage(clap::Error),
-    /// Memory was refused.
+    /// An allocation failed.
     NoMemory,
 }
 
@@ -81,47 +86,47 @@ impl From<AllocError> for WordsFault {
 // The program's command line.
 fn command<'a>(alloc: Global) -> Result<Command<'a>, AllocError> {
     Command::new(alloc, "ringctl")
-        .about("Asks a running ringd: one command and its reply, or a session of lines")
+        .about("Sends commands to a running ringd, and prints the replies")
         .after_help(COMMANDS)
         .arg(address_arg(alloc))?
         .arg(for_arg(alloc))?
         .arg(words_arg(alloc))
 }
 
-// Where the service listens.
+// The option with the address of the service.
 fn address_arg<'a>(alloc: Global) -> Arg<'a> {
     Arg::new(alloc, "address")
         .long("address")
         .value_name("HOST:PORT")
         .default_value(ADDRESS)
-        .help("Where the service listens")
+        .help("The address of the service")
 }
 
-// For how long a watch goes on.
+// The option with the length of a watch.
 fn for_arg<'a>(alloc: Global) -> Arg<'a> {
     Arg::new(alloc, "for")
         .long("for")
         .value_name("SECONDS")
         .value_parser(clap::value_parser!(u32).range(0..=86400))
         .help(
-            "Ends a watch after so many seconds, to 86400; else it goes on until it is interrupted",
+            "End a watch after SECONDS seconds, 0 to 86400; without this it goes on until it is interrupted",
         )
 }
 
-// The command, a word each.
+// The words of the command.
 fn words_arg<'a>(alloc: Global) -> Arg<'a> {
     Arg::new(alloc, "words")
         .value_name("COMMAND")
         .num_args(0..)
-        .help("A command and its words; put -- before a word that begins with a hyphen")
+        .help("A command, as below; put -- before a word that begins with a hyphen")
 }
 
-/// The refusal of a command line that has a word of other bytes than UTF-8.
+/// Returns the refusal of a command line with a word that is not UTF-8.
 pub fn not_text(alloc: Global) -> Result<clap::Error, AllocError> {
     refusal(alloc, "a word is not UTF-8 text")
 }
 
-// A refusal of the command line in the program's own words.
+// Returns a refusal of the command line with this message.
 fn refusal(alloc: Global, message: &str) -> Result<clap::Error, AllocError> {
     let mut command = command(alloc)?;
     let error = command.error(ErrorKind::ValueValidation, message);
@@ -129,7 +134,7 @@ fn refusal(alloc: Global, message: &str) -> Result<clap::Error, AllocError> {
     error
 }
 
-/// Reads the words of a command line, of which the first is the program's name.
+/// Returns the order that the words of a command line give. The first word is the program's name.
 pub fn read_words(alloc: Global, words: &[String]) -> Result<Asked, WordsFault> {
     let matches = command(alloc)?.try_get_matches_from(words)?;
     let asked = asked_of(alloc, &matches);
@@ -140,14 +145,14 @@ pub fn read_words(alloc: Global, words: &[String]) -> Result<Asked, WordsFault> 
     }
 }
 
-// What was asked, or why it is nothing that can be.
+// Returns what the words ask for, or the message of their refusal.
 fn asked_of(
     alloc: Global,
     matches: &ArgMatches<'_>,
 ) -> Result<Result<Asked, &'static str>, AllocError> {
     let address = matches.get_str("address").unwrap_or(ADDRESS);
     if !is_address(address) {
-        return Ok(Err("an address is HOST:PORT"));
+        return Ok(Err("the address must be HOST:PORT, with a port of 1 to 65535"));
     }
     let given = matches.get_strs("words").unwrap_or(&[]);
     match order_of(alloc, given, matches.get_one::<u32>("for"))? {
@@ -155,11 +160,11 @@ fn asked_of(
             address: String::from_str(alloc, address)?,
             order,
         })),
-        None => Ok(Err("there is no such command; ringctl --help says which there are")),
+        None => Ok(Err("this is no command; ringctl --help lists the commands")),
     }
 }
 
-// Whether this is a host and a port.
+// Returns whether this is a host and a port.
 fn is_address(text: &str) -> bool {
     let Some((host, port)) = text.rsplit_once(':') else {
         return false;
