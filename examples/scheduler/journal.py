@@ -1,10 +1,10 @@
 #!/usr/bin/env python3
-"""The journal of the store, and what has to be true of it.
+"""The journal of the store, and what must be true of it.
 
-    examples/scheduler/journal.py FILE      tells what is wrong in a journal; status 1 where something is
+    examples/scheduler/journal.py FILE      prints what is wrong in a journal; status 1 if something is
 
-A line is KIND EPOCH TERM WORKER JOB. The kinds: `epoch`, an epoch was begun; `take`, a leader was given
-a job; `did`, a leader wrote that the job is done; `late`, a leader was refused.
+A line is KIND EPOCH TERM WORKER JOB. The kinds: `epoch`, an epoch began; `take`, a leader took a job;
+`did`, a leader wrote that the job is done; `late`, a leader was refused.
 """
 
 import sys
@@ -12,8 +12,8 @@ from typing import NamedTuple
 
 
 class Token(NamedTuple):
-    """What a leader shows with each write. Of two tokens the one of the greater epoch is the newer,
-    and in one epoch that of the greater term: tuples are compared so."""
+    """A leader shows its token with each write. The token with the greater epoch is newer, and in one epoch
+    the token with the greater term. Tuples are compared in this way."""
     epoch: int
     term: int
 

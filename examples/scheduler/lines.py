@@ -1,4 +1,4 @@
-"""Asks one line and gets one line, as ringd and the store both speak."""
+"""Sends one line and reads one line: the way of ringd and of the store."""
 
 import socket
 
@@ -10,8 +10,8 @@ class Refused(Exception):
 class Lines:
     """A connection that is made at the first question, and made anew after it was lost.
 
-    A question whose answer was lost is not asked again here: it may have been carried out, and
-    only who asked knows whether asking twice does harm.
+    If an answer was lost, the question is not sent again here. It may have been carried out, and
+    only the caller knows whether sending it twice does harm.
     """
 
     def __init__(self, port, patience=5):
@@ -20,7 +20,7 @@ class Lines:
         self.socket = None
 
     def ask(self, *words):
-        """The words of the answer. Raises Refused, or OSError where nobody answers."""
+        """Returns the words of the answer. Raises Refused, or OSError if there is no answer."""
         line = " ".join(str(word) for word in words)
         try:
             answer = self.exchange(line.encode() + b"\n").decode().split()

@@ -1,13 +1,13 @@
 """The store: what the leaders write to. It keeps the fence.
 
-It takes no part in the election and asks nobody who leads. It keeps one token, the newest that it ever
-accepted, and refuses every older one. All that it accepts stands in its journal, from which a store that
-is started again learns where it was.
+It takes no part in the election, and does not ask for the leader. It keeps one token, the newest that it
+ever accepted, and refuses every older one. It writes all that it accepts to its journal. A restarted store
+reads the journal, and goes on from there.
 
     take EPOCH TERM WORKER        ->  job J       the job to do next; raises the fence
     did EPOCH TERM WORKER JOB     ->  ok          the job is done; raises the fence
     epoch                         ->  epoch E     the epoch that was begun last
-    begin                         ->  epoch E     begins an epoch, with a number that none had before
+    begin                         ->  epoch E     begins an epoch, with a number that no epoch had before
 
 A `take` or `did` with a token older than the fence is answered `no late`, and changes nothing.
 """
@@ -34,7 +34,7 @@ class Store:
         self.file = open(path, "a", encoding="ascii")
 
     def count(self, entry):
-        """What an entry changes."""
+        """Applies an entry to the state."""
         if entry.kind == "epoch":
             self.epoch = entry.token.epoch
         if entry.kind in ("take", "did") and entry.token >= self.last.token:
@@ -43,37 +43,37 @@ class Store:
             self.job = entry.job + 1
 
     def write(self, entry):
-        """Puts an entry into the journal before anybody is told of it."""
+        """Writes an entry to the journal, and only then applies it."""
         self.file.write(entry.line())
         self.file.flush()
         os.fsync(self.file.fileno())
         self.count(entry)
 
     def begin_epoch(self):
-        """A number that no epoch had before."""
+        """Begins an epoch, and returns its number, which no epoch had before."""
         with self.lock:
             self.write(Entry("epoch", Token(self.epoch + 1, 0)))
             return self.epoch
 
     def take(self, token, worker):
-        """The job to do next, or None for a late leader. A leader takes before it works, so that from then
-        on its predecessor is late."""
+        """Returns the job to do next, or None to a late leader. A leader takes its job before it works, so
+        from then on its predecessor is late."""
         with self.lock:
             return self.job if self.accepts(Entry("take", token, worker, self.job)) else None
 
     def did(self, token, worker, job):
-        """Whether it was written that the job is done."""
+        """Writes that the job is done. Returns false to a late leader."""
         with self.lock:
             return self.accepts(Entry("did", token, worker, job))
 
     def accepts(self, entry):
-        """Writes an entry, if it is not late. Here is the fence."""
+        """Accepts and writes an entry, unless it is late. This is the fence."""
         is_late = self.is_fenced and entry.token < self.last.token
         self.write(entry._replace(kind="late") if is_late else entry)
         return not is_late
 
     def answer(self, line):
-        """The answer to a line."""
+        """Returns the answer to a line."""
         word, *numbers = line.split() or [""]
         if not all(number.isdecimal() for number in numbers):
             return "no bad-line"

@@ -1,17 +1,17 @@
-"""The supervisor: keeps the workers running, and the group's members those that are alive.
+"""The supervisor: keeps the workers running, and joins the living workers to the group.
 
-`ringd` knows nothing of who is alive. Somebody has to tell it, and has to say when a term starts; here
-one process does both, by three rules.
+`ringd` does not know which workers are alive. Another process has to join them and to start the terms.
+Here the supervisor does both, by three rules.
 
-1. A worker that was heard of in the last moment is a member: it is joined. It takes part from the next
-   term on, and nothing is started for its sake.
-2. A worker that has ended, or was silent for too long, is no member: it leaves, and a term is started
-   on those that are left. It may have led; whoever leads then has a newer term.
-3. Where `ringd` doesn't know the group, it was started again and has forgotten everything. Then a new
-   epoch begins, with a group of its own.
+1. A worker that was heard of recently is joined. It takes part from the next term on; no term is started
+   for its sake.
+2. A worker that has ended, or was silent for too long, is removed, and a term is started among the
+   others. If it led, the next leader has a newer term.
+3. If `ringd` does not know the group, it was restarted and has forgotten everything. Then a new epoch
+   begins, with a group of its own.
 
-Silence proves nothing: a worker that was stopped for a second is taken for dead, and goes on afterwards as
-if it still led. That does no harm, since the store refuses what it writes then.
+Silence proves nothing. A worker that was stopped for a second is taken for dead, and goes on afterwards
+as if it still led. That does no harm, since the store refuses its writes.
 """
 
 import os
@@ -25,18 +25,18 @@ import time
 from lines import Lines, Refused
 
 WORKER = pathlib.Path(__file__).with_name("worker.py")
-# A worker that is silent for so many seconds is taken for dead.
+# A worker that is silent for this many seconds is taken for dead.
 SILENCE = 0.3
-# How often the supervisor asks ringd something, to learn that it was started again.
+# After how many seconds the supervisor asks ringd again, to notice a restart.
 LOOK = 0.5
-# A term that is undecided for so many seconds is followed by another: nothing promises that a term is
-# decided, so who waits has to have an end to its patience.
+# A term that is undecided for this many seconds is followed by another: that a term is decided is not
+# promised, so nobody may wait for it without end.
 PATIENCE = 3
 
 
 class Worker:
-    """A worker's process, and when it was last heard of. As a member it has the number of its process, which
-    no other process has while it lives: two with one number would show one token."""
+    """A worker's process, and when it was last heard of. Its number as a member is that of its process, which
+    no other process has while it lives: two workers with one number would show one token."""
 
     def __init__(self, ports):
         words = [sys.executable, "-B", WORKER, *ports]
@@ -46,20 +46,20 @@ class Worker:
         self.heard = 0
 
     def hear(self):
-        """Reads what it said; false where it has ended."""
+        """Reads what it wrote. Returns false if it has ended."""
         said = os.read(self.process.stdout.fileno(), 65536)
         self.heard = time.monotonic()
         return said != b""
 
     def end(self):
-        """Ends it, whatever it does."""
+        """Kills it, and waits for its end."""
         self.process.kill()
         self.process.wait()
         self.process.stdout.close()
 
 
 class Supervisor:
-    """Keeps so many workers running, and speaks for them to ringd."""
+    """Keeps `count` workers running, and gives ringd its members and terms."""
 
     def __init__(self, ring_port, store_port, count, tell=lambda text: None):
         self.ports = ring_port, store_port
@@ -84,7 +84,7 @@ class Supervisor:
         self.workers[worker.number] = worker
 
     def run(self):
-        """Goes on until it is told to end."""
+        """Works until `is_over` is set."""
         while not self.is_over.is_set():
             self.hear()
             try:
@@ -99,7 +99,7 @@ class Supervisor:
             worker.end()
 
     def hear(self):
-        """Hears the workers, and replaces those that have ended."""
+        """Reads what the workers wrote, and replaces those that have ended."""
         for key, _ in self.selector.select(timeout=0.05):
             worker = key.data
             if not worker.hear():
@@ -109,7 +109,7 @@ class Supervisor:
                 self.employ()
 
     def follow(self):
-        """Makes the members those that are alive, and starts a term where somebody went."""
+        """Joins the living workers and removes the others. Starts a term if one was removed."""
         if self.group is None:
             self.found()
         latest = time.monotonic() - SILENCE
@@ -135,8 +135,8 @@ class Supervisor:
         self.tell(f"{self.group} begins")
 
     def change(self, word, number, done):
-        """Asks for a change of the members. The refusal that it is done already comes where an earlier
-        answer was lost, and is as good."""
+        """Joins or removes a member. If an earlier answer was lost, the change may be done already: the
+        refusal that says so is ignored."""
         try:
             self.ring.ask(word, self.group, number)
         except Refused as refusal:
@@ -145,15 +145,15 @@ class Supervisor:
         self.tell(f"{self.group} {word} {number}")
 
     def start(self):
-        """Starts a term. Where the answer is lost it is started once more: a term more does no harm, but a
-        group has a thousand of them."""
+        """Starts a term. If the answer is lost, it is started again: one more term does no harm, but a
+        group has only a thousand."""
         _, term = self.ring.ask("start", self.group)
         self.is_due, self.asked = False, min(self.members)
         self.decided = time.monotonic()
         self.tell(f"{self.group} start: term {term}")
 
     def look(self):
-        """Asks who leads, to learn that ringd was started again, or that a term stays undecided."""
+        """Asks for the leader, to notice that ringd was restarted, or that a term stays undecided."""
         self.looked = time.monotonic()
         standing, *_ = self.ring.ask("who", self.group, self.asked)
         if standing == "leader":

@@ -2,9 +2,9 @@
 
     worker.py RINGD-PORT STORE-PORT
 
-It asks `ringd` who leads, often while it doesn't lead itself, and once a second while it does. What stops a
-leader is the store, which says that it is late: being told `leader` is never a licence to write, since between
-the answer and the write any time may pass, and a newer term may have begun meanwhile.
+It asks `ringd` for the leader: often while it does not lead, and once a second while it does. The store stops
+a late leader. The reply `leader` is no permission to write: any time may pass between the reply and the
+write, and a newer term may have begun meanwhile.
 """
 
 import os
@@ -14,20 +14,20 @@ import time
 from journal import Token
 from lines import Lines, Refused
 
-# How often somebody who doesn't lead asks, in seconds. Each question stays in the memory of ringd for
-# good: see docs/OPERATING.md for what that costs.
+# After how many seconds a worker asks again if it does not lead. Each question stays in the memory of
+# ringd for good: docs/OPERATING.md says what that costs.
 PAUSE = 0.05
-# For how long a leader goes on before it asks again.
+# For how many seconds a leader works before it asks again.
 STRETCH = 1
-# How long a job takes.
+# How many seconds a job takes.
 WORK = 0.01
 
 
 def token_of(ring, store, me):
-    """The token with which this worker leads, or None where it doesn't.
+    """Returns the token with which this worker leads, or None if it does not lead.
 
-    The group is named for the epoch, so no answer of ringd can be taken for one of another epoch: a
-    ringd that was started again doesn't know the earlier group, and says so.
+    The group is named for the epoch. So no answer of ringd can be taken for an answer of another epoch: a
+    restarted ringd does not know the earlier group, and says so.
     """
     _, epoch = store.ask("epoch")
     standing, *numbers = ring.ask("who", f"jobs-{epoch}", me)
@@ -47,7 +47,7 @@ def lead(store, token, me):
 
 
 def say_alive():
-    """Tells the supervisor. Where that has ended, so does this worker."""
+    """Reports to the supervisor. If that has ended, this worker ends too."""
     try:
         os.write(sys.stdout.fileno(), b"alive\n")
     except BrokenPipeError:
@@ -63,9 +63,9 @@ def main():
             if token is not None:
                 lead(store, token, me)
         except Refused:
-            pass  # (late, or there is no such group or term, or not with this member: it asks again)
+            pass  # (late, or no such group or term, or this member is not in it: ask again)
         except OSError:
-            pass  # (ringd or the store doesn't answer just now)
+            pass  # (ringd or the store does not answer now: ask again)
         time.sleep(PAUSE)
 
 
