@@ -1,4 +1,4 @@
-"""What the checks of ringchart and ringctl share: runs of a program, and checks that are made in turn."""
+"""Shared by the checks of ringchart and ringctl: runs of a program, and checks one after another."""
 
 import os
 import pathlib
@@ -24,15 +24,15 @@ class Program:
         return ran.returncode, ran.stdout or b"", ran.stderr
 
     def says(self, out, *words, given=b""):
-        """A run that has to end well, and write this."""
+        """A run that must end with status 0 and write this."""
         same_end(words, self.run(*words, given=given), (0, out, b""))
 
     def fails(self, status, error, *words, given=b"", out=b"", **ends):
-        """A run that has to end with this status and this line on standard error, behind this output."""
+        """A run that must end with this status, this line on standard error, and this output."""
         same_end(words, self.run(*words, given=given, **ends), (status, out, error))
 
     def refuses(self, *words):
-        """A run whose words have to be refused, with how they are used."""
+        """A run whose words must be refused, with the usage."""
         status, out, error = self.run(*words)
         if b"--help" not in error:
             raise Differs(f"{words}: standard error has no usage: {short(error)}")
@@ -40,7 +40,7 @@ class Program:
 
 
 def same_end(words, seen, wanted):
-    """Compares how a run ended, with these words, to how it has to."""
+    """Compares the end of a run with these words to the wanted one."""
     for what, one, other in zip(("status", "standard output", "standard error"), seen, wanted):
         if isinstance(one, bytes):
             same_text(f"{' '.join(map(str, words))}: {what}", one, other)
@@ -57,7 +57,7 @@ def same_text(what, seen, wanted):
 
 
 def make_all(checks, title, make):
-    """Makes each check with what `make` gives for a new folder, and tells those that fail."""
+    """Makes each check with the program of `make` in a new folder, and prints the checks that fail."""
     failed = 0
     for one in checks:
         with tempfile.TemporaryDirectory() as folder:

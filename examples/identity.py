@@ -20,5 +20,5 @@ def identity_of(word):
 
 
 def numbers_of(members):
-    """The numbers of members, by which they are told apart."""
+    """Returns the numbers of members, by which they are distinguished."""
     return [member.number for member in members]

@@ -1,9 +1,9 @@
-"""What a group may answer, and whether replies to several clients fit one history.
+"""The replies that a group may give, and whether replies to several clients fit one history.
 
-A command is a tuple of words behind the group's name, as ("leave", 3), where who joins is an `Identity` and all
-others are named by their numbers; a reply is a line as text. The
-workers tell members of a leader between any two commands, so a state doesn't say who knows: it says who
-is known to know. Of an earlier term it says whether a leader was seen, seen to be missing, or neither.
+A command is a tuple of words without the group's name, as ("leave", 3). A member that joins is an `Identity`;
+all others are named by their numbers. A reply is a line of text. Members may come to know the leader between
+any two commands. So a state does not have the members that know, but those that are known to know. Of an
+earlier term it has whether a leader was seen, seen to be missing, or neither.
 """
 
 import functools

@@ -1,4 +1,4 @@
-"""What the checks of the program as a server share: a client, a free port, a configuration."""
+"""Shared by the checks of the program as a server: a client, a free port, a configuration."""
 
 import contextlib
 import socket
