@@ -1,9 +1,9 @@
--- How the program ends.
+-- The exit status of the program.
 use Rattle.std.specs.Prelude.{ℕ}
 use Rattle.ringctl.specs.declared.fault.Fault.{Fault}
 use Rattle.ringctl.specs.declared.fault.Fault.TheVariants.{Refused, NoService, Read, Write, NoMemory}
 
--- The status that the program ends with at a fault.
+-- The exit status after a fault.
 abbrev pub status_of : Fault → ℕ
 status_of (Refused _) = 1
 status_of NoService = 3

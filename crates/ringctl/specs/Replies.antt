@@ -1,9 +1,9 @@
--- What lines of the service say.
+-- Lines of the service as replies.
 use Rattle.std.specs.Prelude.{◌++◌, ⊤, ℕ, List, codes}
 use Rattle.ringctl.specs.declared.reply.Reply.{Reply}
 use Rattle.ringctl.specs.declared.reply.Reply.TheVariants.{Done, Refused}
 
--- the line that a reply was read from
+-- the line from which a reply was read
 abbrev pub line_of : Reply → List ℕ
 line_of (Done line) = line.now
 line_of (Refused word) = codes "no " ++ word.now

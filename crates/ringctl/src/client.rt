@@ -6,13 +6,13 @@ use std::io::{self, BufRead, BufReader, Read, Write};
 use std::net::{Net, TcpStream, ToSocketAddrs};
 use std::time::Duration;
 
-// For how many seconds the service may leave a connection, a line or a reply waiting.
+// The time limit of a connection, a write and a read, in seconds.
 const PATIENCE: u64 = 10;
 
-// How many bytes a reply has at most; the longest that there is has 22000.
+// The most bytes of a reply with its LF. The longest reply of a service has 22000.
 const LONGEST: u64 = 65536;
 
-/// A client that asks one line after another.
+/// A connection to a service, over which one line after another is sent.
 #[derive(Drop)]
 pub struct Client<S: Drop> {
     alloc: Global,
@@ -22,7 +22,8 @@ pub struct Client<S: Drop> {
 }
 
 impl Client<TcpStream> {
-    /// A client of the service at `HOST:PORT`. Each address of the host is tried.
+    /// Connects to the service at `HOST:PORT`. Tries each address of the host. Fails with
+    /// `NoService` if none can be connected to, and with `NoMemory` if an allocation fails.
     pub fn reach<R>(rt: &R, address: &str) -> Result<Client<TcpStream>, Fault>
     where
         R: AllocGlobal + Net<Stream = TcpStream>,
@@ -45,7 +46,7 @@ impl Client<TcpStream> {
 }
 
 impl<S: Read + Write + Drop> Client<S> {
-    /// A client over this stream.
+    /// Returns a client over this stream. Fails only if an allocation fails.
     pub fn over(alloc: Global, stream: S) -> Result<Client<S>, Fault> {
         let Ok(reader) = BufReader::new(alloc, stream) else {
             return Err(Fault::NoMemory);
@@ -58,7 +59,7 @@ impl<S: Read + Write + Drop> Client<S> {
         })
     }
 
-    /// Sends a line, given in two parts and without its LF, and answers the reply to it.
+    /// Sends a line, given in two parts and without its LF, and returns its reply.
     pub fn ask(&mut self, word: &str, others: &str) -> Result<Reply<'_>, Fault> {
         self.send(word, others)?;
         self.reply.clear();
@@ -69,7 +70,7 @@ impl<S: Read + Write + Drop> Client<S> {
         reply.ok_or(Fault::NoService)
     }
 
-    /// Asks the same, and answers the line of the reply. A refusal is a fault.
+    /// Sends a line as `ask` does, and returns the line of the reply. A refusal is a fault.
     pub fn demand(&mut self, word: &str, others: &str) -> Result<&str, Fault> {
         let alloc = self.alloc;
         match self.ask(word, others)? {
@@ -91,7 +92,7 @@ impl<S: Read + Write + Drop> Client<S> {
     }
 }
 
-// Reads a line with its LF, or as much of it as a reply may have.
+// Reads a line with its LF, or its first `LONGEST` bytes if it is longer.
 fn read_bounded<R: BufRead>(reader: &mut R, line: &mut String) -> io::Result<usize> {
     reader.take(LONGEST).read_line(line)
 }

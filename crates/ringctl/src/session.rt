@@ -1,13 +1,13 @@
-//! Lines that are asked, and their replies printed.
+//! Sends lines, and prints their replies.
 use crate::client::Client;
 use crate::fault::Fault;
 use crate::reply::Reply;
 use std::io::{self, BufRead, BufReader, Read, Write};
 
-// What stands before each line at a terminal.
+// The prompt before each line at a terminal.
 const PROMPT: &str = "ring> ";
 
-/// Asks one line. Its reply goes to standard output, and the word of a refusal into the fault.
+/// Sends one line, and prints its reply. If the reply is a refusal, its word is in the fault.
 pub fn ask_once<R, S>(rt: &R, client: &mut Client<S>, line: &str) -> Result<(), Fault>
 where
     R: Print,
@@ -16,8 +16,8 @@ where
     say(rt, client.demand("", line)?)
 }
 
-/// Asks each line of standard input, to its end, and prints each reply, refusals among them. Empty
-/// lines are passed over.
+/// Sends each line of standard input, to its end, and prints each reply, also if it is a refusal.
+/// Empty lines are skipped.
 pub fn hold<R, S>(rt: &R, client: &mut Client<S>, at_terminal: bool) -> Result<(), Fault>
 where
     R: Input + Print + AllocGlobal,
@@ -33,7 +33,7 @@ where
     if at_terminal { say(rt, "") } else { Ok(()) }
 }
 
-// Asks a line that was read, unless it is empty, and prompts for the next one.
+// Sends a line that was read, unless it is empty, and prompts for the next one.
 fn take<R, S>(
     rt: &R,
     client: &mut Client<S>,
@@ -53,7 +53,7 @@ where
     prompt(rt, at_terminal)
 }
 
-// Asks a line and prints its reply, also where it is refused.
+// Sends a line, and prints its reply, also if it is a refusal.
 fn answer<R, S>(rt: &R, client: &mut Client<S>, line: &str) -> Result<(), Fault>
 where
     R: Print,

@@ -1,4 +1,4 @@
-//! What a watch has told of a group's terms, and what is new in a reply.
+//! The terms that a watch has printed, and the news in a reply.
 ghost use Rattle.std.specs.Prelude.{◌≡◌, ◌<◌, ◌↔◌, IsTrue, max};
 
 use ring_id::NodeId;
@@ -10,7 +10,7 @@ pub struct Term {
     pub leader: Option<NodeId>,
 }
 
-/// The number in the word of an identity: what stands before its weight, if it has one.
+/// Returns the number in the word of a member: the part before its weight, if it has one.
 pub fn number_in(word: &str) -> &str {
     match word.split_once('/') {
         Some((number, _)) => number,
@@ -18,7 +18,7 @@ pub fn number_in(word: &str) -> &str {
     }
 }
 
-/// The term that `T:N`, `T:N/V` or `T:-` is.
+/// Returns the term in `T:N`, `T:N/V` or `T:-`, or `None` if the text is none of these.
 pub fn read_term(text: &str) -> Option<Term> {
     let (number, leader) = text.split_once(':')?;
     let number = number.parse().ok()?;
@@ -34,22 +34,22 @@ pub fn read_term(text: &str) -> Option<Term> {
     })
 }
 
-// The identity that is a number, or a number and a weight.
+// Returns the member in a number, or in a number and a weight.
 fn read_identity(word: &str) -> Option<NodeId> {
     let (number, weight) = word.split_once('/').unwrap_or((word, "0"));
     NodeId::weighted(number.parse().ok()?, weight.parse().ok()?)
 }
 
-/// What is new in a term.
+/// The news of a term.
 #[derive(Clone, Copy)]
 pub struct News {
-    /// It has started.
+    /// Whether it has started.
     pub started: bool,
-    /// Its leader has become known.
+    /// Its leader, if that has become known.
     pub leader: Option<NodeId>,
 }
 
-/// The last term that was told, and whether its leader was.
+/// The last term that was printed, and whether its leader was.
 #[derive(Clone, Copy)]
 pub struct Told {
     term: u16,
@@ -57,7 +57,7 @@ pub struct Told {
 }
 
 impl Told {
-    /// Nothing was told yet.
+    /// Returns the state before anything was printed.
     pub fn nothing() -> Told {
         Told {
             term: 0,
@@ -65,7 +65,8 @@ impl Told {
         }
     }
 
-    /// What is new in this term, which counts as told from now on. An earlier one has nothing new.
+    /// Returns the news of this term, which counts as printed from now on. An earlier term has no
+    /// news.
     pub fn take(&mut self, term: Term) -> News
         ensures started { IsTrue result.started ↔ self.old.term < term.number }
         ensures last { self.new.term ≡ max self.old.term term.number }

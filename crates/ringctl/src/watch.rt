@@ -1,7 +1,7 @@
-//! Watching a group: a line each time that a term starts or its leader becomes known.
+//! Watches a group: prints a line when a term starts, and when its leader becomes known.
 //!
-//! The watch asks one `who` a second, of one member, and `terms` only where that reply has changed:
-//! the service keeps each command for good, and a reply to `terms` grows with the terms.
+//! The watch asks one member `who` once a second, and asks for the terms only if that reply has
+//! changed. The service keeps each command for good, and a reply to `terms` grows with the terms.
 use crate::client::Client;
 use crate::fault::Fault;
 use crate::reply::Reply;
@@ -12,13 +12,13 @@ use std::io::{Read, Write};
 use std::thread;
 use std::time::{Clock, Duration};
 
-// How many seconds the watch rests between two looks.
+// The number of seconds between two looks.
 const PACE: u64 = 1;
 
-/// Watches a group for so many seconds, or until the process is ended.
+/// Watches a group for `seconds` seconds, or without end if there is no number.
 ///
-/// The last term that there is already is told first. A group without members or terms is waited for,
-/// one that doesn't exist is a refusal.
+/// Prints the last existing term first. If the group has no members or no terms, the watch waits
+/// for them. If the group does not exist, it fails with the refusal.
 pub fn watch<R, S>(
     rt: &R,
     client: &mut Client<S>,
@@ -37,14 +37,14 @@ where
     watcher.watch(rt, client, looks)
 }
 
-// What a watch remembers.
+// The state of a watch.
 #[derive(Drop)]
 struct Watcher {
     alloc: Global,
     group: String,
-    // The member that is asked, as a line names it; none before one is chosen.
+    // The group and the member that is asked, as a line names them; `None` before one is chosen.
     member: Option<String>,
-    // Which of the members is chosen next.
+    // The number of members that were chosen so far.
     turn: usize,
     // The last reply to `who`.
     seen: String,
@@ -65,7 +65,7 @@ impl Watcher {
         })
     }
 
-    // Looks, and so many times again after a rest.
+    // Looks, and then `looks` times again, each time after a rest.
     fn watch<R, S>(&mut self, rt: &R, client: &mut Client<S>, looks: u64) -> Result<(), Fault>
     where
         R: Print + Clock,
@@ -79,7 +79,7 @@ impl Watcher {
         Ok(())
     }
 
-    // Asks whether something has changed, and tells it.
+    // Asks whether something has changed, and prints it.
     fn look<R, S>(&mut self, rt: &R, client: &mut Client<S>) -> Result<(), Fault>
     where
         R: Print,
@@ -94,7 +94,7 @@ impl Watcher {
         Ok(())
     }
 
-    // Chooses the member that is asked, if the group has one: another each time.
+    // Chooses the member that is asked, if the group has one: a different member each time.
     fn choose<S: Read + Write + Drop>(&mut self, client: &mut Client<S>) -> Result<(), Fault> {
         let reply = client.demand("members ", self.group.as_str())?;
         let count = count_in(reply);
@@ -109,12 +109,12 @@ impl Watcher {
         Ok(())
     }
 
-    // The group and the number of a member, as a line names it.
+    // Returns the group and the number of a member, as a line names them.
     fn named(&self, number: &str) -> Result<String, AllocError> {
         format!(in self.alloc; "{} {number}", self.group)
     }
 
-    // Whether the member answers otherwise than it did at the last look.
+    // Returns whether the member's reply differs from that of the last look.
     fn has_changed<S: Read + Write + Drop>(
         &mut self,
         client: &mut Client<S>,
@@ -133,7 +133,7 @@ impl Watcher {
         }
     }
 
-    // Keeps a reply to `who`; whether it is another than the last one.
+    // Keeps a reply to `who`, and returns whether it differs from the last one.
     fn see(&mut self, reply: &str) -> Result<bool, Fault> {
         if reply == self.seen.as_str() {
             return Ok(false);
@@ -143,7 +143,7 @@ impl Watcher {
         Ok(true)
     }
 
-    // Asks for the terms, and tells what is new in them.
+    // Asks for the terms, and prints their news.
     fn tell<R, S>(&mut self, rt: &R, client: &mut Client<S>) -> Result<(), Fault>
     where
         R: Print,
@@ -160,7 +160,7 @@ impl Watcher {
     }
 }
 
-// Tells what is new in the terms of a reply, but for so many at its front.
+// Prints the news of the terms of a reply, except of the first `earlier` terms.
 fn tell_terms(rt: &impl Print, told: &mut Told, reply: &str, earlier: usize) -> Result<(), Fault> {
     let mut left = earlier;
     for word in reply.split(' ') {
@@ -174,12 +174,12 @@ fn tell_terms(rt: &impl Print, told: &mut Told, reply: &str, earlier: usize) -> 
     Ok(())
 }
 
-// How many members or terms a reply lists, behind the word that says what they are.
+// Returns how many members or terms a reply lists after its first word.
 fn count_in(reply: &str) -> usize {
     reply.split(' ').count().saturating_sub(1)
 }
 
-// Prints what is new in a term.
+// Prints the news of a term.
 fn tell_term(rt: &impl Print, told: &mut Told, term: Term) -> Result<(), Fault> {
     let number = term.number;
     let news = told.take(term);
@@ -192,7 +192,7 @@ fn tell_term(rt: &impl Print, told: &mut Told, term: Term) -> Result<(), Fault> 
     }
 }
 
-// Prints who leads a term, with its weight where it has one.
+// Prints the leader of a term, with its weight if that is not 0.
 fn print_leader(rt: &impl Print, term: u16, leader: NodeId) -> Result<(), Fault> {
     let printed = match leader.weight() {
         0 => println!(rt; "term {term} leader {}", leader.get()),

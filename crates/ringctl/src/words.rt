@@ -54,7 +54,8 @@ pub enum Order {
     Session,
     /// Send one line, given without its LF.
     Ask(String),
-    /// Print the terms of a group for `seconds` seconds; if there is none, until the process is ended.
+    /// Print the terms of a group for `seconds` seconds; if there is none, until the process is
+    /// ended.
     Watch { group: String, seconds: Option<u32> },
 }
 
@@ -175,7 +176,8 @@ fn is_address(text: &str) -> bool {
     }
 }
 
-// The order that the words of a command give, if they give one. Only a watch may have an end.
+// Returns the order that these words give, or `None` if they give none. Only a watch may have an
+// end.
 fn order_of(
     alloc: Global,
     words: &[&str],
@@ -189,7 +191,7 @@ fn order_of(
     }
 }
 
-// The order to watch, if this is a group's name.
+// Returns the order to watch this group, or `None` if this is not the name of a group.
 fn watch_order(
     alloc: Global,
     group: &str,
@@ -204,7 +206,7 @@ fn watch_order(
     }))
 }
 
-// The order to send a line; none exactly where the line spells no command of a client.
+// Returns the order to send this line, or `None` exactly if it spells no command of a client.
 fn ask_order(line: String) -> Option<Order>
     ensures some { IfSome result (IsAsk (string_bytes line)) }
     ensures none { IfNone result (SpellsNoCommand (string_bytes line)) }
@@ -215,7 +217,7 @@ fn ask_order(line: String) -> Option<Order>
     Some(Order::Ask(line))
 }
 
-// The words with one space between them.
+// Returns the words with one space between two of them.
 fn line_of(alloc: Global, words: &[&str]) -> Result<String, AllocError> {
     let mut line = String::new(alloc);
     let mut gap = "";

@@ -11,7 +11,7 @@ use Rattle.ringctl.specs.declared.words.Order.TheVariants.{Session, Ask, Watch}
 abbrev pub SpellsNoCommand : List ℕ → Type 0
 SpellsNoCommand line = (command : Command Any) → Spells line (Client command) → ⊥
 
--- The order to send this line, which spells a command of a client.
+-- The order sends this line, which spells a command of a client.
 abbrev pub IsAsk : List ℕ → Order → Type 0
 IsAsk line Session = ⊥
 IsAsk line (Ask text) = (string_bytes text ≡ line) × ((command : Command Any) × Spells line (Client command))

@@ -1,4 +1,4 @@
--- What follows `no` and a space is told as a refusal.
+-- The rest after `no` and a space is the word of a refusal.
 use Rattle.ringctl.proofs.reply.read_reply.Goals as goal
 
 pub returns-in-Some-clause-refused : goal.returns-in-Some-clause-refused

@@ -1,4 +1,4 @@
--- A term is told as started exactly where its number is greater than the last one's.
+-- A term is new exactly if its number is greater than the last one's.
 use Rattle.std.proofs.lemmas.Bool.Decides.{Decides-ltb}
 use Rattle.ringctl.proofs.told.Told.take.Goals as goal
 
