@@ -17,8 +17,9 @@ CHART, CTL = (ROOT / "crates" / name / "out" / name for name in ("ringchart", "r
 SCHEDULE = (ROOT / "crates/ringchart/stdin").read_bytes() + b"cut a 1 left\nstart a => term 3\ncut a 2 left\ndrain a 9\n"
 REPLIES = {b"groups": b"groups a", b"members a": b"members 7/9", b"who a 7": b"leader 1 7/9", b"terms a": b"terms 1:7/9"}
 # How a run may end that was refused memory. A row of a schedule that says its reply is then answered otherwise.
-FAULTS = {CHART: {1: rb"ringchart: (no memory|line [0-9]+ is answered: .*\bno-memory)\n"},
-          CTL: {1: rb"ringctl: (no memory|read failed|write failed)\n", 3: rb"ringctl: no service answers\n"}}
+FAULTS = {CHART: {1: rb"ringchart: (no memory|line [0-9]+ got another reply: .*\bno-memory)\n"},
+          CTL: {1: rb"ringctl: (no memory|cannot (read standard input|write standard output))\n",
+                3: rb"ringctl: no service answers\n"}}
 
 
 class Case:

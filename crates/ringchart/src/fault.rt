@@ -4,28 +4,28 @@ use std::alloc::{AllocError, AllocFailed};
 use std::io;
 use thiserror::Error;
 
-/// A fault that ends the program with status 1. Its text is what standard error gets.
+/// A fault that ends the program with status 1. The program prints its text on standard error.
 #[derive(Debug, Drop, Error)]
 pub enum Fault {
-    /// The schedule could not be read, or is no text.
-    #[error("the schedule can't be read")]
+    /// The schedule could not be read, or is not UTF-8.
+    #[error("cannot read the schedule")]
     Unreadable,
-    /// A line spells nothing that a schedule has.
-    #[error("line {0} is bad")]
+    /// A line is not a line of a schedule.
+    #[error("line {0} is not a valid line")]
     BadLine(u64),
-    /// A row says another reply than this one.
-    #[error("line {0} is answered: {1}")]
+    /// A line got this reply, and asks for another one.
+    #[error("line {0} got another reply: {1}")]
     Otherwise(u64, String),
-    /// There is nothing to draw.
-    #[error("no term was started")]
+    /// There is no term to draw.
+    #[error("the schedule starts no term")]
     NoTerm,
-    /// The deliveries that were drawn are not those that were made.
-    #[error("what line {0} did can't be followed")]
+    /// The deliveries that would be drawn are not those that were made.
+    #[error("cannot draw what line {0} did; this is a mistake in ringchart")]
     Lost(u64),
     /// A picture could not be written.
-    #[error("writing failed")]
+    #[error("cannot write the picture")]
     Write,
-    /// Memory was refused.
+    /// An allocation failed.
     #[error("no memory")]
     NoMemory,
 }
@@ -48,7 +48,7 @@ impl From<NoMemory> for Fault {
     }
 }
 
-/// The fault of a write that failed.
+/// Returns the fault of a write that failed.
 pub fn written(done: io::Result<()>) -> Result<(), Fault> {
     match done {
         Ok(()) => Ok(()),

@@ -1,4 +1,4 @@
-//! Where things stand in a picture, in pixels.
+//! The positions in a picture, in pixels.
 use crate::tale::{Arrow, Tale};
 
 /// The least distance between two columns.
@@ -7,15 +7,15 @@ const NARROW: u64 = 84;
 /// The distance between two rows.
 const ROW: u64 = 26;
 
-/// Where the first column stands, and where the members' names do.
+/// The position of the first column, and of the members' names.
 const LEFT: u64 = 92;
 
 const HEAD: u64 = 108;
 
-/// The least room behind the last column, for what members then know.
+/// The least width of the notes, to the right of the last column.
 const MARGIN: u64 = 190;
 
-/// The places of a picture.
+/// The positions in the picture of a term.
 #[derive(Clone, Copy)]
 pub struct Frame {
     gap: u64,
@@ -27,10 +27,10 @@ pub struct Frame {
 }
 
 impl Frame {
-    /// The places of the picture of a term, which has a title of so many characters.
+    /// Returns the positions in the picture of a term, which has a title of `title` characters.
     pub fn of(tale: &Tale, title: usize) -> Frame {
         let label = (tale.widest() as u64).saturating_mul(7).saturating_add(44);
-        // one member knows another: two names, and seven characters between them
+        // "M knows N": two names, and seven characters between them
         let note = (tale.widest_name() as u64)
             .saturating_mul(14)
             .saturating_add(50);
@@ -44,12 +44,12 @@ impl Frame {
         }
     }
 
-    /// Where a column stands.
+    /// Returns the position of a column.
     pub fn x(self, column: usize) -> u64 {
         LEFT.saturating_add(self.gap.saturating_mul(column as u64))
     }
 
-    /// Where an arrow ends that is in flight: near the column that it goes to.
+    /// Returns the end of an arrow in flight: near the column that it goes to.
     pub fn x_flying(self, arrow: &Arrow) -> u64 {
         let part = self.gap / 5;
         if arrow.from < arrow.to {
@@ -59,47 +59,47 @@ impl Frame {
         }
     }
 
-    /// Where a delivery stands; the start is the one with number 0.
+    /// Returns the position of a delivery; number 0 is the start.
     pub fn y(self, step: u64) -> u64 {
         HEAD.saturating_add(ROW)
             .saturating_add(ROW.saturating_mul(step))
     }
 
-    /// Where the names of the members stand.
+    /// Returns the position of the members' names.
     pub fn y_names(self) -> u64 {
         HEAD
     }
 
-    /// Where the line above what is in flight at the end stands.
+    /// Returns the position of the line above the packets in flight at the end.
     pub fn y_end(self) -> u64 {
         self.y(self.steps).saturating_add(ROW / 2)
     }
 
-    /// Where the n-th packet in flight at the end stands.
+    /// Returns the position of packet number `nth` in flight at the end, counted from 0.
     pub fn y_flying(self, nth: u64) -> u64 {
         self.y(self.steps.saturating_add(nth).saturating_add(1))
     }
 
-    /// Where the columns end.
+    /// Returns the end of the columns.
     pub fn y_bottom(self) -> u64 {
         let rows = self.steps.saturating_add(self.flying);
         self.y(rows).saturating_add(ROW / 2)
     }
 
-    /// Where the room behind the last column begins.
+    /// Returns the beginning of the notes, to the right of the last column.
     pub fn x_margin(self) -> u64 {
         let last = LEFT.saturating_add(self.gap.saturating_mul(self.columns));
         last.saturating_add(36)
     }
 
-    /// How wide the picture is.
+    /// Returns the width of the picture.
     pub fn width(self) -> u64 {
         let columns = self.x_margin().saturating_add(self.margin);
         let title = self.title.saturating_mul(10).saturating_add(60);
         columns.max(title).max(620)
     }
 
-    /// How high the picture is.
+    /// Returns the height of the picture.
     pub fn height(self) -> u64 {
         self.y_bottom().saturating_add(86)
     }

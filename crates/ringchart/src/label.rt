@@ -1,11 +1,11 @@
-//! The words that stand beside arrows and above pictures, and the names of members.
+//! The labels of arrows, the names of members, and the names of algorithms.
 use crate::page::Page;
 use ring_any::{Any, AnyMsg};
 use ring_id::NodeId;
 use ring_node::Packet;
 use std::alloc::{AllocError, Global};
 
-/// The words of a packet.
+/// Returns the label of a packet.
 pub fn of_packet(alloc: Global, packet: Packet<AnyMsg>) -> Result<String, AllocError> {
     let mut page = Page::new(alloc);
     match packet {
@@ -15,7 +15,7 @@ pub fn of_packet(alloc: Global, packet: Packet<AnyMsg>) -> Result<String, AllocE
     page.text()
 }
 
-// Adds the words of a message.
+// Adds the label of a message.
 fn add_message(page: &mut Page, message: AnyMsg) {
     match message {
         AnyMsg::LeLann(id) | AnyMsg::Chang(id) | AnyMsg::Peterson(id) => add_member(page, "", id),
@@ -30,13 +30,13 @@ fn add_message(page: &mut Page, message: AnyMsg) {
     }
 }
 
-/// Adds words, and that a member knows the leader.
+/// Adds these words, and that a member knows the leader.
 pub fn add_knows(page: &mut Page, words: &str, member: NodeId, leader: NodeId) {
     add_member(page, words, member);
     add_member(page, " knows ", leader);
 }
 
-/// Adds words, and the name of a member as a line spells it: its number, and its weight where it has one.
+/// Adds these words, and a member as a line spells it: its number, and its weight if that is not 0.
 pub fn add_member(page: &mut Page, words: &str, member: NodeId) {
     page.add_number(words, member.get() as u64);
     if member.weight() > 0 {
@@ -44,7 +44,7 @@ pub fn add_member(page: &mut Page, words: &str, member: NodeId) {
     }
 }
 
-/// The name of an algorithm.
+/// Returns the name of an algorithm.
 pub fn of_algorithm(algorithm: Any) -> &'static str {
     match algorithm {
         Any::LeLann => "LeLann",

@@ -9,7 +9,7 @@ use ring_grammar::parse_event;
 use std::rt::Files;
 use std::{fs, io};
 
-/// A line of a schedule: its number, its command, and the reply that it has to get, if it says one.
+/// A line of a schedule: its number, its command, and the reply that it must get, if it has one.
 #[derive(Clone, Copy)]
 pub struct Line<'a> {
     pub place: u64,
@@ -18,7 +18,7 @@ pub struct Line<'a> {
 }
 
 impl<'a> Line<'a> {
-    /// This line of a schedule; none where it is empty or a comment.
+    /// Returns the line in a text, or `None` if the text is empty or a comment.
     pub fn read(place: u64, text: &'a str) -> Option<Line<'a>> {
         if text.is_empty() || text.starts_with('#') {
             return None;
@@ -37,8 +37,9 @@ impl<'a> Line<'a> {
         })
     }
 
-    /// What happens at this line; none where it says by itself that it is bad. A command that spells
-    /// nothing is bad where the line doesn't say so.
+    /// Returns the event that the command spells, or `None` if it spells none and the line has the
+    /// reply `no bad-line`. Fails with `BadLine` if it spells none and the line has another reply
+    /// or no reply.
     pub fn event(self) -> Result<Option<Event<Any>>, Fault>
         ensures { IfOk result (λ event. IfSome event (Spells self.entry.command.now)) }
     {
@@ -50,7 +51,9 @@ impl<'a> Line<'a> {
     }
 }
 
-/// The text of a schedule: of the file, or of standard input where no file is named.
+/// Returns the text of a schedule: of the file, or of standard input if there is no path. Fails
+/// with `Unreadable` if it cannot be read or is not UTF-8, and with `NoMemory` if an allocation
+/// fails.
 pub fn read_schedule<R>(rt: &R, path: Option<&str>) -> Result<String, Fault>
 where
     R: Input + Files + AllocGlobal,

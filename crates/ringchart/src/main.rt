@@ -1,13 +1,13 @@
-//! The program `ringchart`: a schedule in, a picture of each of its terms out.
+//! The program `ringchart`: reads a schedule, and draws a picture of each of its terms.
 //!
-//! It runs the schedule as `ringd replay` does, and draws what each delivery did: a line for each
-//! member in ring order, an arrow for each delivery, when each member knew the leader, and what was in
-//! flight at the end.
+//! It runs the schedule as `ringd replay` does, and draws what each delivery did. A picture has a
+//! line for each member in ring order, and an arrow for each delivery. It shows when each member
+//! knew the leader, and the packets that were in flight at the end.
 //!
-//! It ends with status 0 where all was drawn; with 1 and one line on standard error where a line is
-//! bad, a reply is another than its row says, no term was started, or reading, writing or memory
-//! failed; and with 2 and clap's text on standard error where the words are none that it takes, a
-//! request for help among them.
+//! Its exit status is 0 if all was drawn. It is 1, with one line on standard error, if a line is
+//! not valid, a reply is another than its line asks for, the schedule starts no term, or reading,
+//! writing or an allocation failed. It is 2 if the command line is refused or asks for help, with
+//! clap's text on standard error.
 #![tactic(auto)]
 
 ghost use Rattle.std.specs.Prelude.{◌≡◌, MatchResult};
@@ -33,7 +33,7 @@ use std::rt::{Env, Files};
 use tale::Tale;
 use words::{Order, WordsFault, not_text, read_words};
 
-// The order that the words of the command line give, of which the first is the program's name.
+// Returns the order that the words of the command line give. The first word is the program's name.
 fn order_given(rt: &(impl Env + AllocGlobal)) -> Result<Order, WordsFault> {
     match std::env::args(rt) {
         Ok(words) => {
@@ -52,7 +52,7 @@ fn obey(rt: &(impl Input + Files + Print + AllocGlobal), order: &Order) -> Resul
     draw(rt, order, &tales)
 }
 
-// Draws the terms where the order says, and how.
+// Draws the terms in the way and to the place that the order names.
 fn draw(
     rt: &(impl Files + Print + AllocGlobal),
     order: &Order,
@@ -65,7 +65,7 @@ fn draw(
     }
 }
 
-// Ends with status 0, or says the fault and ends with status 1.
+// Returns status 0, or prints the fault and returns status 1.
 fn ended(rt: &impl Eprint, done: Result<(), Fault>) -> ExitCode
     ensures { MatchResult done (λ _. exit_status result ≡ 0) (λ _. exit_status result ≡ 1) }
 {
@@ -78,7 +78,7 @@ fn ended(rt: &impl Eprint, done: Result<(), Fault>) -> ExitCode
     }
 }
 
-// Says why the command line was refused, and ends with status 2.
+// Prints why the command line was refused, and returns status 2.
 fn refused(rt: &impl Eprint, error: &clap::Error) -> ExitCode
     ensures { exit_status result ≡ 2 }
 {

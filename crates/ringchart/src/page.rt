@@ -1,8 +1,8 @@
 //! A text that grows.
 use std::alloc::{AllocError, Global};
 
-/// A text that pieces are added to. Who adds need not ask whether memory was refused: a piece for
-/// which it was is left out, and whoever takes the text is told.
+/// A text to which pieces are added. If an allocation fails, the piece is left out, and the page
+/// remembers it. So only `text` returns the failure, and the functions that add pieces do not.
 #[derive(Drop)]
 pub struct Page {
     text: String,
@@ -10,7 +10,7 @@ pub struct Page {
 }
 
 impl Page {
-    /// Nothing yet.
+    /// Returns an empty page. Does not allocate.
     pub fn new(alloc: Global) -> Page {
         Page {
             text: String::new(alloc),
@@ -25,7 +25,7 @@ impl Page {
         }
     }
 
-    /// Adds words, and a number behind them.
+    /// Adds words, and then a number.
     pub fn add_number(&mut self, words: &str, number: u64) {
         self.add(words);
         if write!(self.text, "{number}").is_err() {
@@ -33,14 +33,14 @@ impl Page {
         }
     }
 
-    /// Adds a number at the right end of eight characters.
+    /// Adds a number, with spaces before it up to eight characters.
     pub fn add_right(&mut self, number: u64) {
         if write!(self.text, "{number:>8}").is_err() {
             self.is_short = true;
         }
     }
 
-    /// Adds a character so many times.
+    /// Adds a character `count` times.
     pub fn fill(&mut self, count: usize, character: char) {
         for _ in 0..count {
             if self.text.push(character).is_err() {
@@ -49,7 +49,7 @@ impl Page {
         }
     }
 
-    /// The text, unless memory was refused to a piece of it.
+    /// Returns the text, or `AllocError` if a piece was left out.
     pub fn text(self) -> Result<String, AllocError> {
         if self.is_short {
             Err(AllocError)

@@ -1,4 +1,4 @@
-//! Where pictures go.
+//! Prints pictures, or writes them to files.
 use crate::fault::{Fault, written};
 use crate::page::Page;
 use crate::svg::Picture;
@@ -8,7 +8,7 @@ use std::alloc::{AllocError, Global};
 use std::fs;
 use std::rt::Files;
 
-/// Prints the pictures of all terms as characters, an empty line between them.
+/// Prints the pictures of all terms, drawn with characters, with an empty line between two of them.
 pub fn print_texts(rt: &(impl Print + AllocGlobal), tales: &[Tale]) -> Result<(), Fault> {
     let mut between = "";
     for tale in tales {
@@ -19,7 +19,7 @@ pub fn print_texts(rt: &(impl Print + AllocGlobal), tales: &[Tale]) -> Result<()
     Ok(())
 }
 
-/// Prints one SVG with the pictures of all terms below one another.
+/// Prints one SVG with the pictures of all terms, one below the other.
 pub fn print_svg(rt: &(impl Print + AllocGlobal), tales: &[Tale]) -> Result<(), Fault> {
     let Picture { svg, width, height } = below_one_another(rt.alloc(), tales)?;
     let mut head = Page::new(rt.alloc());
@@ -29,7 +29,7 @@ pub fn print_svg(rt: &(impl Print + AllocGlobal), tales: &[Tale]) -> Result<(), 
     written(println!(rt; "{svg}</svg>"))
 }
 
-// The pictures of all terms below one another, and how large they are together.
+// Returns the pictures of all terms, one below the other, with their size.
 fn below_one_another(alloc: Global, tales: &[Tale]) -> Result<Picture, AllocError> {
     let mut all = Picture {
         svg: String::new(alloc),
@@ -45,7 +45,7 @@ fn below_one_another(alloc: Global, tales: &[Tale]) -> Result<Picture, AllocErro
     Ok(all)
 }
 
-/// Writes the picture of each term to a file in a folder, and prints the files' names.
+/// Writes the picture of each term to a file in a folder, and prints the names of the files.
 pub fn write_files(
     rt: &(impl Files + Print + AllocGlobal),
     folder: &str,
@@ -57,7 +57,7 @@ pub fn write_files(
     Ok(())
 }
 
-// Writes the picture of a term, and prints the file's name.
+// Writes the picture of a term, and prints the name of the file.
 fn write_file(
     rt: &(impl Files + Print + AllocGlobal),
     folder: &str,
@@ -69,7 +69,7 @@ fn write_file(
     written(rt.println(name))
 }
 
-// The name of the file that shows a term.
+// Returns the name of the file for the picture of a term.
 fn file_name(alloc: Global, folder: &str, tale: &Tale) -> Result<String, AllocError> {
     let mut page = Page::new(alloc);
     page.add(folder);

@@ -1,4 +1,4 @@
-//! A term's world, each delivery written down.
+//! The world of a term, with a record of each delivery.
 use crate::fault::Fault;
 use crate::label;
 use crate::tale::{Arrow, Kind, Step, Tale};
@@ -12,18 +12,18 @@ use std::alloc::{AllocError, Global};
 use std::mem;
 use std::sync::Arc;
 
-/// A world, and what happened in it so far.
+/// A world, and the deliveries in it so far.
 #[derive(Drop)]
 pub struct Recorder {
     /// The group of the term.
     pub group: GroupName,
     world: World<Any>,
     steps: Vec<Step>,
-    // By which delivery each packet was sent, for each position.
+    // For each position, the deliveries at which its packets were sent.
     marks: Vec<Marks>,
 }
 
-// By which delivery each packet was sent to the left and to the right of a position.
+// The deliveries at which the packets of a position were sent, to the left and to the right.
 #[derive(Drop)]
 struct Marks {
     left: Vec<u64>,
@@ -31,7 +31,8 @@ struct Marks {
 }
 
 impl Recorder {
-    /// The world of a charter, in which every node has started.
+    /// Returns the world of a charter, in which every node has started. Fails only if an allocation
+    /// fails.
     pub fn begin(alloc: Global, charter: Arc<Charter<Any>>) -> Result<Recorder, Fault> {
         let group = charter.group();
         match World::begin(alloc, charter) {
@@ -51,12 +52,12 @@ impl Recorder {
         }
     }
 
-    /// How many packets are in flight or stuck.
+    /// Returns how many packets are in flight or stuck.
     pub fn pending(&self) -> u128 {
         self.world.pending()
     }
 
-    /// Does what the event did, by the reply to it: a delivery, so many of them, or a cut.
+    /// Repeats the deliveries or the cut that an event made, according to its reply.
     pub fn repeat(
         &mut self,
         alloc: Global,
@@ -77,7 +78,7 @@ impl Recorder {
         }
     }
 
-    // One delivery to a member from a side, if something is in flight there.
+    // Makes one delivery to a member from a side, if a packet is in flight there.
     fn deliver_to(&mut self, alloc: Global, node: NodeNo, side: Side) -> Result<(), Fault> {
         match self.world.charter().roster().position(node) {
             Some(position) => self.deliver(alloc, position, side),
@@ -95,7 +96,7 @@ impl Recorder {
         }
     }
 
-    // So many deliveries, each at the first link with something in flight.
+    // Makes `count` deliveries, each at the first link with a packet in flight.
     fn drain(&mut self, alloc: Global, count: u32) -> Result<(), Fault> {
         for _ in 0..count {
             let Some((position, side)) = self.world.ready() else {
@@ -106,7 +107,7 @@ impl Recorder {
         Ok(())
     }
 
-    // One delivery to a position from a side.
+    // Makes one delivery to a position from a side, if a packet is in flight there.
     fn deliver(&mut self, alloc: Global, position: usize, side: Side) -> Result<(), Fault> {
         if position >= self.world.charter().roster().len() {
             return Ok(());
@@ -125,14 +126,15 @@ impl Recorder {
         }
     }
 
-    // Writes down a delivery, and what its receiver has sent by it.
+    // Records a delivery, and the packets that its receiver sent at it.
     fn add(&mut self, step: Step) -> Result<(), Fault> {
         let position = step.position;
         self.steps.push(step)?;
         Ok(self.mark(position)?)
     }
 
-    // The arrow of the packet that stands on the link to a position from a side with so many before it.
+    // Returns the arrow of the packet on the link to a position from a side that has `before`
+    // packets before it, or `None` if there is none.
     fn front(
         &self,
         alloc: Global,
@@ -156,12 +158,12 @@ impl Recorder {
         Ok(Some(arrow(alloc, roster.len(), position, side, packet, sent)?))
     }
 
-    // The packet that a position sent to a side at this place.
+    // Returns packet number `place` that a position sent to a side.
     fn packet(&self, position: usize, side: Side, place: usize) -> Option<Packet<AnyMsg>> {
         self.world.nodes().get(position)?.packet(side, place)
     }
 
-    // By which delivery it was sent.
+    // Returns the delivery at which it was sent.
     fn sent_at(&self, position: usize, side: Side, place: usize) -> u64 {
         let Some(marks) = self.marks.get(position) else {
             return 0;
@@ -173,7 +175,7 @@ impl Recorder {
         marks.get(place).copied().unwrap_or(0)
     }
 
-    // Writes down what a position has sent by the last delivery.
+    // Records the packets that a position sent at the last delivery.
     fn mark(&mut self, position: usize) -> Result<(), AllocError> {
         let now = self.steps.len() as u64;
         match (
@@ -185,7 +187,7 @@ impl Recorder {
         }
     }
 
-    /// All that happened. The deliveries are taken out.
+    /// Returns all that happened, and takes the deliveries out of the recorder.
     pub fn tale(&mut self, alloc: Global) -> Result<Tale, AllocError> {
         let flying = self.flying(alloc)?;
         let charter = self.world.charter();
@@ -200,7 +202,7 @@ impl Recorder {
         })
     }
 
-    // The arrows of all that is in flight or stuck, by the links' receivers.
+    // Returns the arrows of all packets in flight or stuck, in the order of their receivers.
     fn flying(&self, alloc: Global) -> Result<Vec<Arrow>, AllocError> {
         let mut flying = Vec::new(alloc);
         for position in 0..self.world.nodes().len() {
@@ -210,7 +212,7 @@ impl Recorder {
         Ok(flying)
     }
 
-    // The arrows of what stands on one link.
+    // Adds the arrows of the packets on one link.
     fn fly(
         &self,
         alloc: Global,
@@ -228,7 +230,7 @@ impl Recorder {
     }
 }
 
-// The members of a ring, by their positions.
+// Returns the members of a ring, in the order of their positions.
 fn members(alloc: Global, roster: &Roster) -> Result<Vec<NodeId>, AllocError> {
     let mut ring = Vec::new(alloc);
     for position in 0..roster.len() {
@@ -239,7 +241,7 @@ fn members(alloc: Global, roster: &Roster) -> Result<Vec<NodeId>, AllocError> {
     Ok(ring)
 }
 
-// The arrow of a packet that goes to a position from a side, between neighbouring columns.
+// Returns the arrow of a packet to a position from a side, between neighbouring columns.
 fn arrow(
     alloc: Global,
     size: usize,
@@ -266,7 +268,7 @@ fn arrow(
     })
 }
 
-// By which delivery the packets of each node were sent: all at the start.
+// Returns the marks of each node at the start.
 fn starts(alloc: Global, nodes: &[Node<Any>]) -> Result<Vec<Marks>, AllocError> {
     let mut starts = Vec::new(alloc);
     for node in nodes {
@@ -275,7 +277,7 @@ fn starts(alloc: Global, nodes: &[Node<Any>]) -> Result<Vec<Marks>, AllocError> 
     Ok(starts)
 }
 
-// What a node has sent, all at the start.
+// Returns the marks of a node at the start: all its packets were sent at the start.
 fn at_start(alloc: Global, node: &Node<Any>) -> Result<Marks, AllocError> {
     let mut marks = Marks {
         left: Vec::new(alloc),
@@ -286,14 +288,14 @@ fn at_start(alloc: Global, node: &Node<Any>) -> Result<Marks, AllocError> {
 }
 
 impl Marks {
-    // Adds this mark for each packet that a node has sent and that has none.
+    // Adds this mark for each packet of a node that has no mark yet.
     fn fill(&mut self, node: &Node<Any>, mark: u64) -> Result<(), AllocError> {
         fill(&mut self.left, node.sent(Side::Left), mark)?;
         fill(&mut self.right, node.sent(Side::Right), mark)
     }
 }
 
-// Adds this mark until there are so many.
+// Adds this mark until there are `count` marks.
 fn fill(marks: &mut Vec<u64>, count: usize, mark: u64) -> Result<(), AllocError> {
     for _ in marks.len()..count {
         marks.push(mark)?;

@@ -1,8 +1,8 @@
-//! A schedule, run.
+//! Runs a schedule.
 //!
-//! A mux answers the lines. Beside it each term has a world of its own, on which the same deliveries
-//! are made one at a time, since a picture needs to know each. Both are run by the same proved code,
-//! and what is in flight in both is compared after each line.
+//! A mux answers the lines. Each term also has a world of its own, in which the same deliveries are
+//! made one at a time, since a picture shows each of them. The same proved code runs both. After
+//! each line, the numbers of packets in flight in both are compared.
 use crate::fault::Fault;
 use crate::lines::Line;
 use crate::recorder::Recorder;
@@ -14,7 +14,8 @@ use ring_mux::{Command, Event, Mux, Reply};
 use std::alloc::{AllocError, Global};
 use std::str;
 
-/// What happened in each term of a schedule, in the order in which they were started.
+/// Runs a schedule, and returns what happened in each term, in the order in which the terms
+/// started.
 pub fn play(alloc: Global, schedule: &str) -> Result<Vec<Tale>, Fault> {
     let mut stage = Stage {
         alloc,
@@ -37,7 +38,7 @@ struct Stage {
 }
 
 impl Stage {
-    // What happened in each term, once all lines of a schedule are run.
+    // Runs all lines of a schedule, and returns what happened in each term.
     fn tales(&mut self, schedule: &str) -> Result<Vec<Tale>, Fault> {
         self.run(schedule)?;
         if self.terms.is_empty() {
@@ -57,7 +58,7 @@ impl Stage {
         Ok(())
     }
 
-    // Runs a line, and compares its reply with the one that it says.
+    // Runs a line, and compares its reply with the one that it must get.
     fn take(&mut self, line: &Line<'_>) -> Result<(), Fault> {
         let Some(event) = line.event()? else {
             return Ok(());
@@ -68,7 +69,8 @@ impl Stage {
         done
     }
 
-    // Compares the reply to a line with the one that it says, and does in the worlds what the line did.
+    // Compares the reply to a line with the one that it must get, and repeats the event in the
+    // worlds.
     fn check(&mut self, line: &Line<'_>, event: &Event<Any>, reply: &Reply) -> Result<(), Fault> {
         if let Some(wanted) = line.reply {
             compare(self.alloc, line.place, reply, wanted)?;
@@ -76,7 +78,7 @@ impl Stage {
         self.follow(event, reply)
     }
 
-    // Does in the worlds what the event did. As much must be in flight or stuck then.
+    // Repeats an event in the worlds.
     fn follow(&mut self, event: &Event<Any>, reply: &Reply) -> Result<(), Fault> {
         if was_starved(reply) {
             return Err(Fault::NoMemory);
@@ -96,7 +98,7 @@ impl Stage {
         }
     }
 
-    // Begins a recorder where the command has started a term.
+    // Begins a recorder if the command has started a term.
     fn obey(&mut self, command: &Command<Any>, reply: &Reply) -> Result<(), Fault> {
         match command {
             Command::Start(group) => match reply {
@@ -107,7 +109,8 @@ impl Stage {
         }
     }
 
-    // Does in a group's last term what the event did.
+    // Repeats an event in the world of a group's last term. Afterwards the same number of packets
+    // must be in flight or stuck as in the mux.
     fn repeat(&mut self, group: GroupName, event: &Event<Any>, reply: &Reply) -> Result<(), Fault> {
         let Some(recorder) = running(&mut self.terms, group) else {
             return Err(Fault::Lost(self.place));
@@ -120,7 +123,7 @@ impl Stage {
         }
     }
 
-    // A recorder for the term that has just been started.
+    // Begins a recorder for the term that has just started.
     fn begin(&mut self, group: GroupName) -> Result<(), Fault> {
         let Ok(charter) = self.mux.book().running(group) else {
             return Err(Fault::Lost(self.place));
@@ -136,7 +139,7 @@ impl Stage {
     }
 }
 
-// Whether as much is in flight or stuck in the group's world here as in the mux.
+// Returns whether the same number of packets is in flight or stuck here as in the mux.
 fn agrees(mux: &Mux<Any>, group: GroupName, recorder: &Recorder) -> bool {
     match mux.pending(group) {
         Ok(pending) => pending == recorder.pending(),
@@ -144,7 +147,7 @@ fn agrees(mux: &Mux<Any>, group: GroupName, recorder: &Recorder) -> bool {
     }
 }
 
-// What happened in each of these terms.
+// Returns what happened in each of these terms.
 fn tales_of(alloc: Global, terms: &mut [Recorder]) -> Result<Vec<Tale>, AllocError> {
     let mut tales = Vec::new(alloc);
     for recorder in terms.iter_mut() {
@@ -153,7 +156,7 @@ fn tales_of(alloc: Global, terms: &mut [Recorder]) -> Result<Vec<Tale>, AllocErr
     Ok(tales)
 }
 
-// The recorder of a group's last term.
+// Returns the recorder of a group's last term.
 fn running(terms: &mut [Recorder], group: GroupName) -> Option<&mut Recorder> {
     terms
         .iter_mut()
@@ -161,7 +164,7 @@ fn running(terms: &mut [Recorder], group: GroupName) -> Option<&mut Recorder> {
         .find(|recorder| recorder.group == group)
 }
 
-// Whether memory was refused to the mux.
+// Returns whether an allocation failed in the mux.
 fn was_starved(reply: &Reply) -> bool {
     match reply {
         Reply::Refused(refusal) => *refusal == Refusal::NoMemory,
@@ -170,7 +173,7 @@ fn was_starved(reply: &Reply) -> bool {
     }
 }
 
-// Refuses a reply that is another than the wanted one.
+// Fails if a reply is another than the wanted one.
 fn compare(alloc: Global, place: u64, reply: &Reply, wanted: &str) -> Result<(), Fault> {
     let mut bytes = Vec::new(alloc);
     if print_reply(reply, &mut bytes).is_err() {

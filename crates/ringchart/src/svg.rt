@@ -6,7 +6,7 @@ use crate::tale::{Arrow, Kind, Step, Tale, width_of};
 use ring_id::NodeId;
 use std::alloc::{AllocError, Global};
 
-// How lines and words look.
+// The style of lines and words.
 const STYLE: &str = "<style>
 text { font-family: 'DejaVu Sans', Verdana, sans-serif; font-size: 12px; fill: #222; }
 .title { font-size: 17px; font-weight: bold; }
@@ -33,14 +33,14 @@ text { font-family: 'DejaVu Sans', Verdana, sans-serif; font-size: 12px; fill: #
 </defs>
 ";
 
-// What the picture says of itself, a line each.
+// The legend below the picture.
 const LEGEND: [&str; 3] = [
     "Time runs down, one row for each delivery. The last line is the first member again.",
     "Blue goes to the right, purple to the left; green is the announcement of the leader,",
     "and the line of a member from when it knows the leader. Dashed: in flight at the end.",
 ];
 
-/// A picture, and how large it is.
+/// A picture, and its size.
 #[derive(Drop)]
 pub struct Picture {
     pub svg: String,
@@ -48,14 +48,14 @@ pub struct Picture {
     pub height: u64,
 }
 
-// A drawing that grows.
+// A drawing while it is made.
 #[derive(Drop)]
 struct Drawing {
     page: Page,
     frame: Frame,
 }
 
-/// The picture of a term, to stand so many pixels below the top of a larger one.
+/// Returns the picture of a term, to be put `top` pixels below the top of a larger one.
 pub fn draw(alloc: Global, tale: &Tale, top: u64) -> Result<Picture, AllocError> {
     let title = tale.title(alloc)?;
     let frame = Frame::of(tale, title.len());
@@ -74,7 +74,7 @@ pub fn draw(alloc: Global, tale: &Tale, top: u64) -> Result<Picture, AllocError>
     })
 }
 
-/// Adds how large a picture is, and the end of the tag that opens it.
+/// Adds the size of a picture, and the end of its opening tag.
 pub fn add_size(page: &mut Page, width: u64, height: u64) {
     page.add_number(" width=\"", width);
     page.add_number("\" height=\"", height);
@@ -84,7 +84,7 @@ pub fn add_size(page: &mut Page, width: u64, height: u64) {
 }
 
 impl Drawing {
-    // The place and the size of the picture, how things look, and a white ground.
+    // Adds the opening tag, the style and a white background.
     fn ground(&mut self, top: u64) {
         let (width, height) = (self.frame.width(), self.frame.height());
         self.page
@@ -97,7 +97,7 @@ impl Drawing {
         self.page.add("\" fill=\"white\"/>\n");
     }
 
-    // The title, and what came of the term.
+    // Adds the title, and the outcome of the term.
     fn head(&mut self, tale: &Tale, title: &str) {
         self.words(24, 34, "title", title);
         self.begin_words(24, 58, "small");
@@ -105,7 +105,7 @@ impl Drawing {
         self.end_words();
     }
 
-    // All lines and arrows.
+    // Adds all lines and arrows.
     fn lines(&mut self, tale: &Tale) {
         self.columns(tale);
         self.knowing(tale);
@@ -113,7 +113,7 @@ impl Drawing {
         self.flying(tale);
     }
 
-    // What stands beside them, and the end of the picture.
+    // Adds their labels and notes, and the end of the picture.
     fn captions(&mut self, tale: &Tale) {
         self.delivered_labels(tale);
         self.flying_labels(tale);
@@ -122,7 +122,7 @@ impl Drawing {
         self.page.add("</svg>\n");
     }
 
-    // Words at a place.
+    // Adds words at a position.
     fn words(&mut self, x: u64, y: u64, class: &str, words: &str) {
         self.begin_words(x, y, class);
         self.page.add(words);
@@ -141,7 +141,7 @@ impl Drawing {
         self.page.add("</text>\n");
     }
 
-    // A line of a class.
+    // Adds a line of a class.
     fn line(&mut self, class: &str, from: (u64, u64), to: (u64, u64)) {
         self.page.add("<line class=\"");
         self.page.add(class);
@@ -152,7 +152,7 @@ impl Drawing {
         self.page.add("\"/>\n");
     }
 
-    // The members' lines and names. The leader's name is marked.
+    // Adds the members' lines and names. The leader's name is marked.
     fn columns(&mut self, tale: &Tale) {
         let leader = tale.leader();
         let last = tale.ring.len();
@@ -165,14 +165,14 @@ impl Drawing {
         }
     }
 
-    // The line of a member; dashed where it stands again.
+    // Adds the line of a member, dashed if the member is drawn once more.
     fn column(&mut self, x: u64, again: bool) {
         let class = if again { "column again" } else { "column" };
         let (top, bottom) = (self.frame.y_names(), self.frame.y_bottom());
         self.line(class, (x, top), (x, bottom));
     }
 
-    // The name of a member in a box. Where it stands again nothing says there that it leads.
+    // Adds the name of a member in a box, with `leader` above it, unless it is drawn once more.
     fn name(&mut self, x: u64, member: NodeId, leads: bool, again: bool) {
         let y = self.frame.y_names();
         self.name_box(x, member, leads, again);
@@ -189,7 +189,7 @@ impl Drawing {
         }
     }
 
-    // The box of a name. The leader's is coloured, and dashed where the name stands again.
+    // Adds the box of a name: coloured for the leader, dashed if the member is drawn once more.
     fn name_box(&mut self, x: u64, member: NodeId, leads: bool, again: bool) {
         let width = (width_of(member) as u64)
             .saturating_mul(9)
@@ -209,7 +209,7 @@ impl Drawing {
         });
     }
 
-    // The lines of members from when they know the leader.
+    // Adds the lines of the members from the deliveries on at which they know the leader.
     fn knowing(&mut self, tale: &Tale) {
         let mut now = 0u64;
         for step in &tale.steps {
@@ -220,7 +220,7 @@ impl Drawing {
         }
     }
 
-    // The line of a position from a delivery on, and of the first one where it stands again.
+    // Adds the line of a position from a delivery on, and the second line of the first position.
     fn learned(&mut self, tale: &Tale, position: usize, now: u64) {
         let y = self.frame.y(now);
         self.knows(self.frame.x(position), y);
@@ -229,7 +229,7 @@ impl Drawing {
         }
     }
 
-    // A member's line from a delivery on.
+    // Adds the line of a member from a delivery on.
     fn knows(&mut self, x: u64, y: u64) {
         self.line("knows", (x, y), (x, self.frame.y_bottom()));
         self.page.add_number("<circle cx=\"", x);
@@ -237,7 +237,7 @@ impl Drawing {
         self.page.add("\" r=\"5\" fill=\"#2e8b4a\"/>\n");
     }
 
-    // The arrows of deliveries.
+    // Adds the arrows of deliveries.
     fn delivered(&mut self, tale: &Tale) {
         let mut now = 0u64;
         for step in &tale.steps {
@@ -247,7 +247,7 @@ impl Drawing {
         }
     }
 
-    // The arrows of what is in flight at the end.
+    // Adds the arrows of packets in flight at the end.
     fn flying(&mut self, tale: &Tale) {
         let mut nth = 0u64;
         for arrow in &tale.flying {
@@ -257,7 +257,7 @@ impl Drawing {
         }
     }
 
-    // An arrow that ends at this place.
+    // Adds an arrow that ends at this position.
     fn arrow(&mut self, arrow: &Arrow, more: &str, x: u64, y: u64) {
         let colour = match arrow.kind {
             Kind::Announcement => "told",
@@ -274,7 +274,7 @@ impl Drawing {
         self.page.add("\" marker-end=\"url(#head)\"/>\n");
     }
 
-    // The labels of deliveries. Labels come after all lines, so that none runs over them.
+    // Adds the labels of deliveries. Labels come after all lines, so no line runs over a label.
     fn delivered_labels(&mut self, tale: &Tale) {
         let mut now = 0u64;
         for step in &tale.steps {
@@ -284,7 +284,7 @@ impl Drawing {
         }
     }
 
-    // The labels of what is in flight at the end.
+    // Adds the labels of packets in flight at the end.
     fn flying_labels(&mut self, tale: &Tale) {
         let mut nth = 0u64;
         for arrow in &tale.flying {
@@ -294,7 +294,7 @@ impl Drawing {
         }
     }
 
-    // The label of an arrow that ends at this place, on the side from which it comes.
+    // Adds the label of an arrow that ends at this position, on the side from which it comes.
     fn label(&mut self, arrow: &Arrow, x: u64, y: u64) {
         let (x, class) = if arrow.from < arrow.to {
             (x.saturating_sub(14), "label east")
@@ -304,7 +304,7 @@ impl Drawing {
         self.words(x, y.saturating_add(4), class, arrow.label.as_str());
     }
 
-    // The numbers of the deliveries, and who knew the leader by them.
+    // Adds the numbers of the deliveries, and the members that knew the leader at them.
     fn notes(&mut self, tale: &Tale) {
         let y = self.frame.y(0).saturating_add(4);
         self.words(58, y, "tick", "start");
@@ -316,7 +316,7 @@ impl Drawing {
         self.end(tale);
     }
 
-    // The number of a delivery, and who knew the leader by it.
+    // Adds the number of a delivery, and the member that knew the leader at it.
     fn note(&mut self, tale: &Tale, step: &Step, now: u64) {
         let y = self.frame.y(now).saturating_add(4);
         self.begin_words(58, y, "tick");
@@ -329,7 +329,7 @@ impl Drawing {
         }
     }
 
-    // The line above what is in flight at the end.
+    // Adds the line above the packets in flight at the end.
     fn end(&mut self, tale: &Tale) {
         if !tale.flying.is_empty() {
             let frame = self.frame;
@@ -339,7 +339,7 @@ impl Drawing {
         }
     }
 
-    // What the lines mean.
+    // Adds the legend.
     fn legend(&mut self) {
         let mut y = self.frame.y_bottom().saturating_add(32);
         for words in LEGEND {

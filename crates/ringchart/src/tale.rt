@@ -1,4 +1,4 @@
-//! What happened in one term, as a picture shows it.
+//! The deliveries of one term, as a picture shows them.
 use crate::label;
 use crate::page::Page;
 use ring_any::Any;
@@ -6,7 +6,7 @@ use ring_id::{GroupName, NodeId};
 use std::alloc::{AllocError, Global};
 use std::str;
 
-/// What kind of packet an arrow is.
+/// The kind of packet that an arrow shows.
 #[derive(Clone, Copy)]
 pub enum Kind {
     /// A message of the algorithm.
@@ -15,19 +15,19 @@ pub enum Kind {
     Announcement,
 }
 
-/// A packet between two columns. Columns are the positions of the ring from 0 on, and behind the
-/// last stands the first member again, so that each packet goes to the next column.
+/// A packet between two columns. Columns are the positions of the ring from 0 on, and then the
+/// first member once more. So each packet goes to a neighbouring column.
 #[derive(Drop)]
 pub struct Arrow {
     pub from: usize,
     pub to: usize,
     pub label: String,
     pub kind: Kind,
-    /// The delivery by which it was sent; 0 at the start.
+    /// The delivery at which it was sent; 0 is the start.
     pub sent: u64,
 }
 
-/// A delivery: the arrow that it ended, and what its receiver then knew for the first time.
+/// A delivery: its arrow, the position of its receiver, and the leader if the receiver learned it.
 #[derive(Drop)]
 pub struct Step {
     pub arrow: Arrow,
@@ -35,7 +35,7 @@ pub struct Step {
     pub learned: Option<NodeId>,
 }
 
-/// All that happened in a term.
+/// A term with all its deliveries.
 #[derive(Drop)]
 pub struct Tale {
     pub group: GroupName,
@@ -44,18 +44,18 @@ pub struct Tale {
     pub ring: Vec<NodeId>,
     /// The deliveries, in order.
     pub steps: Vec<Step>,
-    /// What was in flight at the end.
+    /// The packets in flight or stuck at the end.
     pub flying: Vec<Arrow>,
 }
 
 impl Tale {
-    /// The member whose line is this column; the first one again behind the last.
+    /// Returns the member of a column. After the last member comes the first one once more.
     pub fn member(&self, column: usize) -> Option<NodeId> {
         let position = if column == self.ring.len() { 0 } else { column };
         self.ring.get(position).copied()
     }
 
-    /// The leader, if a member knew it.
+    /// Returns the leader, if a member knew it.
     pub fn leader(&self) -> Option<NodeId> {
         let mut leader = None;
         for step in &self.steps {
@@ -64,7 +64,7 @@ impl Tale {
         leader
     }
 
-    /// How many members knew the leader.
+    /// Returns how many members knew the leader.
     pub fn informed(&self) -> u64 {
         let mut informed = 0u64;
         for step in &self.steps {
@@ -75,19 +75,19 @@ impl Tale {
         informed
     }
 
-    /// The name of the group.
+    /// Returns the name of the group.
     pub fn group_text(&self) -> &str {
         str::from_utf8(self.group.bytes()).unwrap_or("")
     }
 
-    /// The line above a picture.
+    /// Returns the title of a picture.
     pub fn title(&self, alloc: Global) -> Result<String, AllocError> {
         let mut page = Page::new(alloc);
         self.add_title(&mut page);
         page.text()
     }
 
-    /// Adds the line above a picture.
+    /// Adds the title of a picture.
     pub fn add_title(&self, page: &mut Page) {
         page.add(label::of_algorithm(self.algorithm));
         page.add(", ring");
@@ -99,7 +99,7 @@ impl Tale {
         page.add(self.group_text());
     }
 
-    /// Adds the line below it: what came of the term.
+    /// Adds the outcome of the term, which is the line below the title.
     pub fn add_outcome(&self, page: &mut Page) {
         self.add_known(page);
         page.add_number(" after ", self.steps.len() as u64);
@@ -112,7 +112,7 @@ impl Tale {
         }
     }
 
-    // Adds who leads, and how many members knew it.
+    // Adds the leader, and how many members knew it.
     fn add_known(&self, page: &mut Page) {
         match self.leader() {
             Some(leader) => {
@@ -124,7 +124,7 @@ impl Tale {
         }
     }
 
-    /// How many characters the longest name of a member has.
+    /// Returns how many characters the longest name of a member has.
     pub fn widest_name(&self) -> usize {
         let mut widest = 0;
         for member in &self.ring {
@@ -133,7 +133,7 @@ impl Tale {
         widest
     }
 
-    /// How many characters the longest label has, or the longest name of a member.
+    /// Returns how many characters the longest label or name of a member has.
     pub fn widest(&self) -> usize {
         let mut widest = self.widest_flying().max(self.widest_name());
         for step in &self.steps {
@@ -142,7 +142,7 @@ impl Tale {
         widest
     }
 
-    // How many characters the longest label has of what was in flight at the end.
+    // Returns how many characters the longest label of a packet in flight at the end has.
     fn widest_flying(&self) -> usize {
         let mut widest = 0;
         for arrow in &self.flying {
@@ -152,7 +152,7 @@ impl Tale {
     }
 }
 
-/// How many characters the name of a member has.
+/// Returns how many characters the name of a member has.
 pub fn width_of(member: NodeId) -> usize {
     match member.weight() {
         0 => digits(member.get()),
@@ -162,7 +162,7 @@ pub fn width_of(member: NodeId) -> usize {
     }
 }
 
-// How many digits a number has.
+// Returns how many digits a number has.
 fn digits(number: u32) -> usize {
     match number.checked_ilog10() {
         Some(log) => log as usize + 1,

@@ -1,14 +1,14 @@
-//! A term as a picture of characters.
+//! Draws a term with characters.
 use crate::label;
 use crate::page::Page;
 use crate::tale::{Arrow, Step, Tale, width_of};
 use ring_id::NodeId;
 use std::alloc::{AllocError, Global};
 
-// How many characters stand left of the first column: eight of a row's name, and two spaces.
+// The number of characters before the first column: eight for the name of a step, and two spaces.
 const LEFT: usize = 10;
 
-// What stands in a gap between two columns.
+// The content of a gap between two columns.
 #[derive(Clone, Copy)]
 enum Gap<'a> {
     Empty,
@@ -18,7 +18,7 @@ enum Gap<'a> {
     Flying(&'a Arrow),
 }
 
-/// The picture of a term, behind these words.
+/// Returns these words, and then the picture of a term.
 pub fn draw(alloc: Global, tale: &Tale, words: &str) -> Result<String, AllocError> {
     let mut knows = Vec::new(alloc);
     knows.resize(tale.ring.len(), false)?;
@@ -43,7 +43,7 @@ struct Drawing {
 }
 
 impl Drawing {
-    // What stands above the members, and all rows.
+    // Adds the title, the outcome, the names and all steps.
     fn all(&mut self, tale: &Tale) {
         tale.add_title(&mut self.page);
         self.page.add("\n");
@@ -54,7 +54,7 @@ impl Drawing {
         self.flying(tale);
     }
 
-    // The members above their columns; the leader in brackets.
+    // Adds the members above their columns, the leader in brackets.
     fn names(&mut self, tale: &Tale) {
         let leader = tale.leader();
         let mut before = LEFT;
@@ -68,7 +68,7 @@ impl Drawing {
         self.page.add("\n");
     }
 
-    // The name of a member; how many characters it has.
+    // Adds the name of a member, and returns how many characters it has.
     fn name(&mut self, member: NodeId, leads: bool) -> usize {
         let (before, behind) = if leads { ("[", "]") } else { ("", "") };
         label::add_member(&mut self.page, before, member);
@@ -76,7 +76,7 @@ impl Drawing {
         width_of(member).saturating_add(before.len() + behind.len())
     }
 
-    // A row for the start, and one for each delivery.
+    // Adds a line for the start, and one for each delivery.
     fn steps(&mut self, tale: &Tale) {
         self.page.add("   start  ");
         self.columns(Gap::Empty);
@@ -88,7 +88,7 @@ impl Drawing {
         }
     }
 
-    // The row of a delivery.
+    // Adds the line of a delivery.
     fn step(&mut self, tale: &Tale, step: &Step, now: u64) {
         if step.learned.is_some()
             && let Some(knows) = self.knows.get_mut(step.position)
@@ -101,8 +101,8 @@ impl Drawing {
         self.note(tale, step, now);
     }
 
-    // The words beside a delivery: by which one its packet was sent, unless by the one before, and who
-    // knew the leader by it.
+    // Adds the notes of a delivery: the delivery at which its packet was sent, unless it is the one
+    // before, and the member that knew the leader at it.
     fn note(&mut self, tale: &Tale, step: &Step, now: u64) {
         let waited = step.arrow.sent.saturating_add(1) < now;
         if waited {
@@ -115,7 +115,7 @@ impl Drawing {
         self.page.add("\n");
     }
 
-    // A row for each packet in flight at the end.
+    // Adds a line for each packet in flight at the end.
     fn flying(&mut self, tale: &Tale) {
         for arrow in &tale.flying {
             self.page.add("  flying  ");
@@ -125,7 +125,7 @@ impl Drawing {
         }
     }
 
-    // By which delivery a packet was sent.
+    // Adds the delivery at which a packet was sent.
     fn sent_at(&mut self, sent: u64) {
         match sent {
             0 => self.page.add("   sent at the start"),
@@ -133,7 +133,7 @@ impl Drawing {
         }
     }
 
-    // The columns of a row, with what stands in one gap.
+    // Adds the columns of a line, with the content of one gap.
     fn columns(&mut self, gap: Gap<'_>) {
         for column in 0..self.size {
             self.column(column);
@@ -142,7 +142,7 @@ impl Drawing {
         self.column(0);
     }
 
-    // A column's sign: whether its member knows the leader.
+    // Adds the sign of a column: whether its member knows the leader.
     fn column(&mut self, position: usize) {
         match self.knows.get(position) {
             Some(true) => self.page.add("#"),
@@ -150,7 +150,7 @@ impl Drawing {
         }
     }
 
-    // What stands behind a column.
+    // Adds the content of the gap after a column.
     fn gap(&mut self, column: usize, gap: Gap<'_>) {
         match gap {
             Gap::Taken(arrow) if arrow.from.min(arrow.to) == column => {
@@ -163,7 +163,7 @@ impl Drawing {
         }
     }
 
-    // An arrow with its label, as wide as a gap.
+    // Adds an arrow with its label, as wide as a gap.
     fn arrow(&mut self, arrow: &Arrow, shaft: char, head: char) {
         let shafts = self.gap.saturating_sub(arrow.label.len()).saturating_sub(1);
         let before = shafts / 2;
@@ -180,7 +180,7 @@ impl Drawing {
     }
 }
 
-// The head of an arrow that was delivered.
+// Returns the head of an arrow that was delivered.
 fn head_of(arrow: &Arrow) -> char {
     if arrow.from < arrow.to { '>' } else { '<' }
 }

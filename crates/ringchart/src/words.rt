@@ -3,33 +3,39 @@ use clap::error::ErrorKind;
 use clap::{Arg, ArgAction, ArgMatches, Command};
 use std::alloc::{AllocError, Global};
 
-// What stands below the options in the help.
+// The end of the help.
 const NOTES: &str =
-    "A schedule has one command on each line, as `ringd replay` reads them. A line may say the reply
-too, as COMMAND => REPLY: the reply that comes has to be that one. Empty lines and lines that
-begin with # are passed over.
+    "A schedule is a text with one line for `ringd replay` on each line. LINE => REPLY is a line
+that must get this reply. Empty lines and lines that begin with # are skipped. For example:
 
-The pictures go to standard output: one SVG with the terms below one another, in the order in
-which they were started. With --into each goes to a file of its own, DIR/GROUP-TERM.svg, and
-the names are printed. With --text they are drawn with characters.";
+  create a chang
+  join a 3
+  join a 1
+  start a
+  drain a 9
+  who a 1 => leader 1 3
+
+ringchart prints one SVG with a picture of each term, in the order in which the terms start.
+With --into it writes each picture to a file DIR/GROUP-TERM.svg, and prints the names of the
+files. With --text it draws with characters.";
 
 /// What the words ask the program to do.
 #[derive(Drop)]
 pub struct Order {
-    /// The file of the schedule; standard input where there is none.
+    /// The file of the schedule; if there is none, standard input.
     pub path: Option<String>,
-    /// The folder that each picture goes to; standard output where there is none.
+    /// The folder for the pictures; if there is none, standard output.
     pub folder: Option<String>,
-    /// Whether the pictures are drawn with characters.
+    /// Whether to draw with characters.
     pub text: bool,
 }
 
-/// Why the words gave no order.
+/// Why the words give no order.
 #[derive(Drop)]
 pub enum WordsFault {
-    /// The command line was refused, or asked for help. The text is clap's.
+    /// The command line was refused, or asks for help. The text is clap's.
     Usage(clap::Error),
-    /// Memory was refused.
+    /// An allocation failed.
     NoMemory,
 }
 
@@ -53,38 +59,38 @@ impl From<AllocError> for WordsFault {
 fn command<'a>(alloc: Global) -> Result<Command<'a>, AllocError> {
     let into = into_arg(alloc)?;
     Command::new(alloc, "ringchart")
-        .about("Draws what a schedule does: a picture of each term, message by message")
+        .about("Draws elections: a picture of each term of a schedule, message by message")
         .after_help(NOTES)
         .arg(into)?
         .arg(schedule_arg(alloc))?
         .arg(text_arg(alloc))
 }
 
-// The file of the schedule.
+// The argument with the file of the schedule.
 fn schedule_arg<'a>(alloc: Global) -> Arg<'a> {
     Arg::new(alloc, "schedule").value_name("FILE").help(
-        "The file of the schedule; standard input where it isn't given",
+        "The file of the schedule; standard input if there is none",
     )
 }
 
-// Where the pictures go.
+// The option with the folder for the pictures.
 fn into_arg<'a>(alloc: Global) -> Result<Arg<'a>, AllocError> {
     Arg::new(alloc, "into")
         .long("into")
         .value_name("DIR")
-        .help("A folder for the pictures, a file each")
+        .help("Write each picture to a file in the folder DIR, which must exist")
         .conflicts_with("text")
 }
 
-// How they are drawn.
+// The option to draw with characters.
 fn text_arg<'a>(alloc: Global) -> Arg<'a> {
     Arg::new(alloc, "text")
         .long("text")
         .action(ArgAction::SetTrue)
-        .help("Draws with characters")
+        .help("Draw with characters")
 }
 
-/// The refusal of a command line that has a word of other bytes than UTF-8.
+/// Returns the refusal of a command line with a word that is not UTF-8.
 pub fn not_text(alloc: Global) -> Result<clap::Error, AllocError> {
     let mut command = command(alloc)?;
     let error = command.error(ErrorKind::ValueValidation, "a word is not UTF-8 text");
@@ -92,7 +98,7 @@ pub fn not_text(alloc: Global) -> Result<clap::Error, AllocError> {
     error
 }
 
-/// Reads the words of a command line, of which the first is the program's name.
+/// Returns the order that the words of a command line give. The first word is the program's name.
 pub fn read_words(alloc: Global, words: &[String]) -> Result<Order, WordsFault> {
     let matches = command(alloc)?.try_get_matches_from(words)?;
     let order = order_of(alloc, &matches);
@@ -100,7 +106,7 @@ pub fn read_words(alloc: Global, words: &[String]) -> Result<Order, WordsFault> 
     Ok(order?)
 }
 
-// The order that was given.
+// Returns the order that was given.
 fn order_of(alloc: Global, matches: &ArgMatches<'_>) -> Result<Order, AllocError> {
     Ok(Order {
         path: owned(alloc, matches.get_str("schedule"))?,
@@ -109,7 +115,7 @@ fn order_of(alloc: Global, matches: &ArgMatches<'_>) -> Result<Order, AllocError
     })
 }
 
-// A copy of the word, if there is one.
+// Returns a copy of the word, if there is one.
 fn owned(alloc: Global, word: Option<&str>) -> Result<Option<String>, AllocError> {
     match word {
         Some(word) => Ok(Some(String::from_str(alloc, word)?)),
