@@ -4,14 +4,21 @@ use Rattle.std.specs.Prelude.{Result, Ok, Err}
 use Rattle.ring_id.specs.declared.refusal.Refusal.{Refusal}
 use Rattle.ring_terms.specs.declared.standing.Standing.{Standing}
 use Rattle.ring_terms.specs.declared.standing.Standing.TheVariants.{Leader, Undecided}
-use Rattle.ring_terms.specs.Commands.{Shows}
+use Rattle.ring_terms.specs.Commands.{Answers, Shows}
 use Rattle.ring_terms.specs.Object.{Object, OfGroup}
 use Rattle.ring_terms.specs.Standings.{Tells}
 use Rattle.ring_events.specs.declared.event.Event.{Event}
 use Rattle.ring_events.specs.declared.reply.Reply.{Reply}
-use Rattle.ring_terms.specs.private.Replies.{told_reply}
+use Rattle.ring_events.specs.declared.reply.Reply.TheVariants.{Done}
+use Rattle.ring_terms.specs.private.Replies.{done_reply, told_reply}
 use Rattle.ring_terms.specs.Steps.{Replies, Run, Step, TellsReply}
 use Rattle.ring_terms.proofs.Objects.{of_group}
+
+-- a command that answers nothing but that it is done
+pub done_replies : {E : Type 0} (first : Option Refusal) (grows : Bool) (old : Object E) (answer : Result (Unit {0}) Refusal) (new : Object E) (Does : Type 0) →
+    Answers first grows old answer new (λ _. Does) → Replies first grows old (done_reply answer) new (λ reply. (reply ≡ Done) × Does)
+done_replies first grows old (Ok done) new Does answers = (answers.0, (refl, answers.1))
+done_replies first grows old (Err refusal) new Does answers = answers
 
 -- who: the standing that the book answers is the one that the reply tells
 pub tells_reply : {E : Type 0} (first : Option Refusal) (name : List ℕ) (node : ℕ) (object : Object E) (answer : Result Standing Refusal) → Shows first false answer (λ s. OfGroup name (Tells node s) object) →

@@ -9,6 +9,7 @@
 
 mod book;
 mod group;
+mod perform;
 mod standing;
 mod term;
 
