@@ -1,18 +1,17 @@
-ghost use Rattle.std.specs.Prelude.{◌≡◌, ◌↔◌, [], map, replicate, IfOk, IsTrue, None, OnErr, OnOk, Some};
+ghost use Rattle.std.specs.Prelude.{◌≡◌, ◌↔◌, [], map, IsTrue, OnErr, OnOk, Some};
 ghost use Rattle.ring_events.specs.declared.event.Command.TheVariants as command;
 ghost use Rattle.ring_node.specs.Nodes.{report_of};
 ghost use Rattle.ring_node.specs.declared.charter.Charter.{Charter};
 ghost use Rattle.ring_world.specs.Settlements.{EachReports};
-ghost use Rattle.ring_terms.specs.Charters.{next_charter, running_in};
-ghost use Rattle.ring_terms.specs.Commands.{in_group, start_refusal};
-ghost use Rattle.ring_terms.specs.Object.{OfGroup};
+ghost use Rattle.ring_terms.specs.Charters.{running_in};
 ghost use Rattle.ring_table.specs.Finishing.{AllInformed, Finishes, FilesOne};
 ghost use Rattle.ring_table.specs.Histories.{IsLegal, starved};
 ghost use Rattle.ring_table.specs.Tables.{Calls, Files, GivesCharters};
 
+use crate::charters::plan_charters;
 use crate::entry::{Entry, filed_from, is_refused};
 use crate::history::History;
-use crate::twice::perform;
+use crate::kept::KeptReply;
 use ring_election::RingElection;
 use ring_events::{Command, Reply};
 use ring_id::{GroupName, NoMemory, Refusal};
@@ -85,15 +84,21 @@ impl<E: RingElection> Table<E> {
         let Ok(()) = self.history.entries.reserve() else {
             return Reply::Refused(Refusal::NoMemory);
         };
-        let Ok(answer) = perform(&mut self.book, self.alloc, command) else {
+        let reply = self.book.perform(self.alloc, command);
+        if is_starved(&reply) {
+            return reply;
+        }
+        // the copy allocates only for a list, and a command whose reply is a list changes nothing
+        let Ok(kept) = KeptReply::copy_of(self.alloc, &reply) else {
+            drop(reply);
             return Reply::Refused(Refusal::NoMemory);
         };
         self.history.entries.push_reserved(Entry::Call {
             session,
             command,
-            reply: answer.kept,
+            reply: kept,
         });
-        answer.told
+        reply
     }
 
     /// A start, with so many copies of the new term's charter, which are found before the command is
@@ -107,24 +112,12 @@ impl<E: RingElection> Table<E> {
         ensures called { Calls E.is_two_way E.is_greatest session (command.Start group) self.old result.0 self.new }
         ensures charters { GivesCharters group copies result.0 (map (λ charter. charter.value) result.1.items) self.new.book }
     {
-        let Ok(charters) = self.charters(group, copies) else {
+        let Ok(charters) = plan_charters(self.alloc, &self.book, group, copies) else {
             return (Reply::Refused(Refusal::NoMemory), Vec::new(self.alloc));
         };
         match self.call(session, Command::Start(group)) {
             Reply::Term(term) => (Reply::Term(term), charters),
             reply => (reply, Vec::new(self.alloc)),
-        }
-    }
-
-    // So many copies of the charter of the term that would start now; none where none would.
-    fn charters(&self, group: GroupName, copies: usize) -> Result<Vec<Arc<Charter<E>>>, NoMemory>
-        ensures { IfOk result (λ charters. in_group group start_refusal self.now.book ≡ None →
-            OfGroup group (λ g. map (λ charter. charter.value) charters.items ≡ replicate copies (next_charter group g)) self.now.book) }
-    {
-        match self.book.plan(self.alloc, group) {
-            Ok(charter) => share(self.alloc, &charter, copies),
-            Err(Refusal::NoMemory) => Err(NoMemory),
-            Err(_) => Ok(Vec::new(self.alloc)),
         }
     }
 
@@ -199,24 +192,4 @@ pub fn is_starved(reply: &Reply) -> bool
         Reply::Refused(refusal) => *refusal == Refusal::NoMemory,
         _ => false,
     }
-}
-
-// So many copies of a charter.
-fn share<E: RingElection>(
-    alloc: Global,
-    charter: &Arc<Charter<E>>,
-    copies: usize,
-) -> Result<Vec<Arc<Charter<E>>>, NoMemory>
-    ensures { IfOk result (λ shared. map (λ c. c.value) shared.items ≡ replicate copies charter.now.value) }
-{
-    let Ok(mut shared) = Vec::with_capacity(alloc, copies) else {
-        return Err(NoMemory);
-    };
-    for _ in 0..copies {
-        let Ok(copy) = Arc::try_clone(charter) else {
-            return Err(NoMemory);
-        };
-        shared.push_reserved(copy);
-    }
-    Ok(shared)
 }

@@ -1,0 +1,11 @@
+-- The history goes on with the entry of the call, which is a step of the book.
+use Rattle.std.proofs.Common.{◌≡◌, rules}
+use Rattle.ring_table.specs.Histories.{starved}
+use Rattle.ring_table.proofs.Following.{follows_more}
+use Rattle.ring_table.proofs.recorded.Recorded.call.Goals as goal
+
+pub invariant_of-self-2 : goal.invariant_of-self-2
+invariant_of-self-2 g c =
+    let granted : c.perform-reply.result ≡ starved → ⊥ = search rules in
+    rw (c.record_call.ensures, c.in-Ok.ensures.items)
+    (follows_more _ _ _ _ _ _ _ c.self.invariant (record { step = c.perform-reply.ensures; granted = granted }))

@@ -1,0 +1,21 @@
+use ring_events::Command;
+use ring_id::{GroupName, NodeId, TermNo};
+use ring_terms::Noting;
+
+/// What an entry says, except the reply to a call.
+#[derive(Clone, Copy)]
+pub enum Happening<E> {
+    /// A session's command.
+    Call {
+        session: u32,
+        command: Command<E>,
+    },
+    /// A report that this member knows this leader of this term, and what became of it.
+    Filing {
+        group: GroupName,
+        term: TermNo,
+        member: NodeId,
+        leader: NodeId,
+        noting: Noting,
+    },
+}

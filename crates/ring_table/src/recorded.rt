@@ -1,0 +1,113 @@
+ghost use Rattle.std.specs.Prelude.{◌≡◌, [], length, map};
+ghost use Rattle.ring_events.specs.declared.event.Command.TheVariants as command;
+ghost use Rattle.ring_table.specs.Histories.{IsLegal};
+ghost use Rattle.ring_table.specs.Tables.{Calls, Files, GivesCharters};
+
+use crate::charters::plan_charters;
+use crate::entry::filed_from;
+use crate::recorder::Recorder;
+use crate::table::is_starved;
+use ring_election::RingElection;
+use ring_events::{Command, Reply};
+use ring_id::{GroupName, Refusal};
+use ring_node::{Charter, Filed, Report};
+use ring_terms::Book;
+use std::alloc::Global;
+use std::marker::Model;
+use std::sync::Arc;
+
+/// A book of groups and terms, whose history goes to a recorder.
+///
+/// Contracts see it as a table: its book and the entries that were recorded. Its type keeps what a
+/// table's type keeps.
+#[derive(Drop)]
+pub struct Recorded<E: RingElection, H: Recorder<E> + Drop> {
+    alloc: Global,
+    book: Book<E>,
+    recorder: H,
+}
+
+impl<E: RingElection, H: Recorder<E> + Drop> Model for Recorded<E, H> {
+    ghost use Rattle.ring_table.specs.Tables.{TableView};
+
+    ghost Value = { TableView E };
+
+    ghost use Rattle.ring_table.specs.Histories.{IsLegal};
+
+    ghost view = { λ a. record { book = a.book; history = H.entries a.recorder } };
+
+    ghost invariant = { λ a. IsLegal E.is_two_way E.is_greatest (H.entries a.recorder) a.book };
+}
+
+impl<E: RingElection, H: Recorder<E> + Drop> Recorded<E, H> {
+    /// Returns a table without groups over a recorder without entries. Does not allocate.
+    pub fn new(alloc: Global, recorder: H) -> Recorded<E, H>
+        requires { H.entries recorder ≡ [] }
+        ensures { result ≡ record { book = []; history = [] } }
+    {
+        Recorded {
+            alloc,
+            book: Book::new(alloc),
+            recorder,
+        }
+    }
+
+    /// Returns the number of entries. Does not allocate. The history is legal for the book.
+    pub fn count(&self) -> usize
+        ensures value { result ≡ length self.now.history }
+        ensures legal { IsLegal E.is_two_way E.is_greatest self.now.history self.now.book }
+    {
+        self.recorder.count()
+    }
+
+    /// Carries out a session's command: one step of the election object, and one entry with its reply.
+    ///
+    /// The room for the entry is found first. If that allocation or one of the command fails, the reply
+    /// is `NoMemory`, no entry is added and nothing has changed. Every other refusal is an entry.
+    pub fn call(&mut self, session: u32, command: Command<E>) -> Reply
+        ensures { Calls E.is_two_way E.is_greatest session command self.old result self.new }
+    {
+        let Ok(()) = self.recorder.reserve() else {
+            return Reply::Refused(Refusal::NoMemory);
+        };
+        let reply = self.book.perform(self.alloc, command);
+        if is_starved(&reply) {
+            return reply;
+        }
+        self.recorder.record_call(session, command, &reply);
+        reply
+    }
+
+    /// Starts a term and returns the reply with `copies` clones of the term's charter. They are made
+    /// before the start. If no term was started, there are none.
+    pub fn begin(
+        &mut self,
+        session: u32,
+        group: GroupName,
+        copies: usize,
+    ) -> (Reply, Vec<Arc<Charter<E>>>)
+        ensures called { Calls E.is_two_way E.is_greatest session (command.Start group) self.old result.0 self.new }
+        ensures charters { GivesCharters group copies result.0 (map (λ charter. charter.value) result.1.items) self.new.book }
+    {
+        let Ok(charters) = plan_charters(self.alloc, &self.book, group, copies) else {
+            return (Reply::Refused(Refusal::NoMemory), Vec::new(self.alloc));
+        };
+        match self.call(session, Command::Start(group)) {
+            Reply::Term(term) => (Reply::Term(term), charters),
+            reply => (reply, Vec::new(self.alloc)),
+        }
+    }
+
+    /// Files a report. What the book makes of it is the answer, and one entry. If the room for the entry
+    /// cannot be allocated, the report is refused and nothing has changed.
+    pub fn report(&mut self, report: &Report<E>) -> Filed
+        ensures { Files E.is_greatest report.now self.old result self.new }
+    {
+        let Ok(()) = self.recorder.reserve() else {
+            return Filed::Refused(Refusal::NoMemory);
+        };
+        let noting = self.book.note(report);
+        self.recorder.record_filing(report, noting);
+        filed_from(noting)
+    }
+}

@@ -1,0 +1,104 @@
+ghost use Rattle.std.specs.Prelude.{◌≡◌, ◌<◌, ◌++◌, ◌∷◌, [], length, OnOk};
+ghost use Rattle.ring_table.specs.Accesses.{filing};
+ghost use Rattle.ring_table.specs.declared.entry.Entry.TheVariants as entry;
+
+use crate::trace::Trace;
+use ring_election::RingElection;
+use ring_events::{Command, Reply};
+use ring_id::NoMemory;
+use ring_node::Report;
+use ring_terms::Noting;
+use std::alloc::Global;
+use std::marker::Model;
+
+/// What keeps the entries of a table: in memory, in another place, or not at all.
+///
+/// Contracts see the entries that were recorded, in order, and for how many more there is room.
+pub trait Recorder<E: RingElection> {
+    ghost use Rattle.std.specs.Prelude.{List, ℕ};
+    ghost use Rattle.ring_table.specs.declared.entry.Entry.{Entry};
+
+    // the entries that were recorded, in order
+    ghost entries: { Self → List (Entry E) };
+
+    // for how many more entries there is room
+    ghost room: { Self → ℕ };
+
+    /// Returns the number of entries. Does not allocate.
+    fn count(&self) -> usize
+        ensures { result ≡ length (entries self.now) };
+
+    /// Finds room for one more entry. The entries stay as they were. Fails only if an allocation fails.
+    fn reserve(&mut self) -> Result<(), NoMemory>
+        ensures items { entries self.new ≡ entries self.old }
+        ensures room { OnOk result (0 < room self.new) };
+
+    /// Records a session's command and its reply as the last entry. There must be room for it.
+    fn record_call(&mut self, session: u32, command: Command<E>, reply: &Reply)
+        requires { 0 < room self.old }
+        ensures { entries self.new ≡ entries self.old ++ entry.Call session command reply.now ∷ [] };
+
+    /// Records a report and what became of it as the last entry. There must be room for it.
+    fn record_filing(&mut self, report: &Report<E>, noting: Noting)
+        requires { 0 < room self.old }
+        ensures { entries self.new ≡ entries self.old ++ filing report.now noting ∷ [] };
+}
+
+/// A recorder that keeps the number of entries and nothing else. Its size does not grow.
+///
+/// Contracts see its entries and the room for more.
+#[derive(Drop)]
+pub struct Unkept<E> {
+    // a list of values without bytes never allocates
+    entries: Vec<Trace<E>>,
+}
+
+impl<E> Model for Unkept<E> {
+    ghost use Rattle.std.specs.Prelude.{◌-◌, vec_capacity, vec_len};
+    ghost use Rattle.ring_table.specs.Recorders.{UnkeptView};
+
+    ghost Value = { UnkeptView E };
+
+    ghost view = { λ a. record { items = a.entries.items; room = vec_capacity a.entries - vec_len a.entries } };
+}
+
+impl<E> Unkept<E> {
+    /// Returns a recorder without entries. Does not allocate.
+    pub fn new(alloc: Global) -> Unkept<E>
+        ensures { result.items ≡ [] }
+    {
+        Unkept {
+            entries: Vec::new(alloc),
+        }
+    }
+}
+
+impl<E: RingElection> Recorder<E> for Unkept<E> {
+    ghost entries = { λ a. a.items };
+
+    ghost room = { λ a. a.room };
+
+    fn count(&self) -> usize {
+        self.entries.len()
+    }
+
+    fn reserve(&mut self) -> Result<(), NoMemory> {
+        self.entries.reserve(1)?;
+        Ok(())
+    }
+
+    fn record_call(&mut self, session: u32, command: Command<E>, reply: &Reply)
+        requires { 0 < self.old.room }
+        ensures { self.new.items ≡ self.old.items ++ entry.Call session command reply.now ∷ [] }
+    {
+        self.entries
+            .push_reserved(Trace::of_call(session, command, reply));
+    }
+
+    fn record_filing(&mut self, report: &Report<E>, noting: Noting)
+        requires { 0 < self.old.room }
+        ensures { self.new.items ≡ self.old.items ++ filing report.now noting ∷ [] }
+    {
+        self.entries.push_reserved(Trace::of_filing(report, noting));
+    }
+}
