@@ -10,9 +10,9 @@ use crate::seat::Seat;
 use crate::turn::put_back;
 use ring_election::RingElection;
 use ring_id::NoMemory;
-use ring_table::Table;
+use ring_table::{Table, Tabled};
 use std::alloc::Global;
-use std::marker::Model;
+use std::marker::{Model, PhantomData};
 use std::snapshot::Snapshot;
 use std::sync::Mutex;
 
@@ -25,14 +25,14 @@ use std::sync::Mutex;
 /// before, so that the thread whose ticket is next is a running one. Contracts see which lock it is, how
 /// many seats it has, and the history that it was opened with.
 #[derive(Drop)]
-pub struct TurnLock<E: RingElection> {
+pub struct TurnLock<E: RingElection, T: Tabled<E> + Drop = Table<E>> {
     pub(crate) alloc: Global,
-    pub(crate) board: Board<E>,
-    pub(crate) maker: Place<E>,
+    pub(crate) board: Board<E, T>,
+    pub(crate) maker: Place<E, T>,
     pub(crate) door: Mutex<()>,
 }
 
-impl<E: RingElection> Model for TurnLock<E> {
+impl<E: RingElection, T: Tabled<E> + Drop> Model for TurnLock<E, T> {
     ghost use Rattle.ring_turn.specs.Seats.{LockView, lock_of};
     ghost use Rattle.ring_turn.specs.private.Seats.{IsMaker};
 
@@ -43,21 +43,21 @@ impl<E: RingElection> Model for TurnLock<E> {
     ghost invariant = { λ lock. IsMaker lock.board.shared.table_id lock.maker.table_id lock.maker.me };
 }
 
-impl<E: RingElection> TurnLock<E> {
+impl<E: RingElection, T: Tabled<E> + Drop> TurnLock<E, T> {
     /// Opens a lock over a table, with so many seats, numbered from 0, that have so many turns each.
     ///
     /// Both numbers are at least 1, and their product is below 2^64. Refused for want of memory alone:
     /// then the table is dropped.
     pub fn new(
         alloc: Global,
-        table: Table<E>,
+        table: T,
         seats: usize,
         turns: u64,
-    ) -> Result<(TurnLock<E>, Vec<Seat<E>>), NoMemory>
+    ) -> Result<(TurnLock<E, T>, Vec<Seat<E, T>>), NoMemory>
         requires some { (0 < seats) × (0 < turns) }
         requires few { seats * turns < 2 ^ 64 }
-        ensures opened { IfOk result (λ made. (made.0.seats ≡ seats) × (made.0.opening ≡ table.history)) }
-        ensures seats { IfOk result (λ made. made.1.items ≡ fresh_seats made.0.id turns table.history seats) }
+        ensures opened { IfOk result (λ made. (made.0.seats ≡ seats) × (made.0.opening ≡ (T.shows table).history)) }
+        ensures seats { IfOk result (λ made. made.1.items ≡ fresh_seats made.0.id turns (T.shows table).history seats) }
     {
         let Ok(mut all) = Vec::with_capacity(alloc, seats) else {
             drop(table);
@@ -90,9 +90,9 @@ impl<E: RingElection> TurnLock<E> {
     /// seats made: those of each seat, each once, in its order, and no others. It begins with what each
     /// seat has seen. The condition is that each seat is one of this lock and that none is missing.
     /// Takes no memory.
-    pub fn close(self, seats: Vec<Seat<E>>) -> Table<E>
+    pub fn close(self, seats: Vec<Seat<E, T>>) -> T
         requires { HasAllSeats self seats.items }
-        ensures { Closes E.is_two_way E.is_greatest self seats.items result }
+        ensures { Closes E.is_two_way E.is_greatest self seats.items (T.shows result) }
     {
         let TurnLock {
             alloc: _,
@@ -117,25 +117,26 @@ impl<E: RingElection> TurnLock<E> {
         };
         closed.free();
         let table = held.into_table();
-        let _ = table.history();
+        let _ = table.count();
         table
     }
 }
 
 // The table with its words and its desk, and the place that makes the seats.
-fn open<E: RingElection>(
+fn open<E: RingElection, T: Tabled<E> + Drop>(
     alloc: Global,
-    table: Table<E>,
+    table: T,
     seats: usize,
     turns: u64,
-) -> Result<(Board<E>, Place<E>), NoMemory>
+) -> Result<(Board<E, T>, Place<E, T>), NoMemory>
     requires few { seats * turns < 2 ^ 64 }
-    ensures { IfOk result (λ made. IsOpened seats turns table.history made.0.shared.table_id made.1.table_id made.1.me) }
+    ensures { IfOk result (λ made. IsOpened seats turns (T.shows table).history made.0.shared.table_id made.1.table_id made.1.me) }
 {
     let start = Start {
         limit: seats as u64 * turns,
         turns,
         table: Snapshot::of(&table),
+        of: PhantomData,
     };
     let table = HeldTable::new(alloc, table)?;
     let Ok(mut desks) = Vec::with_capacity(alloc, 1) else {

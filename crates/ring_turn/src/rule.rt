@@ -4,8 +4,9 @@ use crate::held::HeldTable;
 use crate::view::Doing;
 use atomic_table::{Join, Play, Seat, Split, TableRule};
 use ring_election::RingElection;
-use ring_table::Table;
+use ring_table::Tabled;
 use std::alloc::Global;
+use std::marker::PhantomData;
 use std::snapshot::Snapshot;
 
 // The words: tickets drawn, tickets served. And the one slot.
@@ -15,36 +16,44 @@ pub(crate) const SERVED: usize = 1;
 
 pub(crate) const DESK: usize = 0;
 
-pub(crate) type Desk<E> = Option<HeldTable<E>>;
+pub(crate) type Desk<E, T> = Option<HeldTable<E, T>>;
 
-pub(crate) type Board<E> = atomic_table::Table<Desk<E>, Doing<E>, Start<E>, InTurn, Global>;
+pub(crate) type Board<E, T> = atomic_table::Table<
+    Desk<E, T>,
+    Doing<E>,
+    Start<E, T>,
+    InTurn,
+    Global,
+>;
 
-pub(crate) type Place<E> = Seat<Desk<E>, Doing<E>>;
+pub(crate) type Place<E, T> = Seat<Desk<E, T>, Doing<E>>;
 
 // How a lock starts: how many turns there are in all, how many each seat gets, and the table.
 #[derive(Drop)]
-pub struct Start<E: RingElection> {
+pub struct Start<E: RingElection, T: Tabled<E> + Drop> {
     pub(crate) limit: u64,
     pub(crate) turns: u64,
-    pub(crate) table: Snapshot<Table<E>>,
+    pub(crate) table: Snapshot<T>,
+    pub(crate) of: PhantomData<E>,
 }
 
 // The rule.
 pub struct InTurn;
 
-impl<E: RingElection> TableRule<Option<HeldTable<E>>, Doing<E>, Start<E>> for InTurn {
+impl<E: RingElection, T: Tabled<E> + Drop> TableRule<Option<HeldTable<E, T>>, Doing<E>, Start<E, T>>
+    for InTurn {
     ghost use Rattle.ring_turn.specs.private.Rule.{Keeps};
     ghost use Rattle.ring_turn.specs.private.Steps.{maker};
 
     ghost holds = { λ _. Keeps };
 
-    ghost first = { λ start. maker start.limit 0 start.turns start.table.value.history };
+    ghost first = { λ start. maker start.limit 0 start.turns (T.shows start.table.value).history };
 }
 
 // A seat draws a ticket.
 pub struct Draws;
 
-impl<E: RingElection> Play<Option<HeldTable<E>>, Doing<E>> for Draws {
+impl<E: RingElection, T: Tabled<E> + Drop> Play<Option<HeldTable<E, T>>, Doing<E>> for Draws {
     ghost use Rattle.ring_turn.specs.private.Steps.{Draws as IsDraw};
 
     ghost then = { IsDraw };
@@ -53,7 +62,7 @@ impl<E: RingElection> Play<Option<HeldTable<E>>, Doing<E>> for Draws {
 // A seat looks whether its turn has come, and then takes the desk.
 pub struct Looks;
 
-impl<E: RingElection> Play<Option<HeldTable<E>>, Doing<E>> for Looks {
+impl<E: RingElection, T: Tabled<E> + Drop> Play<Option<HeldTable<E, T>>, Doing<E>> for Looks {
     ghost use Rattle.ring_turn.specs.private.Steps.{Looks as IsLook};
 
     ghost then = { IsLook };
@@ -62,7 +71,7 @@ impl<E: RingElection> Play<Option<HeldTable<E>>, Doing<E>> for Looks {
 // A seat gives the desk back with the entries that it added, and serves the next.
 pub struct Serves;
 
-impl<E: RingElection> Play<Option<HeldTable<E>>, Doing<E>> for Serves {
+impl<E: RingElection, T: Tabled<E> + Drop> Play<Option<HeldTable<E, T>>, Doing<E>> for Serves {
     ghost use Rattle.ring_turn.specs.private.Steps.{Serves as IsService};
 
     ghost then = { IsService };

@@ -4,6 +4,7 @@ ghost use Rattle.std.specs.Prelude.{◌≡◌, IsTrue, ◌↔◌};
 use crate::held::HeldTable;
 use crate::rule::Place;
 use ring_election::RingElection;
+use ring_table::{Table, Tabled};
 use std::marker::Model;
 
 /// One seat of a turn lock, for the calls of one thread.
@@ -12,16 +13,16 @@ use std::marker::Model;
 /// opened with, the turns that it has seen, and its own entries, in order. It has no bytes but its count
 /// of turns and the table, while it keeps it: what it has seen is for proofs.
 #[derive(Drop)]
-pub struct Seat<E: RingElection> {
-    pub(crate) place: Place<E>,
+pub struct Seat<E: RingElection, T: Tabled<E> + Drop = Table<E>> {
+    pub(crate) place: Place<E, T>,
     pub(crate) left: u64,
     // whether the seat keeps the table over its calls
     pub(crate) keeps: bool,
     // the table, while a turn is open between two calls
-    pub(crate) hand: Option<HeldTable<E>>,
+    pub(crate) hand: Option<HeldTable<E, T>>,
 }
 
-impl<E: RingElection> Model for Seat<E> {
+impl<E: RingElection, T: Tabled<E> + Drop> Model for Seat<E, T> {
     ghost use Rattle.ring_turn.specs.Seats.{SeatView, seat_of, with_hand};
     ghost use Rattle.ring_turn.specs.private.Seats.{IsSeated};
 
@@ -32,7 +33,7 @@ impl<E: RingElection> Model for Seat<E> {
     ghost invariant = { λ seat. IsSeated seat.left seat.hand seat.place.me };
 }
 
-impl<E: RingElection> Seat<E> {
+impl<E: RingElection, T: Tabled<E> + Drop> Seat<E, T> {
     /// Whether the seat has no turn left, so that each further call is answered `SeatSpent`. Takes no memory.
     pub fn is_spent(&self) -> bool
         ensures { IsTrue result ↔ (self.now.left ≡ 0) }

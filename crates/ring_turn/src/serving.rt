@@ -9,11 +9,11 @@ use ring_events::Command;
 use ring_id::GroupName;
 use ring_lines::Queued;
 use ring_node::{Charter, Report};
-use ring_table::{Access, Answer, Filed};
+use ring_table::{Access, Answer, Filed, Tabled};
 use std::sync::{Arc, Wait};
 
-impl<E: RingElection> Access<E> for TurnLock<E> {
-    type Seat = Seat<E>;
+impl<E: RingElection, T: Tabled<E> + Drop> Access<E> for TurnLock<E, T> {
+    type Seat = Seat<E, T>;
 
     ghost has_seat = { λ lock seat. seat.lock ≡ lock.id };
 
@@ -23,14 +23,14 @@ impl<E: RingElection> Access<E> for TurnLock<E> {
         Some(TurnLock::queue(self, rt))
     }
 
-    fn keep(&self, seat: &mut Seat<E>)
+    fn keep(&self, seat: &mut Seat<E, T>)
         requires { seat.old.lock ≡ self.now.id }
         ensures { seat.new ≡ seat.old }
     {
         TurnLock::keep(self, seat);
     }
 
-    fn rest(&self, seat: &mut Seat<E>)
+    fn rest(&self, seat: &mut Seat<E, T>)
         requires { seat.old.lock ≡ self.now.id }
         ensures { seat.new ≡ seat.old }
     {
@@ -38,7 +38,13 @@ impl<E: RingElection> Access<E> for TurnLock<E> {
     }
 
     #[inline(always)]
-    fn call<R: Wait>(&self, rt: &R, seat: &mut Seat<E>, session: u32, command: Command<E>) -> Answer
+    fn call<R: Wait>(
+        &self,
+        rt: &R,
+        seat: &mut Seat<E, T>,
+        session: u32,
+        command: Command<E>,
+    ) -> Answer
         requires { seat.old.lock ≡ self.now.id }
         ensures seat { seat.new.lock ≡ self.now.id }
         ensures entry { AnswersAtSeat E.is_two_way E.is_greatest session command seat.old.mine result seat.new.mine }
@@ -49,7 +55,7 @@ impl<E: RingElection> Access<E> for TurnLock<E> {
     fn begin<R: Wait>(
         &self,
         rt: &R,
-        seat: &mut Seat<E>,
+        seat: &mut Seat<E, T>,
         session: u32,
         group: GroupName,
         copies: usize,
@@ -61,7 +67,7 @@ impl<E: RingElection> Access<E> for TurnLock<E> {
         TurnLock::begin(self, rt, seat, session, group, copies)
     }
 
-    fn report<R: Wait>(&self, rt: &R, seat: &mut Seat<E>, report: &Report<E>) -> Filed
+    fn report<R: Wait>(&self, rt: &R, seat: &mut Seat<E, T>, report: &Report<E>) -> Filed
         requires { seat.old.lock ≡ self.now.id }
         ensures seat { seat.new.lock ≡ self.now.id }
         ensures entry { Reports E.is_greatest report.now seat.old.mine result seat.new.mine }

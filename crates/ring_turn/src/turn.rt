@@ -10,15 +10,16 @@ use crate::held::HeldTable;
 use crate::lock::TurnLock;
 use crate::rule::{Board, DESK, DRAWN, Draws, Looks, Place, SERVED, Serves};
 use ring_election::RingElection;
+use ring_table::Tabled;
 use std::sync::Wait;
 use std::{hint, thread};
 
 /// How often a thread looks whether its time has come before it lets other threads run.
 pub(crate) const LOOKS: u32 = 100;
 
-impl<E: RingElection> TurnLock<E> {
+impl<E: RingElection, T: Tabled<E> + Drop> TurnLock<E, T> {
     // Begins a turn: the table is in hand, with all the turns so far.
-    pub(crate) fn enter<R: Wait>(&self, rt: &R, place: &mut Place<E>) -> HeldTable<E>
+    pub(crate) fn enter<R: Wait>(&self, rt: &R, place: &mut Place<E, T>) -> HeldTable<E, T>
         requires here { place.old.table_id ≡ self.now.id }
         requires idle { (place.old.me.0.stage ≡ stage.Idle) × (place.old.me.1 ≡ []) }
         requires turn { (place.old.me.0.lives ≡ true) × (0 < place.old.me.0.budget) }
@@ -34,7 +35,7 @@ impl<E: RingElection> TurnLock<E> {
     }
 
     // Waits until a ticket is served, and takes the desk.
-    fn wait_turn<R: Wait>(&self, rt: &R, place: &mut Place<E>, ticket: u64)
+    fn wait_turn<R: Wait>(&self, rt: &R, place: &mut Place<E, T>, ticket: u64)
         requires here { place.old.table_id ≡ self.now.id }
         requires waits { place.old.me.0.stage ≡ stage.Waits ticket }
         ensures here { place.new.table_id ≡ place.old.table_id }
@@ -60,9 +61,9 @@ impl<E: RingElection> TurnLock<E> {
     pub(crate) fn reach<R: Wait>(
         &self,
         rt: &R,
-        place: &mut Place<E>,
-        hand: Option<HeldTable<E>>,
-    ) -> HeldTable<E>
+        place: &mut Place<E, T>,
+        hand: Option<HeldTable<E, T>>,
+    ) -> HeldTable<E, T>
         requires here { place.old.table_id ≡ self.now.id }
         requires seat { IsHanded hand place.old.me }
         requires turn { 0 < place.old.me.0.budget }
@@ -79,10 +80,10 @@ impl<E: RingElection> TurnLock<E> {
     // here.
     pub(crate) fn part(
         &self,
-        place: &mut Place<E>,
-        table: HeldTable<E>,
+        place: &mut Place<E, T>,
+        table: HeldTable<E, T>,
         keeps: bool,
-    ) -> Option<HeldTable<E>>
+    ) -> Option<HeldTable<E, T>>
         requires here { place.old.table_id ≡ self.now.id }
         requires ready { IsOpen table place.old.me }
         ensures here { place.new.table_id ≡ place.old.table_id }
@@ -98,10 +99,10 @@ impl<E: RingElection> TurnLock<E> {
 }
 
 // Ends the turn of a seat that keeps the table in its hand, if it does.
-pub(crate) fn put_back<E: RingElection>(
-    board: &Board<E>,
-    place: &mut Place<E>,
-    hand: Option<HeldTable<E>>,
+pub(crate) fn put_back<E: RingElection, T: Tabled<E> + Drop>(
+    board: &Board<E, T>,
+    place: &mut Place<E, T>,
+    hand: Option<HeldTable<E, T>>,
 )
     requires words { board.now.shared.table_id.words ≡ 2 }
     requires here { place.old.table_id ≡ board.now.shared.table_id }
@@ -117,7 +118,11 @@ pub(crate) fn put_back<E: RingElection>(
 }
 
 // Puts the table back, with the entries that the seat added, and serves the next ticket.
-fn leave<E: RingElection>(board: &Board<E>, place: &mut Place<E>, table: HeldTable<E>)
+fn leave<E: RingElection, T: Tabled<E> + Drop>(
+    board: &Board<E, T>,
+    place: &mut Place<E, T>,
+    table: HeldTable<E, T>,
+)
     requires words { board.now.shared.table_id.words ≡ 2 }
     requires here { place.old.table_id ≡ board.now.shared.table_id }
     requires ready { IsOpen table place.old.me }
