@@ -1,0 +1,11 @@
+-- What contracts see of a medium in memory.
+use Rattle.std.specs.Prelude.{ℕ, List}
+use Rattle.ring_journal.specs.declared.memory.MemoryMedium.{MemoryMedium}
+
+-- the bytes that were written
+abbrev pub memory_text : MemoryMedium → List ℕ
+memory_text memory = memory.text.items
+
+-- how many of the first bytes were synced
+abbrev pub memory_kept : MemoryMedium → ℕ
+memory_kept memory = memory.kept

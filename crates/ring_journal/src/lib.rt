@@ -1,0 +1,20 @@
+//! A journal of lines on a medium that only grows.
+//!
+//! A crash may come at any moment of any call. A restart then finds the first of the lines, and at least as many as were
+//! settled before that call. It finds them by `read_lines`, which refuses no file that a crash leaves.
+//!
+//! What a crash does to a medium is a definition, `MayFind`: each byte is the one that was written there or a zero, and the
+//! synced bytes are as they were written. Nothing is claimed of a medium that does otherwise.
+#![tactic(auto)]
+
+mod batch;
+mod journal;
+mod medium;
+mod memory;
+mod reading;
+
+pub use batch::Batch;
+pub use journal::{Journal, RoomFault};
+pub use medium::{Fault, LONGEST_BATCH, Medium};
+pub use memory::MemoryMedium;
+pub use reading::{BadByte, Lines, read_lines, whole_len};
