@@ -6,3 +6,4 @@ pub mod Settling
 pub mod Zeros
 pub mod Fronts
 pub mod Far
+pub mod Testing

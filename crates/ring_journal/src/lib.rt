@@ -17,4 +17,4 @@ pub use batch::Batch;
 pub use journal::{Journal, RoomFault};
 pub use medium::{Fault, LONGEST_BATCH, Medium};
 pub use memory::MemoryMedium;
-pub use reading::{BadByte, Lines, read_lines, whole_len};
+pub use reading::{BadByte, Lines, is_line, read_lines, whole_len};

@@ -1,14 +1,29 @@
 //! What a restart reads of a file.
-ghost use Rattle.std.specs.Prelude.{◌≡◌, ◌↔◌, ◌≤◌, ◌==◌, length, not, position, take, IfErr, IfOk, IsOk};
+ghost use Rattle.std.specs.Prelude.{◌≡◌, ◌↔◌, ◌≤◌, ◌==◌, length, not, position, take, ◌&&◌, IfErr, IfOk, IsOk, IsTrue};
+ghost use Rattle.std.specs.List.{list_all};
 ghost use Rattle.std.specs.Iterator.{YieldsFirstRef, item_count};
 ghost use Rattle.ring_journal.specs.Journals.{HasAll};
-ghost use Rattle.ring_journal.specs.Lines.{front, lines_in, text_of};
+ghost use Rattle.ring_journal.specs.Lines.{IsLine, front, lines_in, text_of};
 ghost use Rattle.ring_journal.specs.private.Ending.{EndsFirst};
 ghost use Rattle.ring_journal.specs.Whole.{IsBadAt, IsWhole};
 
 use crate::batch::LF;
 use crate::medium::LONGEST_BATCH;
 use std::marker::Model;
+
+/// Returns whether `line` can be a line of a journal: no byte of it is an LF or a zero.
+pub fn is_line(line: &[u8]) -> bool
+    ensures { IsTrue result ↔ IsLine line.now }
+{
+    has_no_end(line)
+}
+
+// Whether no byte is an LF or a zero.
+fn has_no_end(line: &[u8]) -> bool
+    ensures { result ≡ list_all (λ byte. not (byte == 10) && not (byte == 0)) line.now }
+{
+    line.iter().all(|&byte| byte != LF && byte != 0)
+}
 
 /// A byte of a file that no crash leaves there.
 #[derive(Clone, Copy, Debug, PartialEq, Eq)]
