@@ -1,0 +1,164 @@
+//! Where a journal lies: a name in a folder, which stands for one text after another.
+ghost use Rattle.std.specs.Prelude.{◌≡◌, length, IfOk};
+
+use crate::medium::FileMedium;
+use crate::tail::{AHEAD, Tail};
+use ring_journal::Batch;
+use std::alloc::AllocError;
+use std::fs::{File, Files, OpenOptions, TryLockError};
+use std::io::{Read, Write};
+use std::{fs, io};
+
+/// Why a journal cannot be used.
+#[derive(Clone, Copy, Debug, PartialEq, Eq)]
+pub enum PlaceFault {
+    /// Another process holds it.
+    InUse,
+    /// Its file or its lock file cannot be opened or read.
+    Unreadable,
+    /// Its name is the name of a folder, a link, a pipe or a device.
+    NotAFile,
+    /// A write, a sync or a rename failed.
+    Failed,
+    /// An allocation failed.
+    NoMemory,
+}
+
+impl From<AllocError> for PlaceFault {
+    fn from(_error: AllocError) -> PlaceFault {
+        PlaceFault::NoMemory
+    }
+}
+
+/// The place of a journal, which no other process takes as long as this value lives.
+#[derive(Drop)]
+pub struct Place {
+    path: String,
+    // the lock is let go when this is closed
+    lock: File,
+}
+
+impl Place {
+    /// Takes the place of the journal at `path`, by a lock on the file `path.lock`.
+    ///
+    /// System calls: `openat` of `path.lock`, which makes that file if there is none, and `flock`, which does not wait.
+    /// `InUse` if another process has the lock. The lock file is never removed.
+    pub fn take<R: Files<File = File> + AllocGlobal>(
+        rt: &R,
+        path: &str,
+    ) -> Result<Place, PlaceFault> {
+        let lock_path = format!(in rt.alloc(); "{path}.lock")?;
+        let path = format!(in rt.alloc(); "{path}")?;
+        let opened = OpenOptions::new()
+            .read(true)
+            .write(true)
+            .create(true)
+            .open(rt, lock_path.as_str());
+        let lock = opened.map_err(unreadable)?;
+        match lock.try_lock() {
+            Ok(()) => Ok(Place { path, lock }),
+            Err(TryLockError::WouldBlock) => Err(PlaceFault::InUse),
+            Err(TryLockError::Error(_)) => Err(PlaceFault::Unreadable),
+        }
+    }
+
+    /// Returns the bytes of the journal's file, or no bytes if there is no such file.
+    ///
+    /// System calls: `statx` of the file, which follows no link; then `openat`, and `read` up to its end. `NotAFile` if
+    /// it is no regular file: then it is not opened.
+    pub fn read<R: Files<File = File> + AllocGlobal>(&self, rt: &R) -> Result<Vec<u8>, PlaceFault> {
+        let mut found = Vec::new(rt.alloc());
+        let path = self.path.as_str();
+        match fs::symlink_metadata(rt, path) {
+            Err(error) if error.kind() == io::ErrorKind::NotFound => return Ok(found),
+            Err(error) => return Err(unreadable(error)),
+            Ok(about) if !about.is_file() => return Err(PlaceFault::NotAFile),
+            Ok(_) => {}
+        }
+        let mut file = fs::open(rt, path).map_err(unreadable)?;
+        file.read_to_end(&mut found).map_err(unreadable)?;
+        Ok(found)
+    }
+
+    /// Puts `text` in the place of what the file holds, and returns the medium of the new file.
+    ///
+    /// System calls, on a new file `path.new`: `unlink` of what an earlier life left there; `openat`, `write` of the text
+    /// and of zeros, `fsync`. Then `rename` to `path`; and `openat` and `fsync` of its folder. So at each moment `path` is
+    /// the old file, or the new one with the whole text. At an error it may be either.
+    pub fn begin<R: Files<File = File> + AllocGlobal>(
+        self,
+        rt: &R,
+        text: &Batch,
+    ) -> Result<FileMedium, PlaceFault>
+        ensures { IfOk result (λ medium. medium ≡ record { text = text.now.bytes; kept = length text.now.bytes }) }
+    {
+        let zeros = vec![in rt.alloc(); 0; AHEAD]?;
+        let path = self.path.as_str();
+        let new_path = format!(in rt.alloc(); "{path}.new")?;
+        let file = write_new(rt, new_path.as_str(), text.bytes(), &zeros).map_err(failed)?;
+        put_in_place(rt, new_path.as_str(), path).map_err(failed)?;
+        let end = text.len() as u64;
+        let room = end.saturating_add(AHEAD as u64);
+        let tail = Tail {
+            file,
+            end,
+            room,
+            zeros,
+            is_broken: false,
+        };
+        Ok(FileMedium::new(rt.alloc(), tail, self.lock, text)?)
+    }
+}
+
+// Makes a new file of this text and of zeros after it, and syncs it.
+fn write_new<R: Files<File = File>>(
+    rt: &R,
+    path: &str,
+    text: &[u8],
+    zeros: &[u8],
+) -> io::Result<File> {
+    match fs::remove_file(rt, path) {
+        Err(error) if error.kind() != io::ErrorKind::NotFound => return Err(error),
+        _ => {}
+    }
+    let mut file = OpenOptions::new()
+        .read(true)
+        .write(true)
+        .create_new(true)
+        .open(rt, path)?;
+    file.write_all(text)?;
+    file.write_all(zeros)?;
+    file.sync_all()?;
+    Ok(file)
+}
+
+// Gives the new file the name of the journal, and syncs the folder.
+fn put_in_place<R: Files<File = File>>(rt: &R, new_path: &str, path: &str) -> io::Result<()> {
+    fs::rename(rt, new_path, path)?;
+    File::open(rt, folder_of(path))?.sync_all()
+}
+
+// The folder of a path.
+fn folder_of(path: &str) -> &str {
+    match path.rfind('/') {
+        Some(0) => "/",
+        Some(at) => &path[..at],
+        None => ".",
+    }
+}
+
+// Why a file could not be opened or read.
+fn unreadable(error: io::Error) -> PlaceFault {
+    match error.kind() {
+        io::ErrorKind::OutOfMemory => PlaceFault::NoMemory,
+        _ => PlaceFault::Unreadable,
+    }
+}
+
+// Why a file could not be written.
+fn failed(error: io::Error) -> PlaceFault {
+    match error.kind() {
+        io::ErrorKind::OutOfMemory => PlaceFault::NoMemory,
+        _ => PlaceFault::Failed,
+    }
+}

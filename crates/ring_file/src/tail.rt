@@ -1,0 +1,60 @@
+//! The end of the text in the file, and the zeros after it.
+
+use std::fs::File;
+use std::io;
+use std::os::unix::fs::FileExt;
+
+/// How many zeros are written ahead of the text at a time.
+pub(crate) const AHEAD: usize = 65536;
+
+/// An open file: a text, and zeros after it that are synced.
+#[derive(Drop)]
+pub(crate) struct Tail {
+    pub(crate) file: File,
+    // how many bytes the text has, and how many the file has
+    pub(crate) end: u64,
+    pub(crate) room: u64,
+    // `AHEAD` zeros
+    pub(crate) zeros: Vec<u8>,
+    // whether a write or a sync failed
+    pub(crate) is_broken: bool,
+}
+
+impl Tail {
+    /// Writes the bytes over zeros at the end of the text. Returns whether they were written.
+    ///
+    /// If the file has too few zeros, more are written (`pwrite`) and synced (`fsync`) first. Then the bytes are written
+    /// (`pwrite`). After a failure, in this call or an earlier one, nothing is written any more.
+    pub(crate) fn put(&mut self, bytes: &[u8]) -> bool {
+        self.is_broken = self.is_broken || self.try_put(bytes).is_err();
+        !self.is_broken
+    }
+
+    /// Syncs what was written (`fdatasync`). Returns whether it is on the disk.
+    ///
+    /// After a failure, in this call or an earlier one, nothing is synced any more.
+    pub(crate) fn sync(&mut self) -> bool {
+        self.is_broken = self.is_broken || self.file.sync_data().is_err();
+        !self.is_broken
+    }
+
+    fn try_put(&mut self, bytes: &[u8]) -> io::Result<()> {
+        let end = self.end.saturating_add(bytes.len() as u64);
+        self.make_room(end)?;
+        self.file.write_all_at(bytes, self.end)?;
+        self.end = end;
+        Ok(())
+    }
+
+    // Writes zeros until the file has `end` bytes, and syncs them if there were any.
+    fn make_room(&mut self, end: u64) -> io::Result<()> {
+        if end <= self.room {
+            return Ok(());
+        }
+        for _ in 0..(end - self.room).div_ceil(AHEAD as u64) {
+            self.file.write_all_at(&self.zeros, self.room)?;
+            self.room = self.room.saturating_add(AHEAD as u64);
+        }
+        self.file.sync_all()
+    }
+}
