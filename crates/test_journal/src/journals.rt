@@ -1,5 +1,5 @@
 use crate::failing::FailingMedium;
-use ring_journal::{Fault, Journal, LONGEST_BATCH, MemoryMedium, RoomFault, is_line};
+use ring_journal::{Journal, LONGEST_BATCH, MemoryMedium, RoomFault, is_line};
 use std::alloc::Global;
 use std::process::Abort;
 
@@ -16,26 +16,33 @@ fn failing_journal(alloc: Global, fault_at: u32) -> Journal<FailingMedium> {
     )
 }
 
-// Adds a line and settles it.
-fn settle_line(
+// Adds these bytes, which have to be a line.
+fn add(
     rt: &impl Abort,
     journal: &mut Journal<FailingMedium>,
     line: &[u8],
-) -> Result<(), Fault> {
+) -> Result<(), RoomFault> {
     assert!(rt; is_line(line));
-    assert_eq!(rt; journal.add(line), Ok(()));
-    journal.settle()
+    journal.add(line)
 }
 
 // Settling a line makes two calls of the medium: so many lines are settled before the call that fails.
 #[test]
 fn nothing_is_settled_after_a_failure(rt: HostRuntime) {
-    for (fault_at, settled, kept) in [(0, 3, 6), (1, 0, 0), (2, 0, 0), (3, 1, 2), (4, 1, 2), (6, 2, 4)] {
+    for (fault_at, settled, kept) in [
+        (0, 3, 6),
+        (1, 0, 0),
+        (2, 0, 0),
+        (3, 1, 2),
+        (4, 1, 2),
+        (6, 2, 4),
+    ] {
         let mut journal = failing_journal(rt.alloc(), fault_at);
-        let mut count = 0;
+        let mut count: u32 = 0;
         for line in [b"a", b"b", b"c"] {
-            if settle_line(&rt, &mut journal, line).is_ok() {
-                count += 1;
+            assert_eq!(rt; add(&rt, &mut journal, line), Ok(()));
+            if journal.settle().is_ok() {
+                count = u32::saturating_add(count, 1);
             }
         }
         assert_eq!(rt; count, settled, "fault at {fault_at}");
@@ -50,13 +57,12 @@ fn a_batch_is_full_at_its_last_byte(rt: HostRuntime) {
     assert_eq!(rt; journal.reserve(LONGEST_BATCH + 1), Err(RoomFault::Full));
     assert_eq!(rt; journal.reserve(LONGEST_BATCH), Ok(()));
     let line = [b'a'; 4095];
-    assert!(rt; is_line(&line));
     for _ in 0..16 {
-        assert_eq!(rt; journal.add(&line), Ok(()));
+        assert_eq!(rt; add(&rt, &mut journal, &line), Ok(()));
     }
     assert_eq!(rt; journal.pending(), LONGEST_BATCH);
-    assert_eq!(rt; journal.add(b""), Err(RoomFault::Full));
+    assert_eq!(rt; add(&rt, &mut journal, b""), Err(RoomFault::Full));
     assert_eq!(rt; journal.settle(), Ok(()));
-    assert_eq!(rt; journal.add(&line), Ok(()));
+    assert_eq!(rt; add(&rt, &mut journal, &line), Ok(()));
     assert_eq!(rt; journal.pending(), 4096);
 }
