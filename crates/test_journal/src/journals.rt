@@ -42,7 +42,7 @@ fn nothing_is_settled_after_a_failure(rt: HostRuntime) {
         for line in [b"a", b"b", b"c"] {
             assert_eq!(rt; add(&rt, &mut journal, line), Ok(()));
             if journal.settle().is_ok() {
-                count = u32::saturating_add(count, 1);
+                count = count.saturating_add(1);
             }
         }
         assert_eq!(rt; count, settled, "fault at {fault_at}");

@@ -38,15 +38,14 @@ fn are_first(found: &[u8], len: usize) -> bool {
     let Ok(lines) = read_lines(found) else {
         return false;
     };
-    let mut start = 0;
+    let mut rest = TEXT.get(..len).unwrap_or(TEXT);
     for line in lines {
-        let end = line.len().saturating_add(start);
-        if end >= len || line != &TEXT[start..end] || TEXT[end] != b'\n' {
-            return false;
+        match rest.strip_prefix(line) {
+            Some([b'\n', after @ ..]) => rest = after,
+            _ => return false,
         }
-        start = end + 1;
     }
-    start == len
+    rest.is_empty()
 }
 
 #[test]
