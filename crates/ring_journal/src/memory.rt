@@ -1,6 +1,8 @@
 //! A medium in memory.
-ghost use Rattle.std.specs.Prelude.{◌≡◌, length};
+ghost use Rattle.std.specs.Prelude.{◌≡◌, length, Err, IsOk, OnErr};
+ghost use Rattle.ring_journal.specs.Appending.{appended};
 ghost use Rattle.ring_journal.specs.Memories.{memory_kept, memory_text};
+ghost use Rattle.ring_journal.specs.declared.medium.Fault.TheVariants as fault;
 
 use crate::batch::Batch;
 use crate::medium::{Fault, Medium};
@@ -40,14 +42,24 @@ impl MemoryMedium {
 impl Medium for MemoryMedium {
     ghost moment = { λ m. record { text = m.text.items; kept = m.kept } };
 
-    fn append(&mut self, batch: &Batch) -> Result<(), Fault> {
+    /// Adds the bytes of the batch. Fails only if an allocation fails, and then the text is as before.
+    fn append(&mut self, batch: &Batch) -> Result<(), Fault>
+        ensures text { memory_text self.new ≡ appended result (memory_text self.old) batch.now.bytes }
+        ensures kept { memory_kept self.new ≡ memory_kept self.old }
+        ensures err { OnErr result (result ≡ Err fault.NoMemory) }
+    {
         match self.text.extend_from_slice(batch.bytes()) {
             Ok(()) => Ok(()),
             Err(_) => Err(Fault::NoMemory),
         }
     }
 
-    fn sync(&mut self) -> Result<(), Fault> {
+    /// Notes that the whole text is synced. It never fails.
+    fn sync(&mut self) -> Result<(), Fault>
+        ensures text { memory_text self.new ≡ memory_text self.old }
+        ensures kept { memory_kept self.new ≡ length (memory_text self.old) }
+        ensures ok { IsOk result }
+    {
         self.kept = self.text.len();
         Ok(())
     }
