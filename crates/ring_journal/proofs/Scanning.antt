@@ -68,7 +68,7 @@ lines_then (line ∷ lines) rest are is =
     ap whole_lines_of (append_assoc line (10 ∷ text_of lines) rest) ∙ first_line line (text_of lines ++ rest) are.0 ∙ ap (λ (l : List (List ℕ)). line ∷ l) (lines_then lines rest are.1 is)
 
 -- at the end, or where the next byte is a zero, these are the lines of the file
-pub read_all : (found : List ℕ) (at whole : ℕ) → Reads found at whole → (length (drop at found) ≡ 0) ⊎ (get_or (drop at found) 0 1 ≡ 0) → take whole found ≡ text_of (lines_in found)
+pub read_all : (found : List ℕ) (at whole : ℕ) → Reads found at whole → (length (drop at found) ≡ 0) ⊎ (get_or (drop at found) 0 1 ≡ 0) → whole_lines_of (take whole found) ≡ lines_in found
 read_all found at whole r over =
     let some : HasNoZero (text_of r.lines ++ r.rest) = no_zero-append (text_of r.lines) r.rest (no_zero_text r.lines r.are) (no_zero_line r.rest r.is) in
     let cut : found ≡ (text_of r.lines ++ r.rest) ++ drop at found = sym (take-append-drop at found) ∙ ap (λ (l : List ℕ). l ++ drop at found) r.split in
@@ -76,7 +76,7 @@ read_all found at whole r over =
     ap front cut ∙ front-append (text_of r.lines ++ r.rest) (drop at found) some ∙ ap (λ (l : List ℕ). (text_of r.lines ++ r.rest) ++ l) (front_zero (drop at found) over) ∙ append-nil (text_of r.lines ++ r.rest) in
     let lines_are : lines_in found ≡ r.lines = ap whole_lines_of front_is ∙ lines_then r.lines r.rest r.are r.is in
     let short : whole ≤ at = omega (arith, r.end, ap length r.split, length-append (text_of r.lines) r.rest, length-take-le at found r.within) in
-    sym (take-take whole at found short) ∙ ap (take whole) r.split ∙ take_at (text_of r.lines) r.rest whole (sym r.end) ∙ ap text_of (sym lines_are)
+    ap whole_lines_of (sym (take-take whole at found short) ∙ ap (take whole) r.split ∙ take_at (text_of r.lines) r.rest whole (sym r.end)) ∙ lines_of_text r.lines r.are ∙ sym lines_are
 
 pub whole_within : (found : List ℕ) (at whole : ℕ) → Reads found at whole → whole ≤ length found
 whole_within found at whole r =

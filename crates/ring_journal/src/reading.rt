@@ -3,7 +3,7 @@ ghost use Rattle.std.specs.Prelude.{◌≡◌, ◌↔◌, ◌≤◌, ◌==◌, l
 ghost use Rattle.std.specs.List.{list_all};
 ghost use Rattle.std.specs.Iterator.{YieldsFirstRef, item_count};
 ghost use Rattle.ring_journal.specs.Journals.{HasAll};
-ghost use Rattle.ring_journal.specs.Lines.{IsLine, front, lines_in, text_of};
+ghost use Rattle.ring_journal.specs.Lines.{IsLine, front, lines_in, whole_lines_of};
 ghost use Rattle.ring_journal.specs.private.Ending.{EndsFirst};
 ghost use Rattle.ring_journal.specs.Whole.{IsBadAt, IsWhole};
 
@@ -113,8 +113,8 @@ pub fn read_lines(found: &[u8]) -> Result<Lines<'_>, BadByte>
 /// Returns how many bytes the lines of a file take, with their LFs. A torn tail and the zeros follow them.
 pub fn whole_len(found: &[u8]) -> usize
     ensures within { result ≤ length found.now }
-    ensures lines { take result found.now ≡ text_of (lines_in found.now) }
     ensures all { HasAll (take result found.now) }
+    ensures lines { whole_lines_of (take result found.now) ≡ lines_in found.now }
 {
     let mut at = 0;
     let mut whole = 0;
