@@ -1,7 +1,8 @@
-//! The journal's file: a medium on a file of the operating system, and the place where it lies.
+//! The file of a journal: a medium on a file of the operating system, and its place in a folder.
 //!
-//! No contract says what a file holds. The contracts speak of the batches that the calls were made with. That each call
-//! makes the system calls which its comment names, and notes just them, has to be read here.
+//! No contract says what a file holds. The contracts speak of the batches that the calls were made
+//! with. So this crate has to be read: each call makes the system calls that its comment names, in
+//! that order, and notes exactly what they wrote.
 #![tactic(auto)]
 
 mod medium;

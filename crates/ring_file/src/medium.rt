@@ -60,8 +60,8 @@ impl Medium for FileMedium {
 
     /// Writes the batch at the end of the text (`pwrite`), over zeros that are synced.
     ///
-    /// If there are too few zeros, more are written and synced first (`pwrite`, `fsync`). After a failure, nothing is
-    /// written any more.
+    /// If there are too few zeros, more are written and synced first (`pwrite`, `fsync`). After a
+    /// failure, nothing is written any more.
     fn append(&mut self, batch: &Batch) -> Result<(), Fault> {
         let Ok(()) = self.pieces.reserve(1) else {
             return Err(Fault::NoMemory);

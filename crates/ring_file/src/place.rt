@@ -1,4 +1,4 @@
-//! Where a journal lies: a name in a folder, which stands for one text after another.
+//! The place of a journal: a name in a folder, which is the name of one file after another.
 ghost use Rattle.std.specs.Prelude.{◌≡◌, length, IfOk};
 
 use crate::medium::FileMedium;
@@ -41,8 +41,9 @@ pub struct Place {
 impl Place {
     /// Takes the place of the journal at `path`, by a lock on the file `path.lock`.
     ///
-    /// System calls: `openat` of `path.lock`, which makes that file if there is none, and `flock`, which does not wait.
-    /// `InUse` if another process has the lock. The lock file is never removed.
+    /// System calls: `openat` of `path.lock`, which makes that file if there is none, and `flock`,
+    /// which does not wait. Returns `InUse` if another process has the lock. The lock file is never
+    /// removed.
     pub fn take<R: Files<File = File> + AllocGlobal>(
         rt: &R,
         path: &str,
@@ -64,8 +65,8 @@ impl Place {
 
     /// Returns the bytes of the journal's file, or no bytes if there is no such file.
     ///
-    /// System calls: `statx` of the file, which follows no link; then `openat`, and `read` up to its end. `NotAFile` if
-    /// it is no regular file: then it is not opened.
+    /// System calls: `statx` of the file, which follows no link, then `openat`, and `read` up to
+    /// its end. Returns `NotAFile` if it is not a regular file, and then does not open it.
     pub fn read<R: Files<File = File> + AllocGlobal>(&self, rt: &R) -> Result<Vec<u8>, PlaceFault> {
         let mut found = Vec::new(rt.alloc());
         let path = self.path.as_str();
@@ -80,11 +81,13 @@ impl Place {
         Ok(found)
     }
 
-    /// Puts `text` in the place of what the file holds, and returns the medium of the new file.
+    /// Replaces the journal's file by one that holds `text`, and returns the medium of the new
+    /// file.
     ///
-    /// System calls, on a new file `path.new`: `unlink` of what an earlier life left there; `openat`, `write` of the text
-    /// and of zeros, `fsync`. Then `rename` to `path`; and `openat` and `fsync` of its folder. So at each moment `path` is
-    /// the old file, or the new one with the whole text. At an error it may be either.
+    /// System calls: `unlink` of `path.new`, which an earlier life may have left. Then `openat` of
+    /// a new file `path.new`, `write` of the text and of zeros, and `fsync`. Then `rename` to
+    /// `path`, `openat` of its folder and `fsync` of that. So `path` is the old file at each
+    /// moment, or the new one with the whole text. After an error it may be either.
     pub fn begin<R: Files<File = File> + AllocGlobal>(
         self,
         rt: &R,
@@ -147,7 +150,7 @@ fn folder_of(path: &str) -> &str {
     }
 }
 
-// Why a file could not be opened or read.
+// The fault of a file that could not be opened or read.
 fn unreadable(error: io::Error) -> PlaceFault {
     match error.kind() {
         io::ErrorKind::OutOfMemory => PlaceFault::NoMemory,
@@ -155,7 +158,7 @@ fn unreadable(error: io::Error) -> PlaceFault {
     }
 }
 
-// Why a file could not be written.
+// The fault of a file that could not be written.
 fn failed(error: io::Error) -> PlaceFault {
     match error.kind() {
         io::ErrorKind::OutOfMemory => PlaceFault::NoMemory,

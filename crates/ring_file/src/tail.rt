@@ -23,8 +23,9 @@ pub(crate) struct Tail {
 impl Tail {
     /// Writes the bytes over zeros at the end of the text. Returns whether they were written.
     ///
-    /// If the file has too few zeros, more are written (`pwrite`) and synced (`fsync`) first. Then the bytes are written
-    /// (`pwrite`). After a failure, in this call or an earlier one, nothing is written any more.
+    /// If the file has too few zeros, more are written (`pwrite`) and synced (`fsync`) first. Then
+    /// the bytes are written (`pwrite`). After a failure, in this call or an earlier one, nothing
+    /// is written any more.
     pub(crate) fn put(&mut self, bytes: &[u8]) -> bool {
         self.is_broken = self.is_broken || self.try_put(bytes).is_err();
         !self.is_broken

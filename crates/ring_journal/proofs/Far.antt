@@ -19,7 +19,7 @@ a_byte : (byte : ℕ) → is_byte byte ≡ true → byte ≢ 0
 a_byte zero passes = absurd (grind (arith, passes))
 a_byte (suc byte) passes = λ is. absurd (omega (arith, is))
 
--- where the first byte that is not a zero is found in these
+-- the place of the first byte that is not a zero; `None` if all are zeros
 abbrev FoundByte : List ℕ → Option ℕ → Type 0
 FoundByte bytes None = All (λ byte. byte ≡ 0) bytes
 FoundByte bytes (Some at) = (at < length bytes) × (get_or bytes at 0 ≢ 0) × ((k : ℕ) → k < at → get_or bytes k 0 ≡ 0)

@@ -1,4 +1,5 @@
--- What a restart finds of a text with no zero in it: the first of its bytes, and no fewer than were kept.
+-- What a restart finds of a text with no zero in it: the first of its bytes, and no fewer than were
+-- kept.
 use Rattle.std.proofs.Common.{◌≡◌, ◌≢◌, ◌≤◌, ◌==◌, inl, inr, ℕ, zero, suc, List, [], ◌∷◌, ◌++◌, length, take, refl, ap, sym, ◌∙◌, arith}
 use Rattle.std.proofs.lemmas.Bool.{cond-true, cond-false, eq-eqb, ne_eqb}
 use Rattle.ring_journal.specs.Moments.{MayFind}
@@ -25,7 +26,7 @@ pub no_zero_text : (lines : List (List ℕ)) → AreLines lines → HasNoZero (t
 no_zero_text [] are = tt
 no_zero_text (line ∷ lines) are = no_zero-append line (10 ∷ text_of lines) (no_zero_line line are.0) (omega arith, no_zero_text lines are.1)
 
--- what stands before the first zero is the first of the text
+-- the bytes before the first zero are the first of the text
 pub record FrontOf (text : List ℕ) (kept : ℕ) (found : List ℕ) : Type 0 where
   pub many : ℕ
   pub are : front found ≡ take many text

@@ -1,4 +1,4 @@
--- Where the first zero is, where the first line ends, and what that says of the lines of a file.
+-- The first zero and the end of the first line, and the lines of a file that they give.
 use Rattle.std.proofs.Common.{◌≡◌, ◌+◌, ◌<◌, ◌≤◌, ◌==◌, ℕ, suc, Bool, true, false, not, cond, nat_lt, List, [], ◌∷◌, length, take, drop, Some, None, refl, ap, sym, arith}
 use Rattle.std.specs.List.{position, position_or_len}
 use Rattle.std.specs.Option.{unwrap_or}
@@ -69,7 +69,7 @@ lf_some (byte ∷ text) below = elim (byte == 10) as
       | false ↦ λ h. lf_later byte text (position_or_len is_lf text) _ _ (omega arith) (omega arith) (lf_some text (omega (arith, h)))
     ] below
 
--- the place of the first LF is where the first line ends
+-- the first line ends at the first LF
 pub ends_first : (text : List ℕ) → EndsFirst text (position is_lf text)
 ends_first text = elim (nat_lt (position_or_len is_lf text) (length text)) as
     (λ b. nat_lt (position_or_len is_lf text) (length text) ≡ b → EndsFirst text (cond b (Some (position_or_len is_lf text)) None)) [

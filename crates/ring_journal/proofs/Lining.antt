@@ -14,7 +14,8 @@ pub lines_of_text : (lines : List (List ℕ)) → AreLines lines → whole_lines
 lines_of_text [] are = refl
 lines_of_text (line ∷ lines) are = first_line line (text_of lines) are.0 ∙ ap (λ (l : List (List ℕ)). line ∷ l) (lines_of_text lines are.1)
 
--- the first n bytes of a text that begins with this line: less than the line, or the line and some bytes more
+-- the first n bytes of a text that begins with this line: less than the line, or the line and some
+-- bytes more
 Cuts : List ℕ → List ℕ → ℕ → Type 0
 Cuts line text n =
     ((n ≤ length line) × (whole_lines_of (take n (line ++ 10 ∷ text)) ≡ []))
@@ -62,7 +63,7 @@ lines_of_first (line ∷ lines) n are = elim (cuts line (text_of lines) n are.0)
       }
 ]
 
--- the text of the first lines stands at the front of the text
+-- the text of the first lines is the first of the text
 pub text_of_first : (lines : List (List ℕ)) (k : ℕ) → (rest : List ℕ) × (text_of lines ≡ text_of (take k lines) ++ rest)
 text_of_first lines zero = (text_of lines, refl)
 text_of_first [] (suc k) = ([], refl)
@@ -70,7 +71,8 @@ text_of_first (line ∷ lines) (suc k) =
     let more = text_of_first lines k in
     (more.0, ap (λ (t : List ℕ). line ++ 10 ∷ t) more.1 ∙ sym (append_assoc line (10 ∷ text_of (take k lines)) more.0))
 
--- A restart finds the first of the lines of which this text is the front, and no fewer than these whose text is kept.
+-- A restart finds the first of the lines of which this text is the front, and no fewer than these
+-- whose text is kept.
 pub finds_first : (lines : List (List ℕ)) (text rest : List ℕ) (some kept : ℕ) (found : List ℕ)
     → AreLines lines → text ++ rest ≡ text_of lines → some ≤ length lines → length (text_of (take some lines)) ≤ kept → MayFind found text kept
     → AreFirst lines some (lines_in found)
@@ -86,7 +88,7 @@ finds_first lines text rest some kept found are whole few within find =
       most = its.most;
     }
 
--- the lines that are kept, where the kept bytes are the text of the first lines
+-- the lines that are kept, if the kept bytes are the text of the first lines
 pub kept_lines : (lines : List (List ℕ)) (text rest : List ℕ) (some kept : ℕ)
     → AreLines lines → text ++ rest ≡ text_of lines → some ≤ length lines → kept ≡ length (text_of (take some lines)) → kept ≤ length text
     → whole_lines_of (take kept text) ≡ take some lines

@@ -67,7 +67,7 @@ lines_then [] (byte ∷ rest) are is = cond-false (byte == 10) _ _ (ne_eqb byte 
 lines_then (line ∷ lines) rest are is =
     ap whole_lines_of (append_assoc line (10 ∷ text_of lines) rest) ∙ first_line line (text_of lines ++ rest) are.0 ∙ ap (λ (l : List (List ℕ)). line ∷ l) (lines_then lines rest are.1 is)
 
--- at the end, or where the next byte is a zero, these are the lines of the file
+-- at the end, or if the next byte is a zero, these are the lines of the file
 pub read_all : (found : List ℕ) (at whole : ℕ) → Reads found at whole → (length (drop at found) ≡ 0) ⊎ (get_or (drop at found) 0 1 ≡ 0) → whole_lines_of (take whole found) ≡ lines_in found
 read_all found at whole r over =
     let some : HasNoZero (text_of r.lines ++ r.rest) = no_zero-append (text_of r.lines) r.rest (no_zero_text r.lines r.are) (no_zero_line r.rest r.is) in

@@ -26,7 +26,7 @@ crash_finds disk batch broken j new rest same near m from to found find =
       whole = whole_find found m.text m.kept no_zero find short;
     }
 
--- all that was written, where the batch follows what was kept, is within a batch of it
+-- if the batch follows what was kept, all that was written is within a batch of it
 pub near_batch : (disk : Moment) (batch : List ℕ) (j : IsJournal disk batch false) (text : List ℕ) → text ≡ disk.text ++ batch → length text ≤ disk.kept + 65536
 near_batch disk batch j text is = omega (arith, j.synced refl, j.short, ap length is, length-append disk.text batch)
 

@@ -1,4 +1,4 @@
--- A file that a crash leaves has only zeros where nothing was written.
+-- A file that a crash leaves has only zeros after the text.
 use Rattle.std.proofs.Common.{◌≡◌, ◌+◌, ◌≤◌, ℕ, zero, suc, List, [], ◌∷◌, All, length, drop, ap, ◌∙◌, arith}
 use Rattle.std.proofs.lemmas.List.{length-take-le}
 use Rattle.ring_journal.specs.Moments.{MayFind}
@@ -10,7 +10,7 @@ zero_then : (byte : ℕ) (rest : List ℕ) → byte ≡ 0 → All (λ byte. byte
 zero_then byte rest is more zero d below = is
 zero_then byte rest is more (suc k) d below = more k d (omega (arith, below))
 
--- behind the text are zeros
+-- after the text are zeros
 zeros_from : (found : List ℕ) (kept : ℕ) → MayFind found [] kept → All (λ byte. byte ≡ 0) found
 zeros_from [] kept find = λ k d below. absurd (omega (arith, below))
 zeros_from (byte ∷ rest) kept find = zero_then byte rest find.1 (zeros_from rest 0 find.2)

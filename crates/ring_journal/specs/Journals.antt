@@ -9,8 +9,9 @@ pub record BatchView : Type 0 where
   pub bytes : List ℕ
   pub room : ℕ
 
--- A journal: its lines in order, and what was written of them. So many bytes are pending, so many more can be added without an
--- allocation, each line counted with its LF. It is broken once the disk failed.
+-- A journal: its lines in order, and the moment of its medium. `pending` bytes are not written yet.
+-- `room` more bytes can be added without an allocation, each line counted with its LF. It is broken
+-- after the disk failed.
 pub record JournalView : Type 0 where
   pub lines : List (List ℕ)
   pub disk : Moment
@@ -42,12 +43,14 @@ pub record Adds (old : JournalView) (line : List ℕ) (new : JournalView) : Type
   pub pending : new.pending ≡ old.pending + (length line + 1)
   pub is_broken : new.is_broken ≡ old.is_broken
 
--- A restart finds the first of the lines and at least so many of them, in a file that it does not refuse.
+-- A restart finds the first of the lines, and at least `fewest` of them. It does not refuse the
+-- file.
 pub record Finds (lines : List (List ℕ)) (fewest : ℕ) (found : List ℕ) : Type 0 where
   pub first : AreFirst lines fewest (lines_in found)
   pub whole : IsWhole found
 
--- A crash at any moment between these two: a restart finds the first of the lines, and at least those that were settled before.
+-- If a crash comes at any moment between these two, a restart finds the first of the lines, and at
+-- least those that were settled before.
 abbrev pub FindsFirst : JournalView → JournalView → Type 0
 FindsFirst old new =
     (m : Moment) → Grows old.disk m → Grows m new.disk → (found : List ℕ) → MayFind found m.text m.kept → Finds new.lines (settled old) found

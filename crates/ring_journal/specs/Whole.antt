@@ -6,7 +6,8 @@ use Rattle.ring_journal.specs.Lines.{front}
 abbrev pub IsWhole : List ℕ → Type 0
 IsWhole found = All (λ byte. byte ≡ 0) (drop (length (front found) + 65536) found)
 
--- The byte at this place is the first that is not a zero and is 65536 bytes or more after the first zero.
+-- The byte at this place is the first that is not a zero and is 65536 bytes or more after the first
+-- zero.
 pub record IsBadAt (found : List ℕ) (at : ℕ) : Type 0 where
   pub inside : at < length found
   pub far : length (front found) + 65536 ≤ at

@@ -7,7 +7,8 @@ use std::marker::Model;
 /// The byte that ends a line.
 pub(crate) const LF: u8 = b'\n';
 
-/// Lines that are written together. Contracts see their bytes, and for how many more bytes there is room.
+/// Lines that are written together. Contracts see their bytes, and for how many more bytes there is
+/// room.
 #[derive(Drop)]
 pub struct Batch {
     bytes: Vec<u8>,

@@ -14,7 +14,8 @@ use std::marker::Model;
 /// Why there is no room for a line.
 #[derive(Clone, Copy, Debug, PartialEq, Eq)]
 pub enum RoomFault {
-    /// The pending lines would be longer than `LONGEST_BATCH` bytes. There is room again after `settle`.
+    /// The pending lines would be longer than `LONGEST_BATCH` bytes. There is room again after
+    /// `settle`.
     Full,
     /// An allocation failed.
     NoMemory,
@@ -28,8 +29,8 @@ impl From<AllocError> for RoomFault {
     }
 }
 
-/// A journal on a medium. Contracts see its lines in order, what was written of them, how many bytes are pending, for how
-/// many more there is room, and whether the disk failed.
+/// A journal on a medium. Contracts see its lines in order and the moment of its medium. They also
+/// see how many bytes are pending, for how many more there is room, and whether the disk failed.
 #[derive(Drop)]
 pub struct Journal<D: Medium + Drop> {
     medium: D,
@@ -132,7 +133,8 @@ impl<D: Medium + Drop> Journal<D> {
 
     /// Writes the pending lines and syncs them. If there are none, nothing is written.
     ///
-    /// After `Failed` no call settles a line any more. A restart may find the lines that were pending, or the first of them.
+    /// After `Failed` no call settles a line any more. A restart may find the lines that were
+    /// pending, or the first of them.
     pub fn settle(&mut self) -> Result<(), Fault>
         ensures same { self.new.lines ≡ self.old.lines }
         ensures ok { OnOk result (settled self.new ≡ length self.new.lines) }

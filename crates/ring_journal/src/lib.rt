@@ -1,10 +1,12 @@
 //! A journal of lines on a medium that only grows.
 //!
-//! A crash may come at any moment of any call. A restart then finds the first of the lines, and at least as many as were
-//! settled before that call. It finds them by `read_lines`, which refuses no file that a crash leaves.
+//! A crash may come at any moment of any call. A restart then finds the first of the lines, and at
+//! least as many as were settled before that call. It finds them by `read_lines`, which refuses no
+//! file that a crash leaves.
 //!
-//! What a crash does to a medium is a definition, `MayFind`: each byte is the one that was written there or a zero, and the
-//! synced bytes are as they were written. Nothing is claimed of a medium that does otherwise.
+//! The definition `MayFind` says which files a crash may leave. Each byte is the one that was
+//! written there or a zero, and the synced bytes are as they were written. Nothing is claimed of a
+//! medium that leaves other files.
 #![tactic(auto)]
 
 mod batch;

@@ -1,4 +1,4 @@
-//! What a journal is written on.
+//! The medium of a journal.
 ghost use Rattle.std.specs.Prelude.{◌≡◌, length, OnErr, OnOk};
 ghost use Rattle.ring_journal.specs.Appending.{appended};
 
@@ -16,17 +16,18 @@ pub enum Fault {
     Failed,
 }
 
-/// A text that only grows, of which a crash leaves what `MayFind` says.
+/// A text that only grows. `MayFind` says which files a crash may leave of it.
 ///
-/// The ghost member `moment` says what was written so far, and how many of its first bytes are synced. A crash may come
-/// between two calls or inside one. A restart then finds what `MayFind` says of a moment between the one before that call
-/// and the one after it.
+/// The ghost member `moment` has the bytes that were written so far, and how many of the first ones
+/// are synced. A crash may come between two calls or inside one. A restart then finds a file that
+/// `MayFind` allows at some moment between the one before that call and the one after it.
 pub trait Medium {
     ghost use Rattle.ring_journal.specs.Moments.{Moment};
 
     ghost moment: { Self → Moment };
 
-    /// Writes a batch after the text. If the disk fails, the batch counts as written, since it may be there.
+    /// Writes a batch after the text. If the disk fails, the batch counts as written, since it may
+    /// be there.
     fn append(&mut self, batch: &Batch) -> Result<(), Fault>
         ensures text { (moment self.new).text ≡ appended result (moment self.old).text batch.now.bytes }
         ensures kept { (moment self.new).kept ≡ (moment self.old).kept };

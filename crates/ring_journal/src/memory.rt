@@ -42,7 +42,8 @@ impl MemoryMedium {
 impl Medium for MemoryMedium {
     ghost moment = { λ m. record { text = m.text.items; kept = m.kept } };
 
-    /// Adds the bytes of the batch. Fails only if an allocation fails, and then the text is as before.
+    /// Adds the bytes of the batch. Fails only if an allocation fails, and then the text is as
+    /// before.
     fn append(&mut self, batch: &Batch) -> Result<(), Fault>
         ensures text { memory_text self.new ≡ appended result (memory_text self.old) batch.now.bytes }
         ensures kept { memory_kept self.new ≡ memory_kept self.old }

@@ -1,4 +1,4 @@
-//! What a restart reads of a file.
+//! The lines that a restart reads in a file.
 ghost use Rattle.std.specs.Prelude.{◌≡◌, ◌↔◌, ◌≤◌, ◌==◌, length, not, position, take, ◌&&◌, IfErr, IfOk, IsOk, IsTrue};
 ghost use Rattle.std.specs.List.{list_all};
 ghost use Rattle.std.specs.Iterator.{YieldsFirstRef, item_count};
@@ -32,7 +32,8 @@ pub struct BadByte {
     pub at: usize,
 }
 
-/// An iterator over the complete lines of a text, without their LFs. Contracts see the list of those that are left.
+/// An iterator over the complete lines of a text, without their LFs. Contracts see the list of
+/// those that are left.
 #[derive(Drop)]
 pub struct Lines<'a> {
     text: &'a [u8],
@@ -93,8 +94,9 @@ fn front_len(found: &[u8]) -> usize
 
 /// Returns the lines of a file: those that an LF ends before the first zero. Does not allocate.
 ///
-/// Returns the first byte that is not a zero and is `LONGEST_BATCH` bytes or more after the first zero. No crash leaves
-/// such a byte, since no more than `LONGEST_BATCH` bytes were ever written and not synced.
+/// Returns the first byte that is not a zero and is `LONGEST_BATCH` bytes or more after the first
+/// zero. No crash leaves such a byte, since no more than `LONGEST_BATCH` bytes were ever written
+/// and not synced.
 pub fn read_lines(found: &[u8]) -> Result<Lines<'_>, BadByte>
     ensures lines { IfOk result (λ lines. lines ≡ lines_in found.now) }
     ensures whole { IsOk result ↔ IsWhole found.now }
@@ -110,7 +112,8 @@ pub fn read_lines(found: &[u8]) -> Result<Lines<'_>, BadByte>
     }
 }
 
-/// Returns how many bytes the lines of a file take, with their LFs. A torn tail and the zeros follow them.
+/// Returns how many bytes the lines of a file take, with their LFs. A torn tail and the zeros
+/// follow them.
 pub fn whole_len(found: &[u8]) -> usize
     ensures within { result ≤ length found.now }
     ensures all { HasAll (take result found.now) }

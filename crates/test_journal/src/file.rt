@@ -16,7 +16,8 @@ fn count_of(lines: Lines<'_>) -> u32 {
     count
 }
 
-// Settles a line in the journal of this place, after those that its file has. Returns how many lines there were.
+// Settles a line in the journal of this place, after those that its file has. Returns how many
+// lines there were.
 fn settle_line<R: Abort + Files<File = File> + AllocGlobal>(
     rt: &R,
     path: &str,

@@ -26,7 +26,7 @@ fn add(
     journal.add(line)
 }
 
-// Settling a line makes two calls of the medium: so many lines are settled before the call that fails.
+// Settling a line makes two calls of the medium. `settled` lines come before the call that fails.
 #[test]
 fn nothing_is_settled_after_a_failure(rt: HostRuntime) {
     for (fault_at, settled, kept) in [

@@ -1,5 +1,5 @@
-//! Tests of the journal: every file that a crash may leave of a small text, media that fail, and a real file. Each has
-//! the values that it must come to.
+//! Tests of the journal: every file that a crash may leave of a small text, media that fail, and a
+//! real file. Each has the values that it must come to.
 #![tactic(auto)]
 
 #[cfg(test)]

@@ -1,11 +1,12 @@
--- What the type of a journal keeps, and what contracts see of its fields.
+-- The invariant of a journal, and the view of its fields.
 use Rattle.std.specs.Prelude.{◌≡◌, ◌≤◌, ℕ, ◌+◌, ◌-◌, Bool, false, List, ◌++◌, length, take, min}
 use Rattle.ring_journal.specs.Moments.{Moment}
 use Rattle.ring_journal.specs.Lines.{AreLines, text_of, whole_lines_of}
 use Rattle.ring_journal.specs.Journals.{BatchView, JournalView}
 
--- Lines, of which some are kept whole. All that were written are kept unless it is broken, and it never wrote more than a batch
--- that was not kept.
+-- The text and the pending bytes are lines, and the synced bytes are the first of these lines. All
+-- that was written is synced unless the journal is broken. No more than a batch was ever written
+-- and not synced.
 pub record IsJournal (disk : Moment) (pending : List ℕ) (broken : Bool) : Type 0 where
   pub lines : List (List ℕ)
   pub some : ℕ
