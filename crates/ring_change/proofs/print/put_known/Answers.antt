@@ -1,0 +1,14 @@
+use Rattle.std.specs.Prelude.{◌++◌, ◌∷◌}
+use Rattle.std.proofs.lemmas.Result.{on_err_weaker, on_ok_weaker}
+use Rattle.ring_grammar.specs.Identities.{node_word}
+use Rattle.ring_change.proofs.Putting.{on_err_anyway}
+use Rattle.ring_change.proofs.print.put_known.Goals as goal
+
+pub returns-in_err-put_number-clause-err : goal.returns-in_err-put_number-clause-err
+returns-in_err-put_number-clause-err g c = on_err_anyway c.from_residual.result (g.met.S.Sink.laws.front _ _ _ ((32 ∷ node_word c.args.member) ++ (32 ∷ node_word c.args.leader)) (rw c.get.ensures.value at c.in_err-put_number.ensures.err))
+
+pub returns-clause-ok : goal.returns-clause-ok
+returns-clause-ok g c = on_ok_weaker c.put_nodes.result (g.met.S.Sink.laws.then _ _ _ _ _ (rw c.get.ensures.value at c.in_ok-put_number.ensures.ok)) c.put_nodes.ensures.ok
+
+pub returns-clause-err : goal.returns-clause-err
+returns-clause-err g c = on_err_weaker c.put_nodes.result (g.met.S.Sink.laws.then_front _ _ _ _ _ (rw c.get.ensures.value at c.in_ok-put_number.ensures.ok)) c.put_nodes.ensures.err

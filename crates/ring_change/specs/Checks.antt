@@ -1,0 +1,40 @@
+-- The check of the lines of a journal: the CRC-32 of all changes so far, four bits at a time. No theorem
+-- rests on its value: it finds damage.
+use Rattle.std.specs.Prelude.{◌+◌, ◌-◌, ◌/◌, ◌%◌, ◌++◌, ℕ, List, [], ◌∷◌, fold, slice_index, if◌then◌else◌, nat_lt, codes}
+use Rattle.std.specs.Int.Bits.{bit_xor}
+
+-- what four bits do to a check
+abbrev pub check_table : List ℕ
+check_table =
+    0 ∷ 498536548 ∷ 997073096 ∷ 651767980 ∷ 1994146192 ∷ 1802195444 ∷ 1303535960 ∷ 1342533948 ∷
+    3988292384 ∷ 4027552580 ∷ 3604390888 ∷ 3412177804 ∷ 2607071920 ∷ 2262029012 ∷ 2685067896 ∷ 3183342108 ∷ []
+
+-- the check of no bytes
+abbrev pub first_check : ℕ
+first_check = 4294967295
+
+-- four bits further
+abbrev pub check_half : ℕ → ℕ
+check_half rest = bit_xor (rest / 16) (slice_index check_table (rest % 16))
+
+-- a byte further
+abbrev pub check_byte : ℕ → ℕ → ℕ
+check_byte rest byte = check_half (check_half (bit_xor rest byte))
+
+-- some bytes further
+abbrev pub check_after : ℕ → List ℕ → ℕ
+check_after check bytes = fold check_byte check bytes
+
+-- the lowercase hexadecimal digit of a number below 16
+abbrev pub hex_digit : ℕ → ℕ
+hex_digit n = if nat_lt n 10 then 48 + n else 87 + n
+
+-- eight such digits of a number of 32 bits, the highest first
+abbrev pub hex_word : ℕ → List ℕ
+hex_word n =
+    hex_digit (n / 268435456) ∷ hex_digit (n / 16777216 % 16) ∷ hex_digit (n / 1048576 % 16) ∷ hex_digit (n / 65536 % 16) ∷
+    hex_digit (n / 4096 % 16) ∷ hex_digit (n / 256 % 16) ∷ hex_digit (n / 16 % 16) ∷ hex_digit (n % 16) ∷ []
+
+-- the mark at the end of a line with this check
+abbrev pub check_mark : ℕ → List ℕ
+check_mark check = codes " #" ++ hex_word (4294967295 - check)

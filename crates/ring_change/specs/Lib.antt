@@ -1,0 +1,6 @@
+pub mod Changes
+pub mod Checks
+pub mod Lines
+pub mod Spelling
+pub mod laws
+pub mod private

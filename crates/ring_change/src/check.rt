@@ -1,0 +1,94 @@
+ghost use Rattle.std.specs.Prelude.{◌≡◌, ◌<◌, ◌/◌, ◌%◌};
+ghost use Rattle.ring_change.specs.Checks.{check_after, check_byte, check_half, check_mark, first_check, hex_digit};
+
+use std::marker::Model;
+
+/// What four bits do to a check: the table of the polynomial 0xedb88320.
+const TABLE: [u32; 16] = [
+    0, 0x1db7_1064, 0x3b6e_20c8, 0x26d9_30ac, 0x76dc_4190, 0x6b6b_51f4, 0x4db2_6158, 0x5005_713c,
+    0xedb8_8320, 0xf00f_9344, 0xd6d6_a3e8, 0xcb61_b38c, 0x9b64_c2b0, 0x86d3_d2d4, 0xa00a_e278, 0xbdbd_f21c,
+];
+
+/// A running check of the changes of a journal: the CRC-32 of zip files over all their bytes.
+///
+/// Contracts see it as its 32 bits before the last inversion. No theorem rests on its value.
+#[derive(Clone, Copy, Debug)]
+pub struct Check {
+    rest: u32,
+}
+
+impl Model for Check {
+    ghost use Rattle.std.specs.Prelude.{ℕ};
+
+    ghost Value = { ℕ };
+
+    ghost view = { λ a. a.rest };
+
+    ghost inverse = { λ rest. record { rest = rest } };
+}
+
+impl Check {
+    /// Returns the check of no changes.
+    pub fn new() -> Check
+        ensures { result ≡ first_check }
+    {
+        Check { rest: u32::MAX }
+    }
+
+    /// Returns this check with these bytes behind those that it has seen.
+    pub fn after(self, bytes: &[u8]) -> Check
+        ensures { result ≡ check_after self bytes.now }
+    {
+        let mut rest = self.rest;
+        for byte in bytes {
+            rest = with_byte(rest, *byte);
+        }
+        Check { rest }
+    }
+
+    /// Returns the mark at the end of a line: ` #` and the eight lowercase hexadecimal digits of the check.
+    pub fn mark(self) -> [u8; 10]
+        ensures { result ≡ check_mark self }
+    {
+        let word = u32::MAX - self.rest;
+        [
+            b' ',
+            b'#',
+            digit(word / 0x1000_0000),
+            digit(word / 0x100_0000 % 16),
+            digit(word / 0x10_0000 % 16),
+            digit(word / 0x1_0000 % 16),
+            digit(word / 0x1000 % 16),
+            digit(word / 0x100 % 16),
+            digit(word / 0x10 % 16),
+            digit(word % 16),
+        ]
+    }
+}
+
+#[inline(always)]
+fn with_byte(rest: u32, byte: u8) -> u32
+    ensures { result ≡ check_byte rest byte }
+{
+    with_half(with_half(rest ^ u32::from(byte)))
+}
+
+#[inline(always)]
+fn with_half(rest: u32) -> u32
+    ensures { result ≡ check_half rest }
+{
+    rest / 16 ^ TABLE[(rest % 16) as usize]
+}
+
+// The lowercase hexadecimal digit of a number below 16.
+#[inline(always)]
+fn digit(number: u32) -> u8
+    requires { number < 16 }
+    ensures { result ≡ hex_digit number }
+{
+    if number < 10 {
+        b'0' + number as u8
+    } else {
+        b'a' + (number - 10) as u8
+    }
+}

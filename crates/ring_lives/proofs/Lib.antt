@@ -1,0 +1,3 @@
+mod Joining
+mod Replaying
+mod Telling
