@@ -1,5 +1,5 @@
-mod Checking
 mod Cutting
+mod Fitting
 mod OneChange
 mod Parsing
 mod Plain

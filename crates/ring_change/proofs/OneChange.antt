@@ -1,8 +1,8 @@
 -- Each change has one spelling, its line is one line, and so is its line in a journal.
-use Rattle.std.proofs.Common.{◌≡◌, ◌≢◌, ◌<◌, ◌≤◌, ◌+◌, ◌-◌, ◌/◌, ◌%◌, ◌++◌, ◌^◌, ◌&&◌, ◌==◌, ℕ, Bool, true, false, not, List, [], ◌∷◌, length, length-append, get_or, map, sym, ◌∙◌, ap, arith, refl, append-nil, All, codes, decimal, if◌then◌else◌}
+use Rattle.std.proofs.Common.{◌≡◌, ◌≢◌, ◌≤◌, ◌+◌, ◌-◌, ◌/◌, ◌%◌, ◌++◌, ℕ, Bool, true, false, List, [], ◌∷◌, length, length-append, get_or, map, sym, ◌∙◌, ap, arith, refl, append-nil, codes, if◌then◌else◌}
 use Rattle.std.specs.Prelude.{nat_lt}
 use Rattle.std.specs.List.{list_all}
-use Rattle.std.proofs.lemmas.Bool.{and_parts, and_from}
+use Rattle.std.proofs.lemmas.Bool.{and_from}
 use Rattle.std.proofs.lemmas.Fmt.{decimal_injective}
 use Rattle.std.proofs.lemmas.List.Elements.{All-weaker}
 use Rattle.std.proofs.lemmas.List.Folds.{list_all-append}
@@ -11,13 +11,12 @@ use Rattle.ring_any.specs.declared.any.Any.{Any}
 use Rattle.ring_id.specs.GroupName.{IsName}
 use Rattle.ring_events.specs.declared.event.Command.{Command}
 use Rattle.ring_events.specs.declared.event.Command.TheVariants as command
-use Rattle.ring_events.specs.declared.event.Event.{Event}
-use Rattle.ring_events.specs.declared.event.Event.TheVariants.{Client, Deliver, Cut, Pending, Drain}
+use Rattle.ring_events.specs.declared.event.Event.TheVariants.{Client}
 use Rattle.ring_grammar.specs.Identities.{IsNode, node_word}
 use Rattle.ring_grammar.specs.OneSpelling.{HaveOneSpelling}
-use Rattle.ring_grammar.specs.Spelling.{IsCommand, IsEvent, Spells, command_words, event_words, line_of}
+use Rattle.ring_grammar.specs.Spelling.{IsCommand, IsEvent, Spells, command_words, line_of}
 use Rattle.ring_change.specs.Checks.{check_mark, hex_digit, hex_word}
-use Rattle.ring_change.specs.Lines.{ChangesAreLines, IsOneLine, check_behind, marked_line}
+use Rattle.ring_change.specs.Lines.{ChangesAreLines, check_behind, marked_line}
 use Rattle.ring_change.specs.declared.change.Change.{Change}
 use Rattle.ring_change.specs.declared.change.Change.TheVariants.{Create, Join, Leave, Start, Know}
 use Rattle.ring_change.specs.Spelling.{IsChange, SpellsChange, change_line, change_words}
@@ -68,7 +67,7 @@ module _ (law : HaveOneSpelling IsEvent Spells) where
       cc
   one_value line (Know g t m l) (Know h u n k) short p q =
       let words : change_words (Know g t m l) ≡ change_words (Know h u n k) =
-          sym (words_in-change (Know g t m l) p.legal) ∙ ap words_in (sym p.same ∙ q.same) ∙ words_in-change (Know h u n k) q.legal in
+      sym (words_in-change (Know g t m l) p.legal) ∙ ap words_in (sym p.same ∙ q.same) ∙ words_in-change (Know h u n k) q.legal in
       let term = decimal_injective t u (omega (arith, p.legal.1.1)) (omega (arith, q.legal.1.1)) cc in
       let member = same_node m n p.legal.2 q.legal.2 cc in
       let leader = same_node l k p.legal.3 q.legal.3 cc in
@@ -112,5 +111,5 @@ changes_are_lines check change legal =
     record {
       short = omega (arith, length-append (change_line change) mark, short-change change legal);
       plain = All-weaker (λ byte. is_text byte ≡ true) (λ byte. (byte ≢ 10) × (byte ≢ 0)) other_byte (marked_line check change)
-      (AllPass-from_list_all is_text (marked_line check change) (rw (list_all-append, text-line_of (change_words change) (plain-change change legal)) (text-mark (check_behind check change))));
+          (AllPass-from_list_all is_text (marked_line check change) (rw (list_all-append, text-line_of (change_words change) (plain-change change legal)) (text-mark (check_behind check change))));
     }

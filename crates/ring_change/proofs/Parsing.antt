@@ -1,5 +1,5 @@
 -- A line is read as a command, or else as a change by a report.
-use Rattle.std.proofs.Common.{◌≡◌, ◌≢◌, ◌≤◌, ℕ, List, [], ◌∷◌, length, get_or, Option, None, Some, IfSome, sym, ◌∙◌, ap, arith, refl}
+use Rattle.std.proofs.Common.{◌≤◌, ℕ, List, length, Option, None, Some, IfSome, sym, ◌∙◌, ap, arith}
 use Rattle.std.specs.Prelude.{IfNone}
 use Rattle.std.proofs.lemmas.List.Splits.{join_with_byte-slice_split}
 use Rattle.ring_any.specs.declared.any.Any.{Any}
@@ -7,47 +7,12 @@ use Rattle.ring_events.specs.declared.event.Command.{Command}
 use Rattle.ring_events.specs.declared.event.Command.TheVariants as command
 use Rattle.ring_events.specs.declared.event.Event.TheVariants.{Client}
 use Rattle.ring_grammar.specs.Spelling.{Spells, line_of}
-use Rattle.ring_change.specs.Changes.{asked_change}
 use Rattle.ring_change.specs.declared.change.Change.{Change}
 use Rattle.ring_change.specs.declared.change.Change.TheVariants.{Create, Join, Leave, Start, Know}
-use Rattle.ring_change.specs.Spelling.{IsChange, SpellsChange, change_words}
+use Rattle.ring_change.specs.Spelling.{SpellsChange, change_words}
 use Rattle.ring_change.specs.private.Reading.{IsKnow, Reads, words_in}
 use Rattle.ring_change.proofs.Plain.{words_in-change}
 use Rattle.ring_change.proofs.Short.{short-change}
-
--- the first byte of a line
-abbrev first_byte : List ℕ → ℕ
-first_byte line = get_or line 0 0
-
--- a line that spells a command spells the change that it asks for
-pub asks_some : (line : List ℕ) (asks : Command Any) → Spells line (Client asks) → IfSome (asked_change asks) (SpellsChange line)
-asks_some line (command.Create group algorithm) spells = record { legal = spells.legal; same = spells.same }
-asks_some line (command.Join group node) spells = record { legal = spells.legal; same = spells.same }
-asks_some line (command.Leave group number) spells = record { legal = spells.legal; same = spells.same }
-asks_some line (command.Start group) spells = record { legal = spells.legal; same = spells.same }
-asks_some line (command.Who group number) spells = tt
-asks_some line (command.Members group) spells = tt
-asks_some line (command.Terms group) spells = tt
-asks_some line command.Groups spells = tt
-
--- the line of a question begins as that of no change
-question_alone : (first : ℕ) (line : List ℕ) (change : Change Any) → SpellsChange line change → first_byte line ≡ first → first ≢ 99 → first ≢ 106 → first ≢ 108 → first ≢ 115 → first ≢ 107 → ⊥
-question_alone first line (Create group algorithm) spells is c j l s k = c (sym is ∙ ap first_byte spells.same)
-question_alone first line (Join group node) spells is c j l s k = j (sym is ∙ ap first_byte spells.same)
-question_alone first line (Leave group number) spells is c j l s k = l (sym is ∙ ap first_byte spells.same)
-question_alone first line (Start group) spells is c j l s k = s (sym is ∙ ap first_byte spells.same)
-question_alone first line (Know group term member leader) spells is c j l s k = k (sym is ∙ ap first_byte spells.same)
-
--- a line that spells a question spells no change
-pub asks_none : (line : List ℕ) (asks : Command Any) → Spells line (Client asks) → IfNone (asked_change asks) ((change : Change Any) → ¬ (SpellsChange line change))
-asks_none line (command.Create group algorithm) spells = tt
-asks_none line (command.Join group node) spells = tt
-asks_none line (command.Leave group number) spells = tt
-asks_none line (command.Start group) spells = tt
-asks_none line (command.Who group number) spells = λ change other. question_alone 119 line change other (ap first_byte spells.same) (omega arith) (omega arith) (omega arith) (omega arith) (omega arith)
-asks_none line (command.Members group) spells = λ change other. question_alone 109 line change other (ap first_byte spells.same) (omega arith) (omega arith) (omega arith) (omega arith) (omega arith)
-asks_none line (command.Terms group) spells = λ change other. question_alone 116 line change other (ap first_byte spells.same) (omega arith) (omega arith) (omega arith) (omega arith) (omega arith)
-asks_none line command.Groups spells = λ change other. question_alone 103 line change other (ap first_byte spells.same) (omega arith) (omega arith) (omega arith) (omega arith) (omega arith)
 
 -- the line of a change is short enough for a command
 short-line : (line : List ℕ) (change : Change Any) → SpellsChange line change → length line ≤ 128

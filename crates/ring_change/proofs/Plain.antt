@@ -1,5 +1,5 @@
 -- Words in which there is no space, no LF and no zero, and the lines that they are joined to.
-use Rattle.std.proofs.Common.{◌≡◌, ◌≢◌, ◌<◌, ◌^◌, ◌&&◌, ◌++◌, ℕ, zero, suc, Bool, true, false, not, ◌==◌, List, [], ◌∷◌, get_or, ◌∙◌, ap, arith, refl, All, decimal}
+use Rattle.std.proofs.Common.{◌≡◌, ◌≢◌, ◌<◌, ◌^◌, ◌&&◌, ℕ, zero, suc, Bool, true, false, not, ◌==◌, List, [], ◌∷◌, get_or, ◌∙◌, ap, arith, refl, All, decimal}
 use Rattle.std.specs.Int.{IsInRange}
 use Rattle.std.specs.List.{list_all}
 use Rattle.std.proofs.Math.Dec.{eqb-suc-zero}
@@ -15,7 +15,7 @@ use Rattle.ring_any.specs.declared.any.Any.{Any}
 use Rattle.ring_any.specs.declared.any.Any.TheVariants.{LeLann, Chang, Hirschberg, Peterson}
 use Rattle.ring_id.specs.GroupName.{IsName, is_name_byte}
 use Rattle.ring_id.specs.Identity.{number_of, weight_of}
-use Rattle.ring_grammar.specs.Identities.{IsNode, IsNumber, node_word, weight_text}
+use Rattle.ring_grammar.specs.Identities.{IsNode, node_word, weight_text}
 use Rattle.ring_grammar.specs.Spelling.{line_of}
 use Rattle.ring_change.specs.declared.change.Change.{Change}
 use Rattle.ring_change.specs.declared.change.Change.TheVariants.{Create, Join, Leave, Start, Know}

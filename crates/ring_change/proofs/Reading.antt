@@ -1,5 +1,5 @@
 -- Words of a change by a report, read behind the words of a command.
-use Rattle.std.proofs.Common.{◌≡◌, ◌↔◌, ◌==◌, ◌<◌, ◌≤◌, ◌+◌, ◌++◌, ℕ, Bool, true, false, List, [], ◌∷◌, length, length-append, get_or, Option, None, Some, IsSome, IfSome, sym, ◌∙◌, ap, arith, refl, codes, decimal}
+use Rattle.std.proofs.Common.{◌≡◌, ◌↔◌, ◌==◌, ◌<◌, ◌+◌, ◌++◌, ℕ, true, List, [], ◌∷◌, length, get_or, Option, None, Some, IsSome, IfSome, sym, ◌∙◌, ap, arith, refl, codes, decimal}
 use Rattle.std.specs.List.{list_all}
 use Rattle.std.proofs.lemmas.Bool.{and_parts}
 use Rattle.std.proofs.lemmas.Fmt.{decimal_injective}
@@ -11,7 +11,7 @@ use Rattle.ring_events.specs.declared.event.Command.{Command}
 use Rattle.ring_events.specs.declared.event.Command.TheVariants.{Create, Join, Leave, Start, Who, Members, Terms, Groups}
 use Rattle.ring_events.specs.declared.event.Event.TheVariants.{Client}
 use Rattle.ring_grammar.specs.Identities.{IsNode, IsNumber, node_word}
-use Rattle.ring_grammar.specs.Spelling.{Spells, command_words, line_of}
+use Rattle.ring_grammar.specs.Spelling.{Spells}
 use Rattle.ring_change.specs.declared.change.Change.{Change}
 use Rattle.ring_change.specs.declared.change.Change.TheVariants as change
 use Rattle.ring_change.specs.Spelling.{change_words}

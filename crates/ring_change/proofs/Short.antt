@@ -1,5 +1,5 @@
 -- How long the lines of changes are.
-use Rattle.std.proofs.Common.{◌≡◌, ◌<◌, ◌≤◌, ◌+◌, ◌^◌, ◌++◌, ℕ, zero, suc, List, ◌∷◌, length, length-append, arith, decimal}
+use Rattle.std.proofs.Common.{◌<◌, ◌≤◌, ◌^◌, ◌++◌, ℕ, zero, suc, ◌∷◌, length, length-append, arith, decimal}
 use Rattle.std.proofs.Math.Dec.{eqb-suc-zero}
 use Rattle.std.proofs.lemmas.Fmt.{length-decimal-le}
 use Rattle.ring_any.specs.Any.{word_of}
@@ -40,5 +40,13 @@ short-change (Join g n) p = omega (arith, length-append g (32 ∷ node_word n), 
 short-change (Leave g n) p = omega (arith, length-append g (32 ∷ decimal n), p.0.short, short-number n p.1.1)
 short-change (Start g) p = omega (arith, p.short)
 short-change (Know g t m l) p =
-    omega (arith, length-append g (32 ∷ (decimal t ++ 32 ∷ (node_word m ++ 32 ∷ node_word l))), length-append (decimal t) (32 ∷ (node_word m ++ 32 ∷ node_word l)),
-    length-append (node_word m) (32 ∷ node_word l), p.0.short, short-term t p.1.1, short-node m p.2, short-node l p.3)
+    omega (
+      arith,
+      length-append g (32 ∷ (decimal t ++ 32 ∷ (node_word m ++ 32 ∷ node_word l))),
+      length-append (decimal t) (32 ∷ (node_word m ++ 32 ∷ node_word l)),
+      length-append (node_word m) (32 ∷ node_word l),
+      p.0.short,
+      short-term t p.1.1,
+      short-node m p.2,
+      short-node l p.3,
+    )

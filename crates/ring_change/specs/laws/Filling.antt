@@ -1,5 +1,5 @@
 -- That filling a line of at most so many bytes is a sink's way to take bytes.
-use Rattle.std.specs.Prelude.{◌≡◌, ◌≤◌, ◌<◌, ◌+◌, ℕ, List, ◌++◌, length, refl}
+use Rattle.std.specs.Prelude.{◌≡◌, ◌<◌, ◌+◌, ℕ, List, ◌++◌, length, refl}
 use Rattle.std.proofs.Common.{arith, length-append}
 use Rattle.ring_grammar.specs.Appending.{Appends, AppendsFront}
 use Rattle.ring_grammar.specs.Sinks.{IsSequence}

@@ -1,4 +1,4 @@
-use Rattle.ring_change.proofs.Parsing.{asks_none, asks_some, knows_none, knows_some}
+use Rattle.ring_change.proofs.Parsing.{knows_none, knows_some}
 use Rattle.ring_change.proofs.parse.parse_change.Goals as goal
 
 pub returns-in-None-clause-some : goal.returns-in-None-clause-some

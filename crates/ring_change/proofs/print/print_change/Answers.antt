@@ -1,5 +1,5 @@
 -- The line is its verb and the name of its group, and then the rest.
-use Rattle.std.proofs.Common.{◌++◌, subst}
+use Rattle.std.proofs.Common.{subst}
 use Rattle.std.proofs.lemmas.Result.{on_err_weaker, on_ok_weaker}
 use Rattle.ring_change.specs.private.Parts.{rest_text}
 use Rattle.ring_change.proofs.Putting.{on_err_anyway}

@@ -1,4 +1,4 @@
-use Rattle.std.specs.Prelude.{◌++◌, ◌∷◌}
+use Rattle.std.specs.Prelude.{◌∷◌}
 use Rattle.std.proofs.lemmas.Result.{on_err_weaker, on_ok_weaker}
 use Rattle.ring_grammar.specs.Identities.{node_word}
 use Rattle.ring_change.proofs.Putting.{on_err_anyway}
