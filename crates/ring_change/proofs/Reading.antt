@@ -1,4 +1,4 @@
--- Words of a change by a report, read behind the words of a command.
+-- Words of a change by a report, each read as the last word of a command.
 use Rattle.std.proofs.Common.{◌≡◌, ◌↔◌, ◌==◌, ◌<◌, ◌+◌, ◌++◌, ℕ, true, List, [], ◌∷◌, length, get_or, Option, None, Some, IsSome, IfSome, sym, ◌∙◌, ap, arith, refl, codes, decimal}
 use Rattle.std.specs.List.{list_all}
 use Rattle.std.proofs.lemmas.Bool.{and_parts}
@@ -22,7 +22,7 @@ use Rattle.ring_change.proofs.Short.{short-node, short-number}
 a_name : IsName (codes "a")
 a_name = record { some = omega arith; short = omega arith; each = refl }
 
--- a name before a space, where one byte stands before the first
+-- a name before a space is one byte if one byte is before the first space
 one_byte : (word name rest : List ℕ) → IsName name → 97 ∷ 32 ∷ word ≡ name ++ 32 ∷ rest → word ≡ rest
 one_byte word [] rest legal same = absurd (omega (arith, legal.some))
 one_byte word (b ∷ []) rest legal same = cc
@@ -58,7 +58,7 @@ reads_joined word (Members group) spells = absurd (omega (arith, ap first_byte s
 reads_joined word (Terms group) spells = absurd (omega (arith, ap first_byte spells.same))
 reads_joined word Groups spells = absurd (omega (arith, ap first_byte spells.same))
 
--- a word behind which no command is spelled, or which is too long for one, is no number
+-- a word with which no command is spelled, or which is too long for one, is no number
 pub unread_left : (line word : List ℕ) → line ≡ codes "leave a " ++ word → ((asks : Command Any) → ¬ (Spells line (Client asks))) → Reads decimal IsNumber word None
 unread_left line word is none = λ number legal same.
     none (Leave (codes "a") number) (record { short = omega (arith, ap length is, ap length same, short-number number legal.1); legal = (a_name, legal); same = rw (is, same) refl })
@@ -90,7 +90,7 @@ term_long word n reads long = λ a legal printed.
     let is : n ≡ a = decimal_injective n a (omega (arith, reads.0.1)) (omega (arith, legal.1)) (sym reads.1 ∙ printed) in
     absurd (long (omega (arith, is, legal.1)))
 
--- a text has one word more than what stands behind its first
+-- a text has one word more than the text after its first word
 one_word_more : (text first rest : List ℕ) → words_in text ≡ first ∷ words_in rest → length (words_in text) ≡ length (words_in rest) + 1
 one_word_more text first rest cut = rw cut (omega arith)
 

@@ -1,5 +1,5 @@
--- Changes: what commands and reports did. A question, a refusal and a report that was known or stale
--- change nothing.
+-- The changes that commands and reports make. A question, a refusal and a report that was known or
+-- stale change nothing.
 use Rattle.std.specs.Prelude.{ℕ, Bool, true, false, List, Option, Some, None}
 use Rattle.ring_events.specs.declared.event.Command.{Command}
 use Rattle.ring_events.specs.declared.event.Command.TheVariants.{Create, Join, Leave, Start, Who, Members, Terms, Groups}
@@ -31,11 +31,11 @@ abbrev pub unless : {A : Type 0} → Bool → Option A → Option A
 unless true x = None
 unless false x = x
 
--- the change that a command made which got this reply
+-- the change that a command with this reply made
 abbrev pub change_by : {E : Type 0} → Command E → Reply → Option (Change E)
 change_by command reply = unless (is_refused reply) (asked_change command)
 
--- the change that a report made of which this became
+-- the change that a report made which was filed so
 abbrev pub noted_change : {E : Type 0} → List ℕ → ℕ → ℕ → ℕ → Noting → Option (Change E)
 noted_change group term member leader Noted = Some (change.Know group term member leader)
 noted_change group term member leader Known = None

@@ -3,7 +3,7 @@
 use Rattle.std.specs.Prelude.{◌+◌, ◌-◌, ◌/◌, ◌%◌, ◌++◌, ℕ, List, [], ◌∷◌, fold, slice_index, if◌then◌else◌, nat_lt, codes}
 use Rattle.std.specs.Int.Bits.{bit_xor}
 
--- what four bits do to a check
+-- the effect of four bits on a check
 abbrev pub check_table : List ℕ
 check_table =
     0 ∷ 498536548 ∷ 997073096 ∷ 651767980 ∷ 1994146192 ∷ 1802195444 ∷ 1303535960 ∷ 1342533948 ∷

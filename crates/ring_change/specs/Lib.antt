@@ -1,5 +1,6 @@
 pub mod Changes
 pub mod Checks
+pub mod Filling
 pub mod Lines
 pub mod Spelling
 pub mod laws

@@ -1,11 +1,11 @@
--- The lines of a journal: a change, and the mark of the check behind it.
+-- The lines of a journal: a change, and the mark of the check after it.
 use Rattle.std.specs.Prelude.{◌≡◌, ◌≢◌, ◌≤◌, ◌++◌, ℕ, List, All, length}
 use Rattle.ring_any.specs.declared.any.Any.{Any}
 use Rattle.ring_change.specs.declared.change.Change.{Change}
 use Rattle.ring_change.specs.Checks.{check_after, check_mark}
 use Rattle.ring_change.specs.Spelling.{IsChange, change_line}
 
--- the check behind a change
+-- the check after a change
 abbrev pub check_behind : ℕ → Change Any → ℕ
 check_behind check change = check_after check (change_line change)
 

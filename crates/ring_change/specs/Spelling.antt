@@ -1,4 +1,4 @@
--- Changes as lines: each has one spelling. What a command changed is spelled as that command.
+-- Changes as lines: each has one spelling. A change by a command is spelled as that command.
 use Rattle.std.specs.Prelude.{◌≡◌, ℕ, List, [], ◌∷◌, codes, decimal}
 use Rattle.ring_any.specs.declared.any.Any.{Any}
 use Rattle.ring_id.specs.GroupName.{IsName}

@@ -7,7 +7,7 @@ use ring_id::{GroupName, NodeId, NodeNo, TermNo};
 use ring_node::Report;
 use ring_terms::Noting;
 
-/// What a command or a report changed.
+/// A change that a command or a report made.
 #[derive(Clone, Copy, Debug)]
 pub enum Change<E> {
     /// A group was created, which elects by this algorithm.
@@ -27,7 +27,7 @@ pub enum Change<E> {
     },
 }
 
-/// Returns the change that a command made which got this reply.
+/// Returns the change that a command with this reply made.
 ///
 /// Returns `None` if the reply is a refusal, or if the command is a question. Does not allocate.
 pub fn change_of<E: Copy>(command: &Command<E>, reply: &Reply) -> Option<Change<E>>

@@ -3,7 +3,7 @@ ghost use Rattle.ring_change.specs.Checks.{check_after, check_byte, check_half, 
 
 use std::marker::Model;
 
-/// What four bits do to a check: the table of the polynomial 0xedb88320.
+/// The effect of four bits on a check, for the polynomial 0xedb88320.
 const TABLE: [u32; 16] = [
     0,
     0x1db7_1064,
@@ -49,7 +49,7 @@ impl Check {
         Check { rest: u32::MAX }
     }
 
-    /// Returns this check with these bytes behind those that it has seen.
+    /// Returns the check of the bytes so far and then these.
     pub fn after(self, bytes: &[u8]) -> Check
         ensures { result ≡ check_after self bytes.now }
     {

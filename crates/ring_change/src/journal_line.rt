@@ -2,7 +2,7 @@ ghost use Rattle.std.specs.Prelude.{◌≡◌, ◌≤◌, ◌++◌, length, IfNo
 ghost use Rattle.ring_any.specs.declared.any.Any.{Any};
 ghost use Rattle.ring_change.specs.declared.change.Change.{Change};
 ghost use Rattle.ring_change.specs.Checks.{check_mark};
-ghost use Rattle.ring_change.specs.Lines.{IsMarked, check_behind, marked_line};
+ghost use Rattle.ring_change.specs.Lines.{IsMarked, IsOneLine, check_behind, marked_line};
 ghost use Rattle.ring_change.specs.Spelling.{IsChange, change_line};
 
 use crate::change::Change;
@@ -18,9 +18,10 @@ const MARK: usize = 10;
 
 /// Returns the line of a change in a journal: the change, ` #` and the eight digits of the check.
 ///
-/// The check then is the one behind this line. Cannot fail, and does not allocate.
+/// Leaves the check after this line in `check`. Cannot fail, and does not allocate.
 pub fn spell_line(change: &Change<Any>, check: &mut Check) -> Line
     ensures line { result ≡ marked_line check.old change.now }
+    ensures whole { IsOneLine result }
     ensures check { check.new ≡ check_behind check.old change.now }
     ensures legal { IsChange change.now }
 {
@@ -31,7 +32,7 @@ pub fn spell_line(change: &Change<Any>, check: &mut Check) -> Line
 
 /// Puts the line that `spell_line` returns.
 ///
-/// At `Err` a front of it was put. The check then is the one behind this line in either case.
+/// At `Err` a prefix of it was put. Leaves the check after this line in `check` in either case.
 /// Does not allocate.
 pub fn print_line<S: Sink>(
     change: &Change<Any>,
@@ -48,8 +49,8 @@ pub fn print_line<S: Sink>(
 
 /// Returns the change of a line in a journal, which is given without its LF.
 ///
-/// The check then is the one behind this line. Returns `None`, and keeps the check, exactly if no
-/// change has this line behind that check. Does not allocate.
+/// Leaves the check after this line in `check`. Returns `None`, and leaves `check` as it was, exactly
+/// if no change has this line after that check. Does not allocate.
 pub fn read_line(line: &[u8], check: &mut Check) -> Option<Change<Any>>
     ensures some { IfSome result (λ change. IsMarked check.old line.now change check.new) }
     ensures none { IfNone result ((change : Change Any) → IsChange change → line.now ≡ marked_line check.old change → ⊥) }

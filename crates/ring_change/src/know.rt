@@ -47,7 +47,7 @@ fn know_of_five(
     })
 }
 
-// What stands before the first space, and what follows it.
+// The text before the first space, and the text after it.
 fn cut(text: &[u8]) -> Option<(&[u8], &[u8])>
     ensures some { IfSome result (λ cut. words_in text.now ≡ cut.0.now ∷ words_in cut.1.now) }
     ensures none { IfNone result (words_in text.now ≡ text.now ∷ []) }
@@ -115,7 +115,7 @@ fn joined(command: Command<Any>) -> Option<NodeId>
     }
 }
 
-// A word behind the words of a command; none if they are longer than a line.
+// The words of a command and then a word; `None` if they are longer than a line.
 fn behind(words: &[u8], word: &[u8]) -> Option<Line>
     ensures some { IfSome result (λ line. line ≡ words.now ++ word.now) }
     ensures none { IfNone result (70 < length words.now + length word.now) }

@@ -45,7 +45,8 @@ impl Line {
 /// Bytes are appended. It fails only if the line would be too long, and then nothing is appended.
 impl Sink for Line {
     ghost use Rattle.ring_grammar.specs.Appending.{Appends};
-    ghost use Rattle.ring_change.specs.laws.Filling.{Overfills, fills_in_sequence};
+    ghost use Rattle.ring_change.specs.Filling.{Overfills};
+    ghost use Rattle.ring_change.specs.laws.Filling.{fills_in_sequence};
 
     ghost takes = { λ a bytes b. Appends a bytes b };
 

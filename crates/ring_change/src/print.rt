@@ -11,7 +11,7 @@ use ring_id::{GroupName, NodeId, TermNo};
 
 /// Puts the line of a change: its one spelling, without an LF.
 ///
-/// At `Err` a front of it was put. Does not allocate.
+/// At `Err` a prefix of it was put. Does not allocate.
 pub fn print_change<S: Sink>(change: &Change<Any>, out: &mut S) -> Result<(), SinkFailed>
     ensures ok { OnOk result (S.takes out.old (change_line change.now) out.new) }
     ensures err { OnErr result (S.takes_front out.old (change_line change.now) out.new) }
@@ -22,7 +22,7 @@ pub fn print_change<S: Sink>(change: &Change<Any>, out: &mut S) -> Result<(), Si
     put_rest(change, out)
 }
 
-// What the types of a change keep. It does nothing when it runs.
+// The types of a change keep that it is legal. The call does nothing when it runs.
 fn legal(change: &Change<Any>)
     ensures { IsChange change.now }
 {
@@ -77,7 +77,7 @@ fn group(change: &Change<Any>) -> GroupName
     }
 }
 
-// What follows the name of the group.
+// The text after the name of the group.
 fn put_rest<S: Sink>(change: &Change<Any>, out: &mut S) -> Result<(), SinkFailed>
     ensures ok { OnOk result (S.takes out.old (rest_text change.now) out.new) }
     ensures err { OnErr result (S.takes_front out.old (rest_text change.now) out.new) }

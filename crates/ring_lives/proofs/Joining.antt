@@ -1,4 +1,4 @@
--- Lives are joined where one ends and the next begins: the same changes, so the same object.
+-- A life ends and the next begins with the same changes, so with the same object.
 use Rattle.std.proofs.Common.{◌≡◌, ℕ, Bool, List, [], ◌∷◌, ◌++◌, length, take, drop, refl, ap, sym, ◌∙◌, subst, append_assoc, append-nil}
 use Rattle.std.proofs.lemmas.List.{take-append-drop}
 use Rattle.ring_terms.specs.Object.{Object}
@@ -6,10 +6,11 @@ use Rattle.ring_table.specs.Histories.{Follows, IsEntry, IsLegal}
 use Rattle.ring_table.specs.declared.entry.Entry.{Entry}
 use Rattle.ring_change.specs.declared.change.Change.{Change}
 use Rattle.ring_lives.specs.Changes.{changes_of}
-use Rattle.ring_lives.specs.Lives.{AreOneRun, Life, Succeed, all_kept, kept}
+use Rattle.ring_lives.specs.Lives.{AreOneRun, Life, Succeed, TellOneLeader, all_kept, kept}
 use Rattle.ring_lives.specs.Replays.{Replays}
 use Rattle.ring_lives.proofs.Replaying.{follows_replays, replays_exact}
-use Rattle.ring_lives.proofs.Telling.{begin_with_all, told_in}
+use Rattle.ring_lives.proofs.Telling.{begin_with_all, told_in, told_kept}
+use Rattle.ring_lives.proofs.Leading.{legal_names_one}
 
 module _ {E : Type 0} (two_way greatest : E → Bool) where
   -- a history in two parts
@@ -49,3 +50,10 @@ module _ {E : Type 0} (two_way greatest : E → Bool) where
   one_run lives succeed =
       let run = go_on lives [] [] refl succeed in
       record { book = run.0; legal = run.1; told = told_in two_way greatest lives [] [] succeed; begun = begin_with_all two_way greatest lives [] [] refl succeed }
+
+  -- and clients got one leader of a term
+  pub told_one_leader : TellOneLeader two_way greatest
+  told_one_leader lives succeed group term a b first second i j names_a names_b =
+      let run = go_on lives [] [] refl succeed in
+      legal_names_one two_way greatest (all_kept lives) run.0 run.1 group term a b first second
+      (told_kept two_way greatest lives [] first succeed i) (told_kept two_way greatest lives [] second succeed j) names_a names_b

@@ -1,3 +1,4 @@
 mod Joining
+mod Leading
 mod Replaying
 mod Telling

@@ -1,4 +1,4 @@
--- A history does what its changes do, and the same changes lead to the same object.
+-- A history has the effect of its changes, and the same changes lead to the same object.
 use Rattle.std.proofs.Common.{◌≡◌, ◌-◌, ℕ, Bool, true, false, List, [], ◌∷◌, ◌++◌, length, Option, Some, None, slice_get, refl, ap, sym, ◌∙◌, subst}
 use Rattle.std.proofs.lemmas.Bool.{true≢false, false≢true}
 use Rattle.std.proofs.lemmas.Option.{same_Some}
@@ -26,7 +26,7 @@ use Rattle.ring_lives.specs.Replays.{AreExact, Does, HaveTheirEffect, Replays}
 abbrev pub IsExact : {S : Type 0} → (S → S → Type 0) → Type 0
 IsExact {S} does = (old a b : S) → does old a → does old b → a ≡ b
 
--- so does what happens to a group, to its last term, and to a member of it
+-- a relation on a group, on its last term or on a member is exact if the inner one is
 in_group_exact : {E : Type 0} (name : List ℕ) (does : GroupView E → GroupView E → Type 0) → IsExact does → IsExact (InGroup name does)
 in_group_exact {E} name does exact old a b f g =
     let before : f.before ≡ g.before = same_Some f.before g.before (sym f.found ∙ g.found) in
@@ -97,7 +97,7 @@ refused_same first grows old new reply.Idle does is says = absurd (false≢true 
 refused_same first grows old new (reply.Pending left) does is says = absurd (false≢true is)
 refused_same first grows old new (reply.Drained done left starved) does is says = absurd (false≢true is)
 
--- any other reply does what the command does
+-- with any other reply the command has its effect
 other_does : {S : Type 0} (first : Option Refusal) (grows : Bool) (old new : S) (answer : Reply) (does : Reply → Type 0) → is_refused answer ≡ false → Replies first grows old answer new does → does answer
 other_does first grows old new (reply.Refused refusal) does is says = absurd (true≢false is)
 other_does first grows old new reply.Done does is says = says.1
@@ -112,8 +112,8 @@ other_does first grows old new reply.Idle does is says = says.1
 other_does first grows old new (reply.Pending left) does is says = says.1
 other_does first grows old new (reply.Drained done left starved) does is says = says.1
 
--- what an entry does is what its change does, and nothing where it has none
-DoesSome : {E : Type 0} → (E → Bool) → Object E → Option (Change E) → Object E → Type 0
+-- the effect of an entry is that of its change, and none if it has none
+unfoldable pub DoesSome : {E : Type 0} → (E → Bool) → Object E → Option (Change E) → Object E → Type 0
 DoesSome greatest old None new = new ≡ old
 DoesSome greatest old (Some one) new = Does greatest old one new
 
@@ -137,7 +137,8 @@ call_does two_way greatest session (Members group) answer old new false is step 
 call_does two_way greatest session (Terms group) answer old new false is step = rw is (other_does _ _ old new answer _ is step).0
 call_does two_way greatest session Groups answer old new false is step = rw is (other_does _ _ old new answer _ is step).0
 
-entry_does : {E : Type 0} (two_way greatest : E → Bool) (entry : Entry E) (old new : Object E) → IsEntry two_way greatest old entry new → DoesSome greatest old (change_in entry) new
+-- an entry has the effect of its change
+pub entry_does : {E : Type 0} (two_way greatest : E → Bool) (entry : Entry E) (old new : Object E) → IsEntry two_way greatest old entry new → DoesSome greatest old (change_in entry) new
 unfolding DoesSome
 entry_does two_way greatest (Call session command answer) old new is = call_does two_way greatest session command answer old new (is_refused answer) refl is.step
 entry_does two_way greatest (Filing group term member leader Noted) old new is = is

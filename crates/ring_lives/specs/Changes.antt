@@ -1,4 +1,4 @@
--- The changes of a history: what a journal keeps of it.
+-- The changes of a history, which a journal keeps.
 use Rattle.std.specs.Prelude.{List, [], ◌∷◌, Option, Some, None}
 use Rattle.ring_change.specs.Changes.{change_by, noted_change}
 use Rattle.ring_change.specs.declared.change.Change.{Change}

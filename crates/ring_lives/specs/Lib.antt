@@ -1,3 +1,4 @@
 pub mod Changes
+pub mod Leaders
 pub mod Lives
 pub mod Replays

@@ -1,23 +1,24 @@
--- Lives of a service, one after another, each of which begins with what the crash of the one before left.
+-- Lives of a service, one after another. Each begins with the changes that the last crash left.
 use Rattle.std.specs.Prelude.{◌≡◌, ◌≤◌, ◌<◌, ◌+◌, ℕ, Bool, List, [], ◌∷◌, ◌++◌, Some, length, take, slice_get}
 use Rattle.ring_terms.specs.Object.{Object}
 use Rattle.ring_table.specs.Histories.{IsLegal}
 use Rattle.ring_table.specs.declared.entry.Entry.{Entry}
 use Rattle.ring_lives.specs.Changes.{changes_of}
+use Rattle.ring_lives.specs.Leaders.{NameOneLeader}
 
 -- a life: the entries that its table had when it was opened, those that it got, how many of these the crash
--- left, and how many of these its clients were told
+-- left, and how many of these have replies that clients got
 pub record Life (E : Type 0) : Type 0 where
   pub opening : List (Entry E)
   pub log : List (Entry E)
   pub left : ℕ
   pub told : ℕ
 
--- all that it was asked, as far as the crash left it
+-- the entries that it got and that the crash left
 abbrev pub kept : {E : Type 0} → Life E → List (Entry E)
 kept life = take life.left life.log
 
--- the entries that its clients were told are in this history, behind this many others
+-- its entries whose replies clients got are in this history, after `offset` others
 abbrev pub IsToldIn : {E : Type 0} → List (Entry E) → ℕ → Life E → Type 0
 IsToldIn {E} history offset life = (place : ℕ) (entry : Entry E) → place < life.told → slice_get life.log place ≡ Some entry → slice_get history (offset + place) ≡ Some entry
 
@@ -26,18 +27,23 @@ abbrev pub AreToldIn : {E : Type 0} → List (Entry E) → ℕ → List (Life E)
 AreToldIn history offset [] = Unit {0}
 AreToldIn history offset (life ∷ lives) = IsToldIn history offset life × AreToldIn history (offset + length (kept life)) lives
 
--- all that was asked in these lives, as far as the crashes left it, in order
+-- the entries that these lives got and that the crashes left, in order
 abbrev pub all_kept : {E : Type 0} → List (Life E) → List (Entry E)
 all_kept [] = []
 all_kept (life ∷ lives) = kept life ++ all_kept lives
 
--- each life begins with the changes of all that was left before it
+-- all entries of these lives whose replies clients got
+abbrev pub all_told : {E : Type 0} → List (Life E) → List (Entry E)
+all_told [] = []
+all_told (life ∷ lives) = take life.told life.log ++ all_told lives
+
+-- each life begins with the changes of all entries that are left of earlier lives
 abbrev pub BeginWithAll : {E : Type 0} → List (Entry E) → List (Life E) → Type 0
 BeginWithAll before [] = Unit {0}
 BeginWithAll before (life ∷ lives) = (changes_of life.opening ≡ changes_of before) × BeginWithAll (before ++ kept life) lives
 
 module _ {E : Type 0} (two_way greatest : E → Bool) where
-  -- A life's table is legal, and the crash left each entry that a client was told.
+  -- A life's table is legal, and the crash left each entry whose reply a client got.
   pub record IsLife (life : Life E) : Type 0 where
     pub book : Object E
     pub legal : IsLegal two_way greatest (life.opening ++ life.log) book
@@ -48,8 +54,8 @@ module _ {E : Type 0} (two_way greatest : E → Bool) where
   Succeed before [] = Unit {0}
   Succeed before (life ∷ lives) = IsLife life × (changes_of life.opening ≡ changes_of before) × Succeed (life.opening ++ kept life) lives
 
-  -- These lives are one legal history, which has each entry that a client was told, and each life begins
-  -- with the changes of all that was left before it.
+  -- These lives are one legal history. It has each entry whose reply a client got, and each life begins with
+  -- the changes of all entries before it.
   pub record IsOneRun (lives : List (Life E)) : Type 0 where
     pub book : Object E
     pub legal : IsLegal two_way greatest (all_kept lives) book
@@ -59,3 +65,7 @@ module _ {E : Type 0} (two_way greatest : E → Bool) where
   -- All lives from the first one on are one run.
   abbrev pub AreOneRun : Type 0
   AreOneRun = (lives : List (Life E)) → Succeed [] lives → IsOneRun lives
+
+  -- No two clients got different leaders of one term, in all lives from the first one on.
+  abbrev pub TellOneLeader : Type 0
+  TellOneLeader = (lives : List (Life E)) → Succeed [] lives → NameOneLeader (all_told lives)

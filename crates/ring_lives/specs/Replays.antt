@@ -1,4 +1,4 @@
--- What changes do to the groups, and that a history does what its changes do.
+-- The effect of changes on the groups, and that a history has the effect of its changes.
 use Rattle.std.specs.Prelude.{◌≡◌, ℕ, Bool, List, [], ◌∷◌}
 use Rattle.ring_id.specs.Identity.{number_of}
 use Rattle.ring_terms.specs.Commands.{Creates, Joins, Leaves, Starts}
@@ -10,7 +10,7 @@ use Rattle.ring_change.specs.declared.change.Change.TheVariants.{Create, Join, L
 use Rattle.ring_lives.specs.Changes.{changes_of}
 
 module _ {E : Type 0} (greatest : E → Bool) where
-  -- what a change does
+  -- the effect of a change
   abbrev pub Does : Object E → Change E → Object E → Type 0
   Does old (Create group algorithm) new = Creates group algorithm old new
   Does old (Join group node) new = InGroup group (Joins node) old new
@@ -27,6 +27,6 @@ module _ {E : Type 0} (greatest : E → Bool) where
   abbrev pub AreExact : Type 0
   AreExact = (changes : List (Change E)) (old a b : Object E) → Replays old changes a → Replays old changes b → a ≡ b
 
--- entries that follow one another do what their changes do
+-- entries that follow one another have the effect of their changes
 abbrev pub HaveTheirEffect : {E : Type 0} → (E → Bool) → (E → Bool) → Type 0
 HaveTheirEffect {E} two_way greatest = (entries : List (Entry E)) (old new : Object E) → Follows two_way greatest old entries new → Replays greatest old (changes_of entries) new

@@ -1,5 +1,5 @@
-//! Lives of a service: it is started again from what the last crash left of its changes, and all its
-//! lives together are one legal history.
+//! Lives of a service: it is started again from the changes that the last crash left, and all its lives
+//! together are one legal history.
 //!
 //! Each call does nothing. The law is its contract.
 #![tactic(auto)]
@@ -7,5 +7,5 @@
 mod lives;
 mod replay;
 
-pub use lives::all_lives;
+pub use lives::{all_lives, one_leader};
 pub use replay::{follows_replays, replays_exact};

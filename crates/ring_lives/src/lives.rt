@@ -1,12 +1,17 @@
-ghost use Rattle.ring_lives.specs.Lives.{AreOneRun};
+ghost use Rattle.ring_lives.specs.Lives.{AreOneRun, TellOneLeader};
 
 use ring_election::RingElection;
 
-/// All lives of a service are one legal history, however often it is started again: all that was
-/// asked in them, as far as the crashes left it, is one run of the election object.
+/// All lives of a service are one legal history, however often it is started again. The entries that the
+/// crashes left are one run of the election object.
 ///
-/// Each entry that a client was told is in that history, at its place behind those of the lives before.
-/// Each life begins with the changes of all that was left of the lives before it.
+/// Each entry whose reply a client got is in that history, at its place after the entries of earlier
+/// lives. Each life begins with the changes of all entries that are left of earlier lives.
 pub fn all_lives<E: RingElection>()
     ensures { AreOneRun E.is_two_way E.is_greatest }
+{}
+
+/// No two clients get different leaders of the same term of a group, in all lives of a service.
+pub fn one_leader<E: RingElection>()
+    ensures { TellOneLeader E.is_two_way E.is_greatest }
 {}

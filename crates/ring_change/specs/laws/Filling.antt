@@ -1,14 +1,10 @@
--- That filling a line of at most so many bytes is a sink's way to take bytes.
-use Rattle.std.specs.Prelude.{◌≡◌, ◌<◌, ◌+◌, ℕ, List, ◌++◌, length, refl}
+-- Filling a line of at most 70 bytes is a sink's way to take bytes.
+use Rattle.std.specs.Prelude.{◌≡◌, ℕ, List, ◌++◌, length, refl}
 use Rattle.std.proofs.Common.{arith, length-append}
-use Rattle.ring_grammar.specs.Appending.{Appends, AppendsFront}
+use Rattle.ring_grammar.specs.Appending.{Appends}
 use Rattle.ring_grammar.specs.Sinks.{IsSequence}
 use Rattle.ring_grammar.specs.laws.Appending.{appends_in_sequence}
-
--- A front of a text was appended to a line, and the whole text would not fit.
-pub record Overfills (old text new : List ℕ) : Type 0 where
-  pub appended : AppendsFront old text new
-  pub long : 70 < length old + length text
+use Rattle.ring_change.specs.Filling.{Overfills}
 
 -- filling is putting one piece after another
 pub fills_in_sequence : {S : Type 0} (bytes_of : S → List ℕ) → IsSequence (λ a text b. Appends (bytes_of a) text (bytes_of b)) (λ a text b. Overfills (bytes_of a) text (bytes_of b))

@@ -26,7 +26,7 @@ group_in (Know group term member leader) = group
 abbrev pub known_text : ℕ → ℕ → ℕ → List ℕ
 known_text term member leader = (32 ∷ decimal term) ++ ((32 ∷ node_word member) ++ (32 ∷ node_word leader))
 
--- what follows the name: a space and each further word
+-- the text after the name: a space and each further word
 abbrev pub rest_text : Change Any → List ℕ
 rest_text (Create group algorithm) = 32 ∷ word_of algorithm
 rest_text (Join group node) = 32 ∷ node_word node
