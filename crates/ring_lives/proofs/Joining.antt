@@ -1,8 +1,8 @@
 -- A life ends and the next begins with the same changes, so with the same object.
-use Rattle.std.proofs.Common.{◌≡◌, ℕ, Bool, List, [], ◌∷◌, ◌++◌, length, take, drop, refl, ap, sym, ◌∙◌, subst, append_assoc, append-nil}
+use Rattle.std.proofs.Common.{◌≡◌, Bool, List, [], ◌∷◌, ◌++◌, drop, refl, ap, sym, ◌∙◌, subst, append_assoc}
 use Rattle.std.proofs.lemmas.List.{take-append-drop}
 use Rattle.ring_terms.specs.Object.{Object}
-use Rattle.ring_table.specs.Histories.{Follows, IsEntry, IsLegal}
+use Rattle.ring_table.specs.Histories.{Follows, IsLegal}
 use Rattle.ring_table.specs.declared.entry.Entry.{Entry}
 use Rattle.ring_change.specs.declared.change.Change.{Change}
 use Rattle.ring_lives.specs.Changes.{changes_of}
@@ -35,13 +35,13 @@ module _ {E : Type 0} (two_way greatest : E → Bool) where
   go_on [] before at legal succeed = (at, refl)
   go_on (life ∷ lives) before at legal succeed =
       let whole : life.opening ++ life.log ≡ (life.opening ++ kept life) ++ drop life.left life.log =
-          ap (λ (l : List (Entry E)). life.opening ++ l) (sym (take-append-drop life.left life.log)) ∙ sym (append_assoc life.opening (kept life) (drop life.left life.log)) in
+      ap (λ (l : List (Entry E)). life.opening ++ l) (sym (take-append-drop life.left life.log)) ∙ sym (append_assoc life.opening (kept life) (drop life.left life.log)) in
       let cut = parted (life.opening ++ kept life) (drop life.left life.log) [] succeed.0.book (subst (λ (l : List (Entry E)). Follows two_way greatest [] l succeed.0.book) whole succeed.0.legal) in
       let opened = parted life.opening (kept life) [] cut.mid cut.before in
       let same : opened.mid ≡ at =
-          replays_exact greatest (changes_of before) [] opened.mid at
-          (subst (λ (c : List (Change E)). Replays greatest [] c opened.mid) succeed.1 (follows_replays two_way greatest life.opening [] opened.mid opened.before))
-          (follows_replays two_way greatest before [] at legal) in
+      replays_exact greatest (changes_of before) [] opened.mid at
+      (subst (λ (c : List (Change E)). Replays greatest [] c opened.mid) succeed.1 (follows_replays two_way greatest life.opening [] opened.mid opened.before))
+      (follows_replays two_way greatest before [] at legal) in
       let rest = go_on lives (life.opening ++ kept life) cut.mid cut.before succeed.2 in
       (rest.0, joined (kept life) (all_kept lives) at cut.mid rest.0 (subst (λ (m : Object E). Follows two_way greatest m (kept life) cut.mid) same opened.after) rest.1)
 

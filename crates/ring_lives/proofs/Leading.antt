@@ -1,33 +1,25 @@
 -- A term keeps its leader in a history, so no two replies of it name different ones.
-use Rattle.std.proofs.Common.{◌≡◌, ◌≢◌, ◌≤◌, ◌<◌, ◌+◌, ◌-◌, ◌⊎◌, ℕ, zero, suc, Bool, true, false, cond, List, [], ◌∷◌, ◌++◌, Option, Some, None, length, map, slice_get, slice_set, refl, ap, sym, ◌∙◌, subst, arith, inl, inr}
-use Rattle.std.specs.Map.{lookup}
+use Rattle.std.proofs.Common.{◌≡◌, ◌+◌, ◌-◌, ℕ, zero, suc, Bool, true, false, cond, List, [], ◌∷◌, ◌++◌, Option, Some, None, length, slice_get, slice_set, refl, ap, sym, ◌∙◌, subst, arith, inl, inr}
 use Rattle.std.specs.Option.{option_map}
 use Rattle.std.specs.Str.{bytes_eq}
-use Rattle.std.proofs.lemmas.Bool.{true≢false, false≢true}
 use Rattle.std.proofs.lemmas.Option.{same_Some, slice_get_within, slice_get-map}
 use Rattle.ring_id.specs.Identity.{number_of}
-use Rattle.ring_id.specs.declared.refusal.Refusal.{Refusal}
 use Rattle.ring_election.proofs.Members.{slice_get-append_left}
-use Rattle.ring_events.specs.declared.event.Command.{Command}
-use Rattle.ring_events.specs.declared.event.Command.TheVariants.{Create, Join, Leave, Start, Who, Members, Terms, Groups}
-use Rattle.ring_events.specs.declared.reply.Reply.{Reply}
+use Rattle.ring_events.specs.declared.event.Command.TheVariants.{Who, Terms}
 use Rattle.ring_events.specs.declared.reply.Reply.TheVariants as reply
-use Rattle.ring_terms.specs.Commands.{Creates, Joins, Leaves, Starts}
-use Rattle.ring_terms.specs.Moves.{Informs, InformsIn, LeadsAfter, inform}
-use Rattle.ring_terms.specs.Object.{GroupView, InGroup, InLast, Object, OfGroup, TermView, find, last_term, leaders, with_group, with_last}
+use Rattle.ring_terms.specs.Commands.{Joins, Leaves, Starts}
+use Rattle.ring_terms.specs.Moves.{LeadsAfter}
+use Rattle.ring_terms.specs.Object.{GroupView, InGroup, Object, TermView, find, leaders}
 use Rattle.ring_terms.specs.Standings.{Tells}
 use Rattle.ring_terms.specs.Steps.{StepOf, standing_reply}
-use Rattle.ring_terms.specs.declared.standing.Noting.TheVariants.{Noted, Known, Stale}
 use Rattle.ring_terms.specs.declared.standing.Standing.{Standing}
 use Rattle.ring_terms.specs.declared.standing.Standing.TheVariants as standing
 use Rattle.ring_terms.proofs.Objects.{find-with_group, same_name, set_elsewhere, set_here}
 use Rattle.ring_world.proofs.Links.{same_or_not}
 use Rattle.ring_table.specs.Histories.{Follows, InformsOf, IsEntry, IsLegal}
 use Rattle.ring_table.specs.declared.entry.Entry.{Entry}
-use Rattle.ring_table.specs.declared.entry.Entry.TheVariants.{Call, Filing}
-use Rattle.ring_lives.specs.Leaders.{IsAnswer, IsIn, IsListed, NameOneLeader, Names}
+use Rattle.ring_lives.specs.Leaders.{NameOneLeader, Names}
 use Rattle.ring_lives.specs.Replays.{Does}
-use Rattle.ring_change.specs.Changes.{is_refused}
 use Rattle.ring_change.specs.declared.change.Change.{Change}
 use Rattle.ring_change.specs.declared.change.Change.TheVariants as change
 use Rattle.ring_lives.specs.Changes.{change_in}
@@ -65,7 +57,7 @@ in_group_leads : {E : Type 0} (name : List ℕ) (does : GroupView E → GroupVie
     → (old new : Object E) → InGroup name does old new → (group : List ℕ) (place leader : ℕ) → Leads group place leader old → Leads group place leader new
 in_group_leads {E} name does keeps old new inside group place leader leads =
     let after : find group new ≡ cond (bytes_eq name group) (Some inside.after) (find group old) =
-        ap (λ (o : Object E). find group o) inside.rest ∙ find-with_group name inside.before inside.after old inside.found group in
+    ap (λ (o : Object E). find group o) inside.rest ∙ find-with_group name inside.before inside.after old inside.found group in
     elim (bytes_eq name group) as (λ same. bytes_eq name group ≡ same → find group new ≡ cond same (Some inside.after) (find group old) → Leads group place leader new) [
       | true ↦ λ is found.
           let before : inside.before ≡ leads.view = same_Some inside.before leads.view (sym inside.found ∙ ap (λ (n : List ℕ). find n old) (same_name name group is) ∙ leads.found) in

@@ -1,5 +1,5 @@
 -- A history has the effect of its changes, and the same changes lead to the same object.
-use Rattle.std.proofs.Common.{◌≡◌, ◌-◌, ℕ, Bool, true, false, List, [], ◌∷◌, ◌++◌, length, Option, Some, None, slice_get, refl, ap, sym, ◌∙◌, subst}
+use Rattle.std.proofs.Common.{◌≡◌, ℕ, Bool, true, false, List, [], ◌∷◌, Option, Some, None, refl, ap, sym, ◌∙◌, subst}
 use Rattle.std.proofs.lemmas.Bool.{true≢false, false≢true}
 use Rattle.std.proofs.lemmas.Option.{same_Some}
 use Rattle.ring_id.specs.Identity.{number_of}
@@ -8,12 +8,12 @@ use Rattle.ring_events.specs.declared.event.Command.{Command}
 use Rattle.ring_events.specs.declared.event.Command.TheVariants.{Create, Join, Leave, Start, Who, Members, Terms, Groups}
 use Rattle.ring_events.specs.declared.reply.Reply.{Reply}
 use Rattle.ring_events.specs.declared.reply.Reply.TheVariants as reply
-use Rattle.ring_terms.specs.Commands.{Creates, Joins, Leaves, Starts}
-use Rattle.ring_terms.specs.Moves.{Informs, InformsIn, inform}
-use Rattle.ring_terms.specs.Object.{GroupView, InGroup, InLast, Object, TermView, find, last_term, with_group, with_last}
+use Rattle.ring_terms.specs.Commands.{Joins, Leaves, Starts}
+use Rattle.ring_terms.specs.Moves.{InformsIn, inform}
+use Rattle.ring_terms.specs.Object.{GroupView, InGroup, InLast, Object, TermView, with_group, with_last}
 use Rattle.ring_terms.specs.Steps.{Replies, StepOf}
 use Rattle.ring_terms.specs.declared.standing.Noting.TheVariants.{Noted, Known, Stale}
-use Rattle.ring_table.specs.Histories.{Follows, InformsOf, IsEntry}
+use Rattle.ring_table.specs.Histories.{InformsOf, IsEntry}
 use Rattle.ring_table.specs.declared.entry.Entry.{Entry}
 use Rattle.ring_table.specs.declared.entry.Entry.TheVariants.{Call, Filing}
 use Rattle.ring_change.specs.Changes.{is_refused}

@@ -55,7 +55,7 @@ module _ {E : Type 0} (two_way greatest : E → Bool) where
         λ place entry told at.
             behind before (kept life) (all_kept lives) place entry (taken life.left place life.log (omega (arith, told, succeed.0.told)) ∙ at),
         subst (λ (offset : ℕ). AreToldIn (before ++ (kept life ++ all_kept lives)) offset lives) (length-append before (kept life))
-        (subst (λ (history : List (Entry E)). AreToldIn history (length (before ++ kept life)) lives) (append_assoc before (kept life) (all_kept lives)) rest),
+            (subst (λ (history : List (Entry E)). AreToldIn history (length (before ++ kept life)) lives) (append_assoc before (kept life) (all_kept lives)) rest),
       )
 
   -- lives begin with the changes of all that was left before them
@@ -64,7 +64,7 @@ module _ {E : Type 0} (two_way greatest : E → Bool) where
   begin_with_all (life ∷ lives) before found same succeed =
       let opened = succeed.1 ∙ same in
       let further : changes_of (life.opening ++ kept life) ≡ changes_of (before ++ kept life) =
-          changes_of-append life.opening (kept life) ∙ ap (λ (changes : List (Change E)). changes ++ changes_of (kept life)) opened ∙ sym (changes_of-append before (kept life)) in
+      changes_of-append life.opening (kept life) ∙ ap (λ (changes : List (Change E)). changes ++ changes_of (kept life)) opened ∙ sym (changes_of-append before (kept life)) in
       (opened, begin_with_all lives (before ++ kept life) (life.opening ++ kept life) further succeed.2)
 
   -- an entry whose reply a client got is in the history of all lives
