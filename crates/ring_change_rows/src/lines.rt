@@ -13,8 +13,7 @@ const JOURNAL: [&[u8]; 6] = [
 ];
 
 // The longest line.
-const LONGEST: &[u8] =
-    b"know abcdefghijklmnop 1000 4294967295/65535 4294967294/65535 #c6d97826";
+const LONGEST: &[u8] = b"know abcdefghijklmnop 1000 4294967295/65535 4294967294/65535 #c6d97826";
 
 // Lines that are not the first of a journal.
 const DAMAGED: [&[u8]; 8] = [

@@ -4,8 +4,10 @@
 //! Each call does nothing. The law is its contract.
 #![tactic(auto)]
 
+mod leaders;
 mod lives;
 mod replay;
 
-pub use lives::{all_lives, one_leader};
+pub use leaders::one_leader;
+pub use lives::all_lives;
 pub use replay::{follows_replays, replays_exact};

@@ -1,4 +1,4 @@
-ghost use Rattle.ring_lives.specs.Lives.{AreOneRun, TellOneLeader};
+ghost use Rattle.ring_lives.specs.Lives.{AreOneRun};
 
 use ring_election::RingElection;
 
@@ -9,9 +9,4 @@ use ring_election::RingElection;
 /// lives. Each life begins with the changes of all entries that are left of earlier lives.
 pub fn all_lives<E: RingElection>()
     ensures { AreOneRun E.is_two_way E.is_greatest }
-{}
-
-/// No two clients get different leaders of the same term of a group, in all lives of a service.
-pub fn one_leader<E: RingElection>()
-    ensures { TellOneLeader E.is_two_way E.is_greatest }
 {}
