@@ -1,4 +1,4 @@
-//! The line of a change by a report. Each of its words is read as the command that has such a word.
+//! The line of a change by a report. Its numbers and identities are read as those of commands.
 ghost use Rattle.std.specs.Prelude.{◌≡◌, ◌==◌, ◌<◌, ◌+◌, ◌∷◌, ◌++◌, [], length, codes, decimal, position, IfNone, IfSome};
 ghost use Rattle.ring_id.specs.GroupName.{IsName};
 ghost use Rattle.ring_id.specs.Term.{IsTerm};

@@ -42,7 +42,7 @@ impl Line {
     }
 }
 
-/// Bytes are appended. It fails only if the line would be too long, and then nothing is appended.
+/// Bytes are appended. It fails only if the line would be too long.
 impl Sink for Line {
     ghost use Rattle.ring_grammar.specs.Appending.{Appends};
     ghost use Rattle.ring_change.specs.Filling.{Overfills};

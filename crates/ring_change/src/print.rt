@@ -17,19 +17,19 @@ pub fn print_change<S: Sink>(change: &Change<Any>, out: &mut S) -> Result<(), Si
     ensures err { OnErr result (S.takes_front out.old (change_line change.now) out.new) }
     ensures legal { IsChange change.now }
 {
-    let () = legal(change);
+    legal(change);
     put_both(verb(change), group(change).bytes(), out)?;
     put_rest(change, out)
 }
 
-// The types of a change keep that it is legal. The call does nothing when it runs.
+// The types of a change keep that it is legal. These calls do nothing when they run.
 fn legal(change: &Change<Any>)
     ensures { IsChange change.now }
 {
     let _name = group(change).bytes();
     match change {
         Change::Create(..) | Change::Start(_) => {}
-        Change::Join(_, node) => check_node(*node),
+        Change::Join(_, node) => legal_node(*node),
         Change::Leave(_, number) => {
             let _number = number.get();
         }
@@ -40,19 +40,19 @@ fn legal(change: &Change<Any>)
             ..
         } => {
             let _term = term.get();
-            check_node(*member);
-            check_node(*leader);
+            legal_node(*member);
+            legal_node(*leader);
         }
     }
 }
 
-fn check_node(node: NodeId)
+fn legal_node(node: NodeId)
     ensures { IsNode node }
 {
     let (_number, _weight) = (node.get(), node.weight());
 }
 
-// The first word of a change, and a space.
+// The first word of a change and a space.
 fn verb(change: &Change<Any>) -> &'static [u8]
     ensures { result.now ≡ verb_text change.now }
 {
