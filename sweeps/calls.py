@@ -32,11 +32,14 @@ THREADED = {
 # What the test program says where a test ends by an error, and where it stops at an assertion.
 ENDED, STOPPED = b"the test failed: its result gives status 1\n", b"\ntest stopped at "
 SECONDS = 30
+TEST = re.compile(r"^\s*#\[test\]", re.M)
 
 
 def programs():
-    """The test programs that the gate built."""
-    return sorted((ROOT / "crates").glob("*/out/*_tests"))
+    """The test programs of all crates that have tests, whether they are built or not."""
+    sources = (ROOT / "crates").glob("*/src/**/*.rt")
+    crates = {it.relative_to(ROOT / "crates").parts[0] for it in sources if TEST.search(it.read_text(encoding="utf-8"))}
+    return [ROOT / "crates" / it / "out" / f"{it}_tests" for it in sorted(crates)]
 
 
 def tests_of(program):

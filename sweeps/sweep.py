@@ -3,6 +3,7 @@
 import os
 import pathlib
 import subprocess
+import sys
 import tempfile
 
 SWEEPS = pathlib.Path(__file__).resolve().parent
@@ -23,10 +24,13 @@ class Ran:
 
 
 def build_library(folder):
-    """Builds the library in this folder; the answer is its path."""
+    """Builds the library in this folder; the answer is its path. Ends the script if there is no C compiler."""
     library = pathlib.Path(folder) / "refuse.so"
-    source = SWEEPS / "refuse.c"
-    subprocess.run(["cc", "-shared", "-fPIC", "-O2", "-o", library, source, "-ldl"], check=True)
+    found = subprocess.run([SWEEPS / "compiler"], stdout=subprocess.PIPE, text=True, check=False)
+    if found.returncode:
+        sys.exit(1)
+    compiler = found.stdout.rstrip("\n").rpartition("\n")[2]
+    subprocess.run([compiler, "-shared", "-fPIC", "-O2", "-o", library, SWEEPS / "refuse.c", "-ldl"], check=True)
     return library
 
 
