@@ -1,3 +1,4 @@
 mod Telling
+mod Crossing
 mod Gaining
 mod Turned

@@ -10,6 +10,7 @@ use crate::sessions::{Front, Seat, guests};
 use ring_config::Config;
 use ring_door::{ProgramFault, accept_all, say_closed, say_listening, tell};
 use ring_lines::Outlet;
+use ring_table::Table;
 use std::net::{OpenListener, TcpStream};
 use std::sync::Wait;
 use std::thread::Threads;
@@ -40,7 +41,7 @@ where
     let alloc = rt.alloc();
     let listening = say_listening(alloc, config.port)?;
     let closed = say_closed(alloc, connections)?;
-    let (service, seats) = sessions::open(rt, config, connections)?;
+    let (service, seats) = sessions::open(rt, config, connections, Table::new(alloc))?;
     let served = serve_all(
         rt,
         sessions::front(&service),

@@ -5,14 +5,19 @@ ghost use Rattle.ring_door.specs.Telling.{listening_line};
 ghost use Rattle.ring_server.specs.Running.{FirstOrNone};
 
 use crate::sessions;
-use crate::sessions::{Front, Guest, Seat, guests};
+use crate::sessions::{Front, Guest, Seat, Service, guests};
+use ring_any::Any;
 use ring_config::Config;
 use ring_door::{Door, Limits, ProgramFault, attend_all, say_listening, tell};
 use ring_lines::Outlet;
+use ring_table::{Recorded, Unkept};
 use std::net::{OpenListener, TcpStream};
 use std::sync::{Mutex, Wait};
 use std::thread::Threads;
 use std::time::Clock;
+
+// The table: its history is not kept, so that questions take no memory for good.
+type Forgetful = Recorded<Any, Unkept<Any>>;
 
 // How many seats there are for each session that may run.
 const SEATS_EACH: u32 = 16;
@@ -44,10 +49,11 @@ where
     let alloc = rt.alloc();
     let listening = say_listening(alloc, config.port)?;
     let seats = limits.sessions.saturating_mul(SEATS_EACH);
-    let (service, seats) = sessions::open(rt, config, seats)?;
+    let table = Recorded::new(alloc, Unkept::new(alloc));
+    let (service, seats) = sessions::open(rt, config, seats, table)?;
     let begun = begin(
         rt,
-        sessions::front(&service),
+        front_of(&service),
         listener,
         listening.as_str(),
         seats,
@@ -58,13 +64,20 @@ where
     begun
 }
 
+// What the sessions of the service share.
+fn front_of(service: &Service<Forgetful>) -> &Front<Forgetful>
+    ensures { result.now ≡ service.now }
+{
+    service.front()
+}
+
 // Says that it listens, and has the threads serve.
 fn begin<R, L, O>(
     rt: &R,
-    front: &Front,
+    front: &Front<Forgetful>,
     listener: L,
     listening: &str,
-    seats: Vec<Seat>,
+    seats: Vec<Seat<Forgetful>>,
     limits: Limits,
     out: &mut O,
 ) -> Result<(), ProgramFault>
@@ -89,8 +102,8 @@ where
 fn seat_all<'a, R, L>(
     rt: &R,
     door: &Mutex<Door<L>>,
-    spare: &Mutex<Vec<Guest<'a>>>,
-    guests: Vec<Guest<'a>>,
+    spare: &Mutex<Vec<Guest<'a, Forgetful>>>,
+    guests: Vec<Guest<'a, Forgetful>>,
     limits: Limits,
 ) -> Result<(), ProgramFault>
 where

@@ -1,5 +1,5 @@
 //! The service that the program runs, and its sessions over sockets.
-ghost use Rattle.std.specs.Prelude.{◌≡◌, ◌<◌, ◌≤◌, ◌*◌, ◌+◌, ◌^◌, ◌↔◌, [], All, IfErr, IfOk, IsTrue, MatchBool, vec_len};
+ghost use Rattle.std.specs.Prelude.{◌≡◌, ◌<◌, ◌≤◌, ◌*◌, ◌+◌, ◌-◌, ◌/◌, ◌^◌, ◌↔◌, All, IfErr, IfOk, IsTrue, MatchBool, vec_len};
 ghost use Rattle.ring_service.specs.Places.{ServesPlaced};
 ghost use Rattle.ring_service.specs.Sessions.{Serves};
 ghost use Rattle.ring_server.specs.Faults.{IsOfStart};
@@ -12,7 +12,7 @@ use ring_config::Config;
 use ring_door::{ProgramFault, Serving};
 use ring_lines::{FromRead, Intake, LineFault, Outlet, ToWrite};
 use ring_service::StartFault;
-use ring_table::Table;
+use ring_table::{Table, Tabled};
 use ring_turn::TurnLock;
 use ring_workers::{Gate, OpenGate};
 use std::alloc::Global;
@@ -24,70 +24,79 @@ use std::time::Clock;
 // How many read calls a session makes at most.
 const READS: u32 = u32::MAX;
 
-// How many turns each seat has.
-const TURNS: u64 = 1 << 30;
+/// How the sessions and workers of a program share its table.
+pub type Access<T = Table<Any>> = TurnLock<Any, T>;
 
-/// How the program's sessions and workers share its table.
-pub type Access = TurnLock<Any>;
-
-/// The seat by which a session, or a worker, reaches the table.
-pub type Seat = ring_turn::Seat<Any>;
+/// The seat by which a session or a worker reaches the table.
+pub type Seat<T = Table<Any>> = ring_turn::Seat<Any, T>;
 
 /// What sessions share.
-pub type Front = ring_service::Front<Access>;
+pub type Front<T = Table<Any>> = ring_service::Front<Access<T>>;
 
-/// The service over the program's table.
-pub type Service = ring_service::Service<Access>;
+/// The service over a program's table.
+pub type Service<T = Table<Any>> = ring_service::Service<Access<T>>;
 
 /// What the service leaves when it is closed.
-pub type Closing = ring_service::Closing<Access>;
+pub type Closing<T = Table<Any>> = ring_service::Closing<Access<T>>;
 
 /// A seat of the table, for one session after another.
 #[derive(Drop)]
-pub struct Guest<'a> {
-    front: &'a Front,
-    seat: Seat,
+pub struct Guest<'a, T: Tabled<Any> + Drop = Table<Any>> {
+    front: &'a Front<T>,
+    seat: Seat<T>,
     ghost of_front: { seat.lock ≡ front.now.id },
 }
 
-/// The service that a configuration describes, without groups, and so many seats for sessions.
-pub fn open<R>(rt: &R, config: &Config, sessions: u32) -> Result<(Service, Vec<Seat>), ProgramFault>
-where
-    R: Threads + Wait + Clock + AllocGlobal + Copy + Send + Drop + 'static,
-    ensures seats { IfOk result (λ opened. vec_len opened.1 ≡ sessions) }
-    ensures theirs { IfOk result (λ opened. All (λ seat. seat.lock ≡ opened.0.id) opened.1.items) }
-    ensures turns { IfOk result (λ opened. All (λ seat. seat.left ≡ 2 ^ 30) opened.1.items) }
-    ensures workers { IfOk result (λ opened. opened.0.seats ≡ config.now.workers + sessions) }
-    ensures empty { IfOk result (λ opened. opened.0.opening ≡ []) }
-    ensures fault { IfErr result IsOfStart }
-{
-    let Ok(gate) = Arc::new(rt.alloc(), OpenGate) else {
-        return Err(ProgramFault::NoMemory);
-    };
-    open_gated(rt, config, sessions, gate)
-}
-
-/// The same, where this gate looks at each item of each worker. No clause says how much the inboxes hold: a
-/// test does.
-pub fn open_gated<R, G>(
+/// Opens the service that a configuration describes over this table, with `sessions` seats for sessions.
+///
+/// Workers and sessions have equal shares of the turns of a lock, of which there are 2^64 - 1.
+pub fn open<R, T>(
     rt: &R,
     config: &Config,
     sessions: u32,
-    gate: Arc<G>,
-) -> Result<(Service, Vec<Seat>), ProgramFault>
+    table: T,
+) -> Result<(Service<T>, Vec<Seat<T>>), ProgramFault>
 where
     R: Threads + Wait + Clock + AllocGlobal + Copy + Send + Drop + 'static,
+    T: Tabled<Any> + Send + Sync + Drop + 'static,
+    ensures seats { IfOk result (λ opened. vec_len opened.1 ≡ sessions) }
+    ensures theirs { IfOk result (λ opened. All (λ seat. seat.lock ≡ opened.0.id) opened.1.items) }
+    ensures turns { IfOk result (λ opened. All (λ seat. seat.left ≡ (2 ^ 64 - 1) / (config.now.workers + sessions)) opened.1.items) }
+    ensures workers { IfOk result (λ opened. opened.0.seats ≡ config.now.workers + sessions) }
+    ensures opening { IfOk result (λ opened. opened.0.opening ≡ (T.shows table).history) }
+    ensures fault { IfErr result IsOfStart }
+{
+    let Ok(gate) = Arc::new(rt.alloc(), OpenGate) else {
+        drop(table);
+        return Err(ProgramFault::NoMemory);
+    };
+    open_gated(rt, config, sessions, table, gate)
+}
+
+/// Opens the same service with this gate, which looks at each item of each worker. How much the inboxes
+/// hold is tested, not proved.
+pub fn open_gated<R, G, T>(
+    rt: &R,
+    config: &Config,
+    sessions: u32,
+    table: T,
+    gate: Arc<G>,
+) -> Result<(Service<T>, Vec<Seat<T>>), ProgramFault>
+where
+    R: Threads + Wait + Clock + AllocGlobal + Copy + Send + Drop + 'static,
+    T: Tabled<Any> + Send + Sync + Drop + 'static,
     G: Gate + Send + Sync + Drop + 'static,
     ensures seats { IfOk result (λ opened. vec_len opened.1 ≡ sessions) }
     ensures theirs { IfOk result (λ opened. All (λ seat. seat.lock ≡ opened.0.id) opened.1.items) }
-    ensures turns { IfOk result (λ opened. All (λ seat. seat.left ≡ 2 ^ 30) opened.1.items) }
+    ensures turns { IfOk result (λ opened. All (λ seat. seat.left ≡ (2 ^ 64 - 1) / (config.now.workers + sessions)) opened.1.items) }
     ensures workers { IfOk result (λ opened. opened.0.seats ≡ config.now.workers + sessions) }
-    ensures empty { IfOk result (λ opened. opened.0.opening ≡ []) }
+    ensures opening { IfOk result (λ opened. opened.0.opening ≡ (T.shows table).history) }
     ensures fault { IfErr result IsOfStart }
 {
     let alloc = rt.alloc();
     let all = config.workers + sessions as usize;
-    let Ok((lock, mut seats)) = TurnLock::new(alloc, Table::new(alloc), all, TURNS) else {
+    let turns = u64::MAX / all as u64;
+    let Ok((lock, mut seats)) = TurnLock::new(alloc, table, all, turns) else {
         return Err(ProgramFault::NoMemory);
     };
     let guests = seats.split_off(config.workers)?;
@@ -111,25 +120,28 @@ fn told_of_start(fault: StartFault) -> ProgramFault
 }
 
 /// What the sessions of a service share. Takes no memory.
-pub fn front(service: &Service) -> &Front
+pub fn front<T: Tabled<Any> + Send + Sync + Drop + 'static>(service: &Service<T>) -> &Front<T>
     ensures { result.now ≡ service.now }
 {
     service.front()
 }
 
 /// Ends the service, and gives what it leaves.
-pub fn close<R: Threads + Wait>(rt: &R, service: Service) -> Closing
+pub fn close<R: Threads + Wait, T: Tabled<Any> + Send + Sync + Drop + 'static>(
+    rt: &R,
+    service: Service<T>,
+) -> Closing<T>
     ensures { result.access.value ≡ service }
 {
     service.close(rt)
 }
 
 /// A guest for each seat, from the last one down to the first. Refused for want of memory alone.
-pub fn guests(
+pub fn guests<T: Tabled<Any> + Drop>(
     alloc: Global,
-    front: &Front,
-    seats: Vec<Seat>,
-) -> Result<Vec<Guest<'_>>, ProgramFault>
+    front: &Front<T>,
+    seats: Vec<Seat<T>>,
+) -> Result<Vec<Guest<'_, T>>, ProgramFault>
     requires { All (λ seat. seat.lock ≡ front.now.id) seats.items }
     ensures guests { IfOk result (λ guests. vec_len guests ≡ vec_len seats) }
     ensures fault { IfErr result (λ fault. fault ≡ NoMemory) }
@@ -144,7 +156,7 @@ pub fn guests(
     Ok(guests)
 }
 
-impl Serving for Guest<'_> {
+impl<T: Tabled<Any> + Drop> Serving for Guest<'_, T> {
     fn is_spent(&self) -> bool
         ensures { IsTrue result ↔ (self.now.seat.left ≡ 0) }
     {
@@ -162,10 +174,10 @@ impl Serving for Guest<'_> {
 }
 
 // One session by a seat, told with places where they are asked for.
-fn answer<R: Wait, I: Intake, O: Outlet>(
+fn answer<R: Wait, I: Intake, O: Outlet, T: Tabled<Any> + Drop>(
     rt: &R,
-    front: &Front,
-    seat: &mut Seat,
+    front: &Front<T>,
+    seat: &mut Seat<T>,
     session: u32,
     places: bool,
     reader: &mut I,

@@ -3,6 +3,7 @@ ghost use Rattle.std.specs.Prelude.{◌≡◌, ◌≤◌, All};
 use crate::trial::{client, listener};
 use ring_config::Config;
 use ring_server::{Front, Guest, Seat, Serving, close, front, guests, open_gated};
+use ring_table::Table;
 use ring_workers::{Gate, Pass};
 use std::alloc::Global;
 use std::io::Read;
@@ -138,7 +139,7 @@ where
     };
     let gate = new_gate(rt, alloc)?;
     let copy = Arc::try_clone(&gate).ok()?;
-    let (service, seats) = open_gated(rt, &config, 1, copy).ok()?;
+    let (service, seats) = open_gated(rt, &config, 1, Table::new(alloc), copy).ok()?;
     let all = starts_six(rt, front(&service), seats, &gate);
     gate.may_end.store(true, Ordering::SeqCst);
     drop(gate);

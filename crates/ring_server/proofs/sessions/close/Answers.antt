@@ -1,6 +1,6 @@
-use Rattle.ring_turn.proofs.Sharing.{table_sync}
+use Rattle.ring_turn.proofs.Sharing.{any_sync}
 use Rattle.ring_server.proofs.sessions.close.Goals as goal
 
 -- the table may be shared among threads
 pub close-requires-sync-A : goal.close-requires-sync-A
-close-requires-sync-A g c κs within = record { shared = table_sync.shared }
+close-requires-sync-A g c κs within = record { shared = (any_sync _ _ c.type_bounds.send-T).shared }

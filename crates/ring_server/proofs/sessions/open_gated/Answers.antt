@@ -1,8 +1,8 @@
-use Rattle.std.proofs.Common.{◌≡◌, ◌+◌, ◌^◌, ◌∙◌, All, ap, sym, subst, length, arith}
+use Rattle.std.proofs.Common.{◌≡◌, ◌+◌, ◌-◌, ◌/◌, ◌^◌, ◌∙◌, All, ap, sym, subst, length, arith}
 use Rattle.std.proofs.lemmas.List.Elements.{All-drop, All-take}
 use Rattle.std.proofs.lemmas.List.FromFn.{length-map-range_with_len}
 use Rattle.ring_turn.proofs.Returning.{all_are_of_lock}
-use Rattle.ring_turn.proofs.Sharing.{table_sync}
+use Rattle.ring_turn.proofs.Sharing.{any_sync}
 use Rattle.ring_server.proofs.Turned.{all_have_turns}
 use Rattle.ring_server.proofs.sessions.open_gated.Goals as goal
 
@@ -14,7 +14,7 @@ split_off-requires g c =
 
 -- the table may be shared among threads
 pub gated-requires-sync-A : goal.gated-requires-sync-A
-gated-requires-sync-A g c κs within = record { shared = table_sync.shared }
+gated-requires-sync-A g c κs within = record { shared = (any_sync _ _ c.type_bounds.send-T).shared }
 
 -- the first seats are the workers', and all are of the lock
 pub gated-requires-clause-seats : goal.gated-requires-clause-seats
@@ -40,5 +40,6 @@ returns-in-Ok-gated-clause-theirs g c =
 
 pub returns-in-Ok-gated-clause-turns : goal.returns-in-Ok-gated-clause-turns
 returns-in-Ok-gated-clause-turns g c =
-    let all = all_have_turns _ (2 ^ 30) _ _ _ c.in-Ok.ensures.seats in
-    subst (All (λ seat. seat.left ≡ 2 ^ 30)) (sym c.in_ok-guests.ensures.tail) (All-drop (λ seat. seat.left ≡ 2 ^ 30) c.args.config.now.workers c.in-Ok.seats.items all)
+    let turns = (2 ^ 64 - 1) / (c.args.config.now.workers + c.args.sessions) in
+    let all = all_have_turns _ turns _ _ _ c.in-Ok.ensures.seats in
+    subst (All (λ seat. seat.left ≡ turns)) (sym c.in_ok-guests.ensures.tail) (All-drop (λ seat. seat.left ≡ turns) c.args.config.now.workers c.in-Ok.seats.items all)

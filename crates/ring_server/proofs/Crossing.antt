@@ -1,0 +1,30 @@
+-- What a guest of a table takes along to a thread: its seat, and what all sessions share.
+use denote.RattleType.{RattleType}
+use denote.Param.Send.{IsSend, IsSync}
+use Rattle.std.below.core.specs.contracts.clone.Clone+copy.TheImpl as copy
+use Rattle.ring_any.specs.contracts.any.Any as any
+use Rattle.ring_any.specs.contracts.any.AnyMsg as message
+use Rattle.ring_any.specs.contracts.any.AnyState as state
+use Rattle.ring_any.specs.contracts.any.AnyRingElection.TheImpl as election
+use Rattle.ring_any.specs.contracts.any.AnyPartialEq.TheImpl as same
+use Rattle.ring_any.specs.contracts.any.AnyMsgPartialEq.TheImpl as same_message
+use Rattle.ring_table.specs.declared.tabled.Tabled as tabled
+use Rattle.ring_turn.specs.contracts.seat.Seat as seat
+use Rattle.ring_turn.specs.contracts.lock.TurnLock as lock
+use Rattle.ring_turn.proofs.lock.TurnLock.TheSendSync as lock_crosses
+use Rattle.ring_turn.proofs.seat.Seat.TheSendSync as seat_crosses
+use Rattle.ring_turn.proofs.Sharing.{any_sync}
+use Rattle.ring_service.specs.contracts.front.Front as front
+use Rattle.ring_service.proofs.front.Front.TheSendSync as front_crosses
+
+module _ (T : RattleType) (shows : tabled.Ghosts T.Denot any.the_row.Denot message.the_row.Denot state.the_row.Denot) where
+  pub seat_send : IsSend T → IsSend (seat.the_row any.the_row T message.the_row state.the_row election.ghosts same.ghosts same_message.ghosts shows)
+  seat_send send = seat_crosses.the_send any.the_row T message.the_row state.the_row election.ghosts same.ghosts same_message.ghosts shows send
+
+  abbrev the_lock : RattleType
+  the_lock = lock.the_row any.the_row T message.the_row state.the_row election.ghosts (copy.ghosts any.the_row) (record {}) same.ghosts (copy.ghosts message.the_row) (record {}) same_message.ghosts shows
+
+  pub front_sync : IsSend T → IsSync (front.the_row the_lock)
+  front_sync send =
+      let lock_send : IsSend the_lock = lock_crosses.the_send any.the_row T message.the_row state.the_row election.ghosts (copy.ghosts any.the_row) (record {}) same.ghosts (copy.ghosts message.the_row) (record {}) same_message.ghosts shows send in
+      front_crosses.the_sync the_lock lock_send (any_sync T shows send)
