@@ -1,5 +1,7 @@
 //! The place of a journal: a name in a folder, which is the name of one file after another.
-ghost use Rattle.std.specs.Prelude.{◌≡◌, length, IfOk};
+ghost use Rattle.std.specs.Prelude.{◌≡◌, length, IfErr, IfOk};
+ghost use Rattle.ring_file.specs.Faults.{IsBeginFault, IsReadFault, IsTakeFault};
+ghost use Rattle.ring_file.specs.declared.place.PlaceFault.TheVariants as place_fault;
 
 use crate::medium::FileMedium;
 use crate::tail::{AHEAD, Tail};
@@ -25,6 +27,8 @@ pub enum PlaceFault {
 }
 
 impl From<AllocError> for PlaceFault {
+    ghost from_gives = { λ _ fault. fault ≡ place_fault.NoMemory };
+
     fn from(_error: AllocError) -> PlaceFault {
         PlaceFault::NoMemory
     }
@@ -47,7 +51,9 @@ impl Place {
     pub fn take<R: Files<File = File> + AllocGlobal>(
         rt: &R,
         path: &str,
-    ) -> Result<Place, PlaceFault> {
+    ) -> Result<Place, PlaceFault>
+        ensures { IfErr result IsTakeFault }
+    {
         let lock_path = format!(in rt.alloc(); "{path}.lock")?;
         let path = format!(in rt.alloc(); "{path}")?;
         let opened = OpenOptions::new()
@@ -67,7 +73,9 @@ impl Place {
     ///
     /// System calls: `statx` of the file, which follows no link, then `openat`, and `read` up to
     /// its end. Returns `NotAFile` if it is not a regular file, and then does not open it.
-    pub fn read<R: Files<File = File> + AllocGlobal>(&self, rt: &R) -> Result<Vec<u8>, PlaceFault> {
+    pub fn read<R: Files<File = File> + AllocGlobal>(&self, rt: &R) -> Result<Vec<u8>, PlaceFault>
+        ensures { IfErr result IsReadFault }
+    {
         let mut found = Vec::new(rt.alloc());
         let path = self.path.as_str();
         match fs::symlink_metadata(rt, path) {
@@ -93,24 +101,32 @@ impl Place {
         rt: &R,
         text: &Batch,
     ) -> Result<FileMedium, PlaceFault>
-        ensures { IfOk result (λ medium. medium ≡ record { text = text.now.bytes; kept = length text.now.bytes }) }
+        ensures ok { IfOk result (λ medium. medium ≡ record { text = text.now.bytes; kept = length text.now.bytes }) }
+        ensures err { IfErr result IsBeginFault }
     {
         let zeros = vec![in rt.alloc(); 0; AHEAD]?;
-        let path = self.path.as_str();
-        let new_path = format!(in rt.alloc(); "{path}.new")?;
-        let file = write_new(rt, new_path.as_str(), text.bytes(), &zeros).map_err(failed)?;
-        put_in_place(rt, new_path.as_str(), path).map_err(failed)?;
-        let end = text.len() as u64;
-        let room = end.saturating_add(AHEAD as u64);
-        let tail = Tail {
-            file,
-            end,
-            room,
-            zeros,
-            is_broken: false,
-        };
-        Ok(FileMedium::new(rt.alloc(), tail, self.lock, text)?)
+        match replace(rt, self.path.as_str(), text.bytes(), &zeros) {
+            Ok(file) => {
+                let tail = Tail::new(file, text.len(), zeros);
+                Ok(FileMedium::new(rt.alloc(), tail, self.lock, text)?)
+            }
+            Err(error) => Err(failed(error)),
+        }
     }
+}
+
+// Makes a new file of this text and of zeros after it, and gives it the name of the journal.
+fn replace<R: Files<File = File> + AllocGlobal>(
+    rt: &R,
+    path: &str,
+    text: &[u8],
+    zeros: &[u8],
+) -> io::Result<File> {
+    let new_path = format!(in rt.alloc(); "{path}.new")?;
+    let file = write_new(rt, new_path.as_str(), text, zeros)?;
+    fs::rename(rt, new_path.as_str(), path)?;
+    File::open(rt, folder_of(path))?.sync_all()?;
+    Ok(file)
 }
 
 // Makes a new file of this text and of zeros after it, and syncs it.
@@ -135,12 +151,6 @@ fn write_new<R: Files<File = File>>(
     Ok(file)
 }
 
-// Gives the new file the name of the journal, and syncs the folder.
-fn put_in_place<R: Files<File = File>>(rt: &R, new_path: &str, path: &str) -> io::Result<()> {
-    fs::rename(rt, new_path, path)?;
-    File::open(rt, folder_of(path))?.sync_all()
-}
-
 // The folder of a path.
 fn folder_of(path: &str) -> &str {
     match path.rfind('/') {
@@ -151,7 +161,10 @@ fn folder_of(path: &str) -> &str {
 }
 
 // The fault of a file that could not be opened or read.
-fn unreadable(error: io::Error) -> PlaceFault {
+fn unreadable(error: io::Error) -> PlaceFault
+    ensures take { IsTakeFault result }
+    ensures read { IsReadFault result }
+{
     match error.kind() {
         io::ErrorKind::OutOfMemory => PlaceFault::NoMemory,
         _ => PlaceFault::Unreadable,
@@ -159,7 +172,9 @@ fn unreadable(error: io::Error) -> PlaceFault {
 }
 
 // The fault of a file that could not be written.
-fn failed(error: io::Error) -> PlaceFault {
+fn failed(error: io::Error) -> PlaceFault
+    ensures { IsBeginFault result }
+{
     match error.kind() {
         io::ErrorKind::OutOfMemory => PlaceFault::NoMemory,
         _ => PlaceFault::Failed,

@@ -10,17 +10,29 @@ pub(crate) const AHEAD: usize = 65536;
 /// An open file: a text, and zeros after it that are synced.
 #[derive(Drop)]
 pub(crate) struct Tail {
-    pub(crate) file: File,
+    file: File,
     // how many bytes the text has, and how many the file has
-    pub(crate) end: u64,
-    pub(crate) room: u64,
+    end: u64,
+    room: u64,
     // `AHEAD` zeros
-    pub(crate) zeros: Vec<u8>,
+    zeros: Vec<u8>,
     // whether a write or a sync failed
-    pub(crate) is_broken: bool,
+    is_broken: bool,
 }
 
 impl Tail {
+    /// Returns the tail of a file that holds a text of `len` bytes and `zeros` after it, synced.
+    pub(crate) fn new(file: File, len: usize, zeros: Vec<u8>) -> Tail {
+        let end = len as u64;
+        Tail {
+            file,
+            end,
+            room: end.saturating_add(zeros.len() as u64),
+            zeros,
+            is_broken: false,
+        }
+    }
+
     /// Writes the bytes over zeros at the end of the text. Returns whether they were written.
     ///
     /// If the file has too few zeros, more are written (`pwrite`) and synced (`fsync`) first. Then
