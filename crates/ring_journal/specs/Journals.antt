@@ -1,5 +1,5 @@
 -- What contracts see of a batch and of a journal.
-use Rattle.std.specs.Prelude.{◌≡◌, ◌≤◌, ℕ, ◌+◌, Bool, List, [], ◌∷◌, ◌++◌, length, take}
+use Rattle.std.specs.Prelude.{◌≡◌, ◌≤◌, ℕ, ◌+◌, ◌-◌, Bool, List, [], ◌∷◌, ◌++◌, length, take, min}
 use Rattle.ring_journal.specs.Moments.{Grows, MayFind, Moment}
 use Rattle.ring_journal.specs.Lines.{AreFirst, AreLines, lines_in, text_of, whole_lines_of}
 use Rattle.ring_journal.specs.Whole.{IsWhole}
@@ -18,6 +18,16 @@ pub record JournalView : Type 0 where
   pub pending : ℕ
   pub room : ℕ
   pub is_broken : Bool
+
+-- a journal on a medium at this moment, with this batch
+abbrev pub view_of : Moment → BatchView → Bool → JournalView
+view_of disk batch broken = record {
+  lines = whole_lines_of (disk.text ++ batch.bytes);
+  disk = disk;
+  pending = length batch.bytes;
+  room = min batch.room (65536 - length batch.bytes);
+  is_broken = broken;
+}
 
 -- The text is lines, each with its LF, and none of them has a zero.
 pub record HasAll (text : List ℕ) : Type 0 where

@@ -41,8 +41,8 @@ pub struct Journal<D: Medium + Drop> {
 }
 
 impl<D: Medium + Drop> Model for Journal<D> {
-    ghost use Rattle.ring_journal.specs.Journals.{JournalView};
-    ghost use Rattle.ring_journal.specs.private.Invariant.{IsJournal, view_of};
+    ghost use Rattle.ring_journal.specs.Journals.{JournalView, view_of};
+    ghost use Rattle.ring_journal.specs.private.Invariant.{IsJournal};
 
     ghost Value = { JournalView };
 
