@@ -30,8 +30,7 @@ number. Under peterson another may lead.
 Without a command, ringctl sends each line of standard input and prints its reply.
 
 A watch asks a member once a second what it knows. When the answer has changed, it asks for
-the terms. The service keeps each of these commands in memory until it ends: about 8 MB for a
-day of watching, and 12 bytes for each term of the group at each change.
+the terms. 'ringd run' keeps nothing of these questions; 'ringd serve' keeps each until it ends.
 
 Exit status:
   0   The command was done.
