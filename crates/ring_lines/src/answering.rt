@@ -1,4 +1,4 @@
-ghost use Rattle.std.specs.Prelude.{◌≡◌};
+ghost use Rattle.std.specs.Prelude.{◌≡◌, ◌⊎◌};
 ghost use Rattle.ring_lines.specs.Rounds.{AnswersLines};
 
 use crate::answers::{Found, Line, LineFault};
@@ -41,6 +41,12 @@ pub trait Answerer {
 
     ghost answers: { Self → List ℕ → Self.State → Self.Answer → Self.State → Type 0 };
 
+    // what settling changes of a state
+    ghost settles: { Self → Self.State → Self.State → Type 0 };
+
+    // a state in which the answers that were given may be told
+    ghost may_tell: { Self → Self.State → Type 0 };
+
     /// What a line asks.
     fn read(&self, line: &[u8]) -> Self::Asked
         ensures { asks line.now result };
@@ -69,6 +75,19 @@ pub trait Answerer {
     fn rest(&self, state: &mut Self::State)
         requires { holds self.now state.old }
         ensures { state.new ≡ state.old };
+
+    /// Makes sure that the answers so far may be told. It comes after `rest`, when the head of a queue was
+    /// let go, and before any of these answers is spelled. It may wait, and does not return if they may
+    /// never be told.
+    fn settle(&self, state: &mut Self::State)
+        requires { holds self.now state.old }
+        ensures kept { holds self.now state.new }
+        ensures settled { settles self.now state.old state.new }
+        ensures told { may_tell self.now state.new };
+
+    // an answer stays one when the state after it is settled
+    ghost settles_behind: { (a : Self) (line : List ℕ) (old : Self.State) (answer : Self.Answer) (mid new : Self.State) →
+        answers a line old answer mid → settles a mid new → answers a line old answer new };
 }
 
 /// Answers each line of the reader by the spelling of one answer to the writer, in order.
@@ -80,8 +99,11 @@ pub trait Answerer {
 /// Unless writing failed, each answer is legal. Makes at most `reads` read calls.
 ///
 /// Lines that are held are read before the first of them is answered, at most 64 of them, and their
-/// answers are spelled after the last of them is given. In between the answerer rests, and what an answer
-/// left in `queued` is let go: tests say so, and no clause.
+/// answers are spelled after the last of them is given. In between the answerer rests, what an answer left
+/// in `queued` is let go, and then the answerer settles. This order is tested, not proved.
+///
+/// However the call ends, all answers that it gave may be told in the state that it leaves, or the state is
+/// as it was. That holds also if a write failed in the middle of these answers.
 pub fn answer_lines<A: Answerer, R: Intake, W: Outlet>(
     alloc: Global,
     answerer: &A,
@@ -92,6 +114,7 @@ pub fn answer_lines<A: Answerer, R: Intake, W: Outlet>(
 ) -> Result<u64, LineFault>
     requires { A.holds answerer.now state.old }
     ensures kept { A.holds answerer.now state.new }
+    ensures told { (state.new ≡ state.old) ⊎ A.may_tell answerer.now state.new }
     ensures lines { AnswersLines R.read_gives W.write_gives (A.answers answerer.now) A.Answer.spelling A.Answer.is_legal reader.old writer.old state.old reads result reader.new writer.new state.new }
 {
     let Ok(mut lines) = LineBuffer::new(alloc, reads) else {

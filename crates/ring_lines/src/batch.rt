@@ -1,5 +1,5 @@
 //! Lines that are answered together: what each of them asks is read before the first of them is answered.
-ghost use Rattle.std.specs.Prelude.{◌≡◌, ◌≤◌, ◌∷◌, [], length, vec_capacity};
+ghost use Rattle.std.specs.Prelude.{◌≡◌, ◌<◌, ◌≤◌, ◌∷◌, [], length, vec_capacity};
 ghost use Rattle.ring_lines.specs.private.Batches.{AnswersAll, JoinsHeld};
 
 use crate::answering::{Answerer, Queued};
@@ -47,7 +47,8 @@ impl<A: Answerer> Batch<A> {
 
     /// Reads whole lines that are held, as many as the batch has room for. Takes no memory.
     pub(crate) fn read_held(&mut self, answerer: &A, lines: &mut LineBuffer)
-        ensures { JoinsHeld A.asks lines.old self.old.asked lines.new self.new.asked }
+        ensures joins { JoinsHeld A.asks lines.old self.old.asked lines.new self.new.asked }
+        ensures more { length self.old.asked ≤ length self.new.asked }
     {
         while self.asked.len() < MOST {
             let Some(line) = lines.held_line() else {
@@ -59,11 +60,13 @@ impl<A: Answerer> Batch<A> {
         }
     }
 
-    /// Answers all that was asked, in order. The answerer rests afterwards, and who queues for the answers
-    /// has let go of the head of the queue.
+    /// Answers all that was asked, in order. Afterwards the answerer rests, the head of the queue is let go,
+    /// and the answerer settles.
     pub(crate) fn answer(&mut self, answerer: &A, state: &mut A::State, alloc: Global)
-        requires { A.holds answerer.now state.old }
+        requires holds { A.holds answerer.now state.old }
+        requires some { 0 < length self.old.asked }
         ensures kept { A.holds answerer.now state.new }
+        ensures told { A.may_tell answerer.now state.new }
         ensures answered { AnswersAll A.asks (A.answers answerer.now) self.old.asked state.old self.new.given state.new }
     {
         self.given.clear();
@@ -89,7 +92,9 @@ fn answer_all<A: Answerer>(
     requires holds { A.holds answerer.now state.old }
     requires none { given.old.items ≡ [] }
     requires room { length asked.now ≤ vec_capacity given.old }
+    requires some { 0 < length asked.now }
     ensures kept { A.holds answerer.now state.new }
+    ensures told { A.may_tell answerer.now state.new }
     ensures answered { AnswersAll A.asks (A.answers answerer.now) asked.now state.old given.new.items state.new }
     ensures room { vec_capacity given.new ≡ vec_capacity given.old }
 {
@@ -99,4 +104,7 @@ fn answer_all<A: Answerer>(
         given.push_reserved(answer);
     }
     answerer.rest(state);
+    // others may be answered while it waits
+    drop(queued);
+    answerer.settle(state);
 }

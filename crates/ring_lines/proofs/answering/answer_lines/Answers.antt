@@ -1,4 +1,4 @@
-use Rattle.std.proofs.Common.{ap, subst, [], ◌∷◌, ◌++◌}
+use Rattle.std.proofs.Common.{ap, inl, inr, refl, subst, [], ◌∷◌, ◌++◌}
 use Rattle.std.specs.List.{AllZip}
 use Rattle.ring_lines.specs.Reader.{ShowsLine, answer_told}
 use Rattle.ring_lines.specs.Rounds.{RunOf}
@@ -24,7 +24,7 @@ pub returns-in_default-new-2-clause-lines : goal.returns-in_default-new-2-clause
 returns-in_default-new-2-clause-lines g c = answers_none _ _ _ _ _ _ _ _ _
 
 pub loop-found-init : goal.loop-found-init
-loop-found-init g c = record { holds = c.requires; answering = rw (c.in-Ok.ensures, c.in-Ok-new.ensures) (answering_none _ _ _ _ _ _ _ _ _) }
+loop-found-init g c = record { holds = c.requires; told = inl refl; answering = rw (c.in-Ok.ensures, c.in-Ok-new.ensures) (answering_none _ _ _ _ _ _ _ _ _) }
 
 pub returns-in_default-turn_to_next-clause-lines : goal.returns-in_default-turn_to_next-clause-lines
 returns-in_default-turn_to_next-clause-lines g c = rw c.in_default-turn_to_next.ensures.err.1 (fails _ _ _ _ _ _ _ _ _ _ _ _ _ _ _ c.loop-found.invariant.answering _ c.in_default-turn_to_next.ensures.err.0)
@@ -51,14 +51,14 @@ asked g c =
     ]
 
 -- it and the lines that were held behind it are owed an answer
-owing : (g : Over) (c : After-read_held g) → Owing g.R.Intake.read_gives g.W.Outlet.write_gives (g.A.Answerer.answers c.args.answerer.now) g.A.Answer.Spell.spelling g.A.Answer.Spell.is_legal c.args.reader.now c.args.writer.now c.args.state.now c.args.reads c.loop-found.count c.turn_to_next.new.reader c.turn_to_next.new.writer ((come g (goal.at.After-read_held g c).In-Ok-turn_to_next).come ++ c.read_held.ensures.given) c.read_held.new.lines c.turn_to_next.new.page.text c.loop-found.state
-owing g c = owing_joined _ _ _ _ _ _ _ _ _ _ _ _ _ _ _ _ _ _ _ _ (owing_come _ _ _ _ _ _ _ _ _ _ _ _ _ _ _ _ (come g (goal.at.After-read_held g c).In-Ok-turn_to_next)) c.read_held.ensures
+owing : (g : Over) (c : After-read_held g) → Owing g.R.Intake.read_gives g.W.Outlet.write_gives (g.A.Answerer.answers c.args.answerer.now) g.A.Answer.Spell.spelling g.A.Answer.Spell.is_legal c.args.reader.now c.args.writer.now c.args.state.now c.args.reads c.loop-found.count c.turn_to_next.new.reader c.turn_to_next.new.writer ((come g (goal.at.After-read_held g c).In-Ok-turn_to_next).come ++ c.read_held.ensures.joins.given) c.read_held.new.lines c.turn_to_next.new.page.text c.loop-found.state
+owing g c = owing_joined _ _ _ _ _ _ _ _ _ _ _ _ _ _ _ _ _ _ _ _ (owing_come _ _ _ _ _ _ _ _ _ _ _ _ _ _ _ _ (come g (goal.at.After-read_held g c).In-Ok-turn_to_next)) c.read_held.ensures.joins
 
 -- their answers
-run : (g : Over) (c : After-answer g) → RunOf (g.A.Answerer.answers c.args.answerer.now) c.loop-found.state ((come g (goal.at.After-answer g c).In-Ok-turn_to_next).come ++ c.read_held.ensures.given) c.answer.new.self.given c.answer.new.state
+run : (g : Over) (c : After-answer g) → RunOf (g.A.Answerer.answers c.args.answerer.now) c.loop-found.state ((come g (goal.at.After-answer g c).In-Ok-turn_to_next).come ++ c.read_held.ensures.joins.given) c.answer.new.self.given c.answer.new.state
 run g c =
     let all = asked g (goal.at.After-answer g c).After-begin in
-    c.answer.ensures.answered _ (c.read_held.ensures.asked _ (rw c.begin.ensures all))
+    c.answer.ensures.answered _ (c.read_held.ensures.joins.asked _ (rw c.begin.ensures all))
 
 pub returns-in_default-pass_on-clause-lines : goal.returns-in_default-pass_on-clause-lines
 returns-in_default-pass_on-clause-lines g c =
@@ -70,10 +70,11 @@ pub loop-found-preserved : goal.loop-found-preserved
 loop-found-preserved g c =
     let p = (goal.at.loop-found-preserved g c).After-answer in
     let o = owing g (goal.at.loop-found-preserved g c).After-read_held in
-    let given = c.read_held.ensures.given in
+    let given = c.read_held.ensures.joins.given in
     let some = asks_some _ _ given _ (asked g (goal.at.loop-found-preserved g c).After-begin) in
     record {
       holds = c.answer.ensures.kept;
+      told = inr c.answer.ensures.told;
       answering =
           rw c.given-in-loop-found.ensures
           (answering_passed _ _ _ _ _ _ _ _ _ _ _ _ _ _ _ _ o _ _ _ _ some (run g p)
