@@ -1,4 +1,6 @@
 mod Views
 mod Steps
 mod Moves
+mod Calls
+mod Looks
 mod Values

@@ -4,13 +4,15 @@ use Rattle.ring_inbox.specs.declared.rule.Known.{Known}
 
 module _ {T : Type 0} where
   -- what the receiver's pass knows
-  abbrev pub receiver : ℕ → ℕ → List (ℕ × T) → Known T
-  receiver capacity made taken = record { sends = false; gets = true; capacity = capacity; number = 0; stored = []; made = made; taken = taken }
+  abbrev pub receiver : ℕ → ℕ → ℕ → List (ℕ × T) → List (ℕ × ℕ) → Known T
+  receiver capacity senders made taken heard =
+      record { sends = false; gets = true; capacity = capacity; senders = senders; number = 0; stored = []; seen = 0; made = made; taken = taken; heard = heard }
 
   -- what a sender's pass knows
-  abbrev pub sender : ℕ → ℕ → List T → Known T
-  sender capacity number stored = record { sends = true; gets = false; capacity = capacity; number = number; stored = stored; made = 0; taken = [] }
+  abbrev pub sender : ℕ → ℕ → ℕ → List T → ℕ → Known T
+  sender capacity senders number stored seen =
+      record { sends = true; gets = false; capacity = capacity; senders = senders; number = number; stored = stored; seen = seen; made = 0; taken = []; heard = [] }
 
   -- what a pass knows that is used no more
   abbrev pub nobody : Known T
-  nobody = record { sends = false; gets = false; capacity = 0; number = 0; stored = []; made = 0; taken = [] }
+  nobody = record { sends = false; gets = false; capacity = 0; senders = 0; number = 0; stored = []; seen = 0; made = 0; taken = []; heard = [] }

@@ -1,2 +1,1 @@
-pub mod Inbox
 pub mod Rule

@@ -12,9 +12,10 @@ use crossbeam_channel::{Pass, RuledSender, bounded_with};
 use std::alloc::{AllocError, Global};
 use std::marker::Brand;
 
-/// An empty inbox that holds at most `capacity` items, with one receiver and this many senders, numbered from 0; both
-/// numbers are at least 1. From each sender to the receiver it is a reliable FIFO channel (Lynch, Distributed Algorithms,
-/// 14.1.2), but all senders share its one queue. It is refused for want of memory alone.
+/// Returns the receiver and the `senders` senders, numbered from 0, of an empty inbox that holds at
+/// most `capacity` items. Both numbers are at least 1. From each sender to the receiver it is a
+/// reliable FIFO channel (Lynch, Distributed Algorithms, 14.1.2), but all senders share one queue.
+/// Fails only if an allocation fails.
 pub fn inbox<T: Drop>(
     alloc: Global,
     capacity: usize,
@@ -25,11 +26,13 @@ pub fn inbox<T: Drop>(
     ensures capacity { IfOk result (λ r. r.0.inbox.capacity ≡ capacity) }
     ensures receiver { IfOk result (λ r. (r.0.senders ≡ senders) × (r.0.taken ≡ [])) }
     ensures senders { IfOk result (λ r. r.1.items ≡ map (fresh_sender r.0.inbox) (range_with_len 0 senders)) }
+    ensures places { IfOk result (λ r. r.0.inbox.senders ≡ senders) }
+    ensures heard { IfOk result (λ r. r.0.heard ≡ []) }
 {
     let (to, from, mut pass) = bounded_with::<(usize, T), Known<T>, InOrder, Global>(
         alloc, capacity,
     )?;
-    size::<Brand, T>(&to, &mut pass);
+    size::<Brand, T>(&to, &mut pass, senders);
     let mut all = Vec::new(alloc);
     for number in 0..senders {
         let one = SenderPass {
@@ -42,15 +45,17 @@ pub fn inbox<T: Drop>(
     Ok((ReceiverPass { from, pass }, all))
 }
 
-// Writes the capacity into what the receiver's pass knows.
+// Writes the capacity, and how many senders there will be, into what the receiver's pass knows.
 fn size<K: Room, T: Drop>(
     to: &RuledSender<(usize, T), Known<T>, InOrder>,
     pass: &mut Pass<(usize, T), Known<T>>,
+    senders: usize,
 )
+    requires places { K.senders ≡ senders }
     requires seat { IsSeatAt (sends_on to.now) pass.old }
-    requires first { view pass.old ≡ receiver 0 0 [] }
+    requires first { view pass.old ≡ receiver 0 0 0 [] [] }
     ensures seat { IsSeatAt (sends_on to.now) pass.new }
-    ensures sized { view pass.new ≡ receiver K.capacity 0 [] }
+    ensures sized { view pass.new ≡ receiver K.capacity K.senders 0 [] [] }
 {
     let _spent = to.another::<Sizes<K>>(pass);
 }

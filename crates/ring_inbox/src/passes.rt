@@ -1,10 +1,10 @@
 //! The two kinds of pass of an inbox, and what they may do.
-ghost use Rattle.std.specs.Prelude.{◌≡◌};
+ghost use Rattle.std.specs.Prelude.{◌≡◌, ◌+◌, ◌≤◌, [], ◌∷◌, ◌++◌, length};
 ghost use mathlib.Core.List.{IsPrefix};
 ghost use Rattle.ring_inbox.specs.Inbox.{items_of};
-ghost use Rattle.ring_inbox.specs.Passes.{AfterPut, AfterTake, AfterTryTake, IsNumbered, IsNumberedIfTaken};
+ghost use Rattle.ring_inbox.specs.Passes.{AfterPut, AfterTake, AfterTryTake, IsClosedAfterAll, IsEmptyAfterAll, IsFullIfAlone, IsNumbered, IsNumberedIfTaken, PutMoment, TakeMoment, TryTakeMoment};
 
-use crate::rule::{InOrder, Known, Meets, Stores, Takes};
+use crate::rule::{Hears, InOrder, Known, Meets, Stores, Takes, Tells};
 use crossbeam_channel::{Pass, RuledReceiver, RuledSender, TrySendError};
 use std::marker::Model;
 use std::sync::Wait;
@@ -13,11 +13,11 @@ use std::sync::Wait;
 #[must_use]
 #[derive(Debug, Drop, PartialEq, Eq)]
 pub enum Put<T> {
-    /// It stands at the back of the queue.
+    /// It was stored at the back of the queue.
     Stored,
-    /// The channel says that the queue was full, which isn't claimed: the item is given back.
+    /// The queue was full at a moment since the sender last stored an item. The item is given back.
     Full(T),
-    /// The channel says that the receiver ended, which isn't claimed: the item is given back.
+    /// The channel says that the receiver ended, which isn't claimed. The item is given back.
     Gone(T),
 }
 
@@ -27,7 +27,8 @@ pub enum Put<T> {
 pub enum Take<T> {
     /// The number of a sender, and the oldest item of the queue, which that sender stored.
     Taken(usize, T),
-    /// The channel says that all senders ended and nothing is left, which isn't claimed.
+    /// The queue was empty at a moment since the receiver last took an item. The channel says that
+    /// all senders ended, which isn't claimed.
     Closed,
 }
 
@@ -37,11 +38,12 @@ pub enum Take<T> {
 pub enum TryTake<T> {
     /// The number of a sender, and the oldest item of the queue, which that sender stored.
     Taken(usize, T),
-    /// The channel says that the queue was empty, which isn't claimed.
+    /// The queue was empty at a moment since the receiver last took an item.
     Empty,
 }
 
-/// The pass of one sender. Contracts see its inbox, its number there, and what it has stored, in order.
+/// The pass of one sender. Contracts see its inbox, its number there, and what it has stored, in
+/// order. They also see how many items the receiver had taken when the sender last heard it, or 0.
 #[derive(Drop)]
 pub struct SenderPass<T: Drop> {
     pub(crate) to: RuledSender<(usize, T), Known<T>, InOrder>,
@@ -59,12 +61,13 @@ impl<T: Drop> Model for SenderPass<T> {
     ghost use Rattle.crossbeam_channel.specs.Ends.{sends_on, ruled_capacity};
     ghost use Rattle.ring_inbox.specs.Rule.{sender};
 
-    ghost view = { λ s. record { inbox = name_of (ruled_capacity (sends_on s.to)) s.pass; number = s.number; stored = (known s.pass).stored } };
+    ghost view = { λ s. record { inbox = name_of (ruled_capacity (sends_on s.to)) (known s.pass).senders s.pass; number = s.number; stored = (known s.pass).stored; heard = (known s.pass).seen } };
 
-    ghost invariant = { λ s. IsSeatAt (sends_on s.to) s.pass × (known s.pass ≡ sender (ruled_capacity (sends_on s.to)) s.number (known s.pass).stored) };
+    ghost invariant = { λ s. IsSeatAt (sends_on s.to) s.pass × (known s.pass ≡ sender (ruled_capacity (sends_on s.to)) (known s.pass).senders s.number (known s.pass).stored (known s.pass).seen) };
 }
 
-/// The pass of the one receiver. Contracts see its inbox, how many senders that has, and what was taken, in order.
+/// The pass of the one receiver. Contracts see its inbox, how many senders that has, and what was
+/// taken, in order. They also see which senders it heard, and how many items each had stored then.
 #[derive(Drop)]
 pub struct ReceiverPass<T: Drop> {
     pub(crate) from: RuledReceiver<(usize, T), Known<T>, InOrder>,
@@ -81,17 +84,21 @@ impl<T: Drop> Model for ReceiverPass<T> {
     ghost use Rattle.crossbeam_channel.specs.Ends.{receives_on, ruled_capacity};
     ghost use Rattle.ring_inbox.specs.Rule.{receiver};
 
-    ghost view = { λ r. record { inbox = name_of (ruled_capacity (receives_on r.from)) r.pass; senders = (known r.pass).made; taken = (known r.pass).taken } };
+    ghost view = { λ r. record { inbox = name_of (ruled_capacity (receives_on r.from)) (known r.pass).senders r.pass; senders = (known r.pass).made; taken = (known r.pass).taken; heard = (known r.pass).heard } };
 
-    ghost invariant = { λ r. IsSeatAt (receives_on r.from) r.pass × (known r.pass ≡ receiver (ruled_capacity (receives_on r.from)) (known r.pass).made (known r.pass).taken) };
+    ghost invariant = { λ r. IsSeatAt (receives_on r.from) r.pass × (known r.pass ≡ receiver (ruled_capacity (receives_on r.from)) (known r.pass).senders (known r.pass).made (known r.pass).taken (known r.pass).heard) };
 }
 
 impl<T: Drop> SenderPass<T> {
-    /// Stores the item at the back of the queue, or gives it back and changes nothing: `Full` where the channel says that
-    /// there was no room, `Gone` where it says that the receiver ended. What another thread does to the queue is no part
-    /// of a contract, so tests show when these come. It takes no memory. That it returns isn't claimed.
+    /// Stores the item at the back of the queue, or gives it back and changes nothing. `Full` comes
+    /// only if the queue was full at a moment since this sender last stored an item. The only
+    /// sender of an inbox gets it only if it has stored at least `capacity` items more than it
+    /// heard to be taken. When `Gone` comes isn't claimed: tests show it. Does not allocate. That
+    /// it returns isn't claimed.
     pub fn put<R: Wait>(&mut self, rt: &R, item: T) -> Put<T>
-        ensures { AfterPut self.old item result self.new }
+        ensures pass { AfterPut self.old item result self.new }
+        ensures moment { PutMoment self.old item result }
+        ensures full { IsFullIfAlone self.old result }
     {
         let message = (self.number, item);
         match self
@@ -104,13 +111,15 @@ impl<T: Drop> SenderPass<T> {
         }
     }
 
-    /// Shows, where a sender and the receiver of one inbox are in one thread, that what was taken of the sender is a prefix
-    /// of what it stored: no item is lost, doubled, or out of its turn. It is for proofs: nothing is put or taken, neither
-    /// pass changes, and the receiver is handed back.
+    /// Hands the receiver back, and shows that what was taken of the sender is a prefix of what it
+    /// stored: no item is lost, doubled, or out of its turn. At most `capacity` items are stored
+    /// and not taken. Both passes are in one thread. It is for proofs: nothing is put or taken, and
+    /// neither pass changes.
     pub fn meet(&mut self, receiver: ReceiverPass<T>) -> ReceiverPass<T>
         requires { receiver.inbox ≡ self.old.inbox }
         ensures same { (self.new ≡ self.old) × (result ≡ receiver) }
         ensures prefix { IsPrefix (items_of self.old.number receiver.taken) self.old.stored }
+        ensures within { length self.old.stored ≤ length (items_of self.old.number receiver.taken) + self.old.inbox.capacity }
     {
         let ReceiverPass { from, pass } = receiver;
         self.to.absorb::<Meets>(&mut self.pass, pass);
@@ -118,14 +127,48 @@ impl<T: Drop> SenderPass<T> {
         let pass = self.to.another::<Meets>(&mut self.pass);
         ReceiverPass { from, pass }
     }
+
+    /// Hands the receiver back, and remembers how many items it has taken. Both passes are in one
+    /// thread. It is for proofs: nothing is put or taken, and the receiver does not change. If the
+    /// inbox has no other sender, a later `put` returns `Full` only if this one has stored at least
+    /// `capacity` items more than that.
+    pub fn hear(&mut self, receiver: ReceiverPass<T>) -> ReceiverPass<T>
+        requires { receiver.inbox ≡ self.old.inbox }
+        ensures heard { self.new ≡ record self.old { heard = length receiver.taken } }
+        ensures same { result ≡ receiver }
+    {
+        let ReceiverPass { from, pass } = receiver;
+        self.to.absorb::<Meets>(&mut self.pass, pass);
+        let pass = self.to.another::<Tells>(&mut self.pass);
+        ReceiverPass { from, pass }
+    }
 }
 
 impl<T: Drop> ReceiverPass<T> {
-    /// Waits for an item, and takes the oldest of the queue, or says `Closed` and changes nothing. It takes no memory.
-    /// That it returns isn't claimed, nor when `Closed` comes: tests show it.
+    /// Returns the receiver, which remembers how many items the sender has stored. Both passes are
+    /// in one thread. It is for proofs: nothing is put or taken, and the sender does not change. A
+    /// later `try_take` returns `Empty`, and a later `take` returns `Closed`, only if that many
+    /// items of the sender were taken.
+    pub fn hear(self, sender: &mut SenderPass<T>) -> ReceiverPass<T>
+        requires { self.inbox ≡ sender.old.inbox }
+        ensures heard { result ≡ record self { heard = self.heard ++ (sender.old.number, length sender.old.stored) ∷ [] } }
+        ensures same { sender.new ≡ sender.old }
+    {
+        let ReceiverPass { from, pass } = self;
+        sender.to.absorb::<Meets>(&mut sender.pass, pass);
+        let pass = sender.to.another::<Hears>(&mut sender.pass);
+        ReceiverPass { from, pass }
+    }
+
+    /// Waits for an item, and takes the oldest of the queue, or returns `Closed` and changes
+    /// nothing. `Closed` comes only if the queue was empty at a moment since an item was last
+    /// taken, and all was taken that the receiver heard to be stored. That all senders ended isn't
+    /// claimed: tests show it. Does not allocate. That it returns isn't claimed.
     pub fn take<R: Wait>(&mut self, rt: &R) -> Take<T>
         ensures pass { AfterTake self.old result self.new }
         ensures sender { IsNumbered self.old result }
+        ensures moment { TakeMoment self.old result }
+        ensures closed { IsClosedAfterAll self.old result }
     {
         match self.from.recv_as::<Takes, R>(rt, &mut self.pass) {
             Ok((sender, item)) => Take::Taken(sender, item),
@@ -133,11 +176,14 @@ impl<T: Drop> ReceiverPass<T> {
         }
     }
 
-    /// Takes the oldest item of the queue, or says `Empty` and changes nothing. Tests show when `Empty` comes. It takes no
-    /// memory. That it returns isn't claimed.
+    /// Takes the oldest item of the queue, or returns `Empty` and changes nothing. `Empty` comes
+    /// only if the queue was empty at a moment since an item was last taken, and all was taken that
+    /// the receiver heard to be stored. Does not allocate. That it returns isn't claimed.
     pub fn try_take<R: Wait>(&mut self, rt: &R) -> TryTake<T>
         ensures pass { AfterTryTake self.old result self.new }
         ensures sender { IsNumberedIfTaken self.old result }
+        ensures moment { TryTakeMoment self.old result }
+        ensures empty { IsEmptyAfterAll self.old result }
     {
         match self.from.try_recv_as::<Takes, R>(rt, &mut self.pass) {
             Ok((sender, item)) => TryTake::Taken(sender, item),

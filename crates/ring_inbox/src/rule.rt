@@ -6,16 +6,21 @@ use crossbeam_channel::protocol::{Join, Lesson, Outcome, Protocol, Split};
 use std::collections::LinkedList;
 use std::marker::{Brand, PhantomData};
 
-// What a pass knows: whether it may send or receive, how many items the inbox holds at most, a sender's number and what
-// it stored, how many senders the receiver has made and what it took. No value of it is made.
+// What a pass knows: whether it may send or receive, how many items the inbox holds at most, and
+// how many senders it has in the end. Of a sender: its number, what it stored, and how many items
+// it heard that the receiver took. Of the receiver: how many senders it has made, what it took, and
+// how many items it heard that a sender stored. No value of it is made.
 pub struct Known<T> {
     pub sends: bool,
     pub gets: bool,
     pub capacity: u64,
+    pub senders: u64,
     pub number: u64,
     pub stored: LinkedList<T>,
+    pub seen: u64,
     pub made: u64,
     pub taken: LinkedList<(usize, T)>,
+    pub heard: LinkedList<(u64, u64)>,
 }
 
 // The rule of an inbox.
@@ -28,25 +33,30 @@ impl<T> Protocol<(usize, T), Known<T>> for InOrder {
 
     ghost holds = { Holds };
 
-    ghost first = { receiver 0 0 [] };
+    ghost first = { receiver 0 0 0 [] [] };
 }
 
-// How many items an inbox holds at most. The call that makes the inbox picks it.
+// How many items an inbox holds at most, and how many senders it has. The call that makes the inbox
+// picks both.
 pub trait Room {
     ghost capacity: { ℕ };
+
+    ghost senders: { ℕ };
 }
 
 impl Room for Brand {
     ghost capacity = { 0 };
+
+    ghost senders = { 0 };
 }
 
-// The step that fixes the capacity, before there are senders.
+// The step that fixes both, before there are senders.
 pub struct Sizes<K>(PhantomData<K>);
 
 impl<T, K: Room> Split<Known<T>> for Sizes<K> {
     ghost use Rattle.ring_inbox.specs.Rule.{receiver, nobody};
 
-    ghost left = { λ v. receiver K.capacity v.made v.taken };
+    ghost left = { λ v. receiver K.capacity K.senders v.made v.taken v.heard };
 
     ghost right = { λ v. nobody };
 }
@@ -58,9 +68,9 @@ impl<T> Split<Known<T>> for Makes {
     ghost use Rattle.std.specs.Prelude.{◌+◌, []};
     ghost use Rattle.ring_inbox.specs.Rule.{receiver, sender};
 
-    ghost left = { λ v. receiver v.capacity (v.made + 1) v.taken };
+    ghost left = { λ v. receiver v.capacity v.senders (v.made + 1) v.taken v.heard };
 
-    ghost right = { λ v. sender v.capacity v.made [] };
+    ghost right = { λ v. sender v.capacity v.senders v.made [] 0 };
 }
 
 // The steps by which a sender takes in what the receiver knows, compares, and gives it back.
@@ -70,26 +80,51 @@ impl<T> Join<Known<T>> for Meets {
     ghost use Rattle.ring_inbox.specs.private.Rule.{met};
     ghost use Rattle.ring_inbox.specs.Rule.{nobody};
 
-    ghost both = { λ v w. met v.capacity v.number v.stored w.made w.taken };
+    ghost both = { λ v w. met v.capacity v.senders v.number v.stored v.seen w.made w.taken w.heard };
 
     ghost spent = { nobody };
 }
 
 impl<T> Lesson<(usize, T), Known<T>> for Meets {
-    ghost use Rattle.ring_inbox.specs.private.Rule.{IsPrefixTaken};
+    ghost use Rattle.ring_inbox.specs.private.Rule.{Compares};
 
-    ghost fact = { λ v queue. IsPrefixTaken v };
+    ghost fact = { λ v queue. Compares v };
 }
 
 impl<T> Split<Known<T>> for Meets {
     ghost use Rattle.ring_inbox.specs.Rule.{receiver, sender};
 
-    ghost left = { λ v. sender v.capacity v.number v.stored };
+    ghost left = { λ v. sender v.capacity v.senders v.number v.stored v.seen };
 
-    ghost right = { λ v. receiver v.capacity v.made v.taken };
+    ghost right = { λ v. receiver v.capacity v.senders v.made v.taken v.heard };
 }
 
-// The step of a sender that stores; its look at a full queue tells nothing.
+// The step by which the receiver is given back, and has heard how many items the sender has stored.
+pub struct Hears;
+
+impl<T> Split<Known<T>> for Hears {
+    ghost use Rattle.std.specs.Prelude.{[], ◌∷◌, ◌++◌, length};
+    ghost use Rattle.ring_inbox.specs.Rule.{receiver, sender};
+
+    ghost left = { λ v. sender v.capacity v.senders v.number v.stored v.seen };
+
+    ghost right = { λ v. receiver v.capacity v.senders v.made v.taken (v.heard ++ (v.number, length v.stored) ∷ []) };
+}
+
+// The step by which the receiver is given back, and the sender has heard how many items it has
+// taken.
+pub struct Tells;
+
+impl<T> Split<Known<T>> for Tells {
+    ghost use Rattle.std.specs.Prelude.{length};
+    ghost use Rattle.ring_inbox.specs.Rule.{receiver, sender};
+
+    ghost left = { λ v. sender v.capacity v.senders v.number v.stored (length v.taken) };
+
+    ghost right = { λ v. receiver v.capacity v.senders v.made v.taken v.heard };
+}
+
+// The step of a sender that stores, and what its look at a full queue tells.
 pub struct Stores;
 
 impl<T> Outcome<(usize, T), Known<T>> for Stores {
@@ -99,12 +134,12 @@ impl<T> Outcome<(usize, T), Known<T>> for Stores {
 }
 
 impl<T> Lesson<(usize, T), Known<T>> for Stores {
-    ghost use Rattle.ring_inbox.specs.private.Rule.{SaysNothing};
+    ghost use Rattle.ring_inbox.specs.private.Rule.{SenderSees};
 
-    ghost fact = { SaysNothing };
+    ghost fact = { SenderSees };
 }
 
-// The step of the receiver that takes; its look at an empty queue tells nothing.
+// The step of the receiver that takes, and what its look at an empty queue tells.
 pub struct Takes;
 
 impl<T> Outcome<(usize, T), Known<T>> for Takes {
@@ -114,7 +149,7 @@ impl<T> Outcome<(usize, T), Known<T>> for Takes {
 }
 
 impl<T> Lesson<(usize, T), Known<T>> for Takes {
-    ghost use Rattle.ring_inbox.specs.private.Rule.{SaysNothing};
+    ghost use Rattle.ring_inbox.specs.private.Rule.{ReceiverSees};
 
-    ghost fact = { SaysNothing };
+    ghost fact = { ReceiverSees };
 }
