@@ -6,6 +6,7 @@
 //!
 //! A `Recorded` is the same table over a `Recorder`, which decides what is kept of each entry. With
 //! `Unkept` that is only how many entries there are: the history then exists in the contracts alone.
+//! Contracts see too how many of the first entries are kept for good. After `settle` they all are.
 #![tactic(auto)]
 
 mod access;

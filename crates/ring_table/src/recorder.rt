@@ -1,4 +1,4 @@
-ghost use Rattle.std.specs.Prelude.{◌≡◌, ◌<◌, ◌++◌, ◌∷◌, [], length, OnOk};
+ghost use Rattle.std.specs.Prelude.{◌≡◌, ◌<◌, ◌≤◌, ◌++◌, ◌∷◌, [], length, ◌↔◌, IsTrue, OnOk};
 ghost use Rattle.ring_table.specs.Accesses.{filing};
 ghost use Rattle.ring_table.specs.declared.entry.Entry.TheVariants as entry;
 
@@ -10,10 +10,12 @@ use ring_node::Report;
 use ring_terms::Noting;
 use std::alloc::Global;
 use std::marker::Model;
+use std::sync::Wait;
 
 /// What keeps the entries of a table: in memory, in another place, or not at all.
 ///
-/// Contracts see the entries that were recorded, in order, and for how many more there is room.
+/// Contracts see the entries that were recorded, in order, for how many more there is room, and how
+/// many of the first ones are kept for good.
 pub trait Recorder<E: RingElection> {
     ghost use Rattle.std.specs.Prelude.{List, ℕ};
     ghost use Rattle.ring_table.specs.declared.entry.Entry.{Entry};
@@ -24,6 +26,9 @@ pub trait Recorder<E: RingElection> {
     // for how many more entries there is room
     ghost room: { Self → ℕ };
 
+    // how many of the first entries are kept for good
+    ghost sure: { Self → ℕ };
+
     /// Returns the number of entries. Does not allocate.
     fn count(&self) -> usize
         ensures { result ≡ length (entries self.now) };
@@ -31,20 +36,35 @@ pub trait Recorder<E: RingElection> {
     /// Finds room for one more entry. The entries stay as they were. Fails only if an allocation fails.
     fn reserve(&mut self) -> Result<(), NoMemory>
         ensures items { entries self.new ≡ entries self.old }
-        ensures room { OnOk result (0 < room self.new) };
+        ensures room { OnOk result (0 < room self.new) }
+        ensures sure { sure self.old ≤ sure self.new };
 
     /// Records a session's command and its reply as the last entry. There must be room for it.
     fn record_call(&mut self, session: u32, command: Command<E>, reply: &Reply)
         requires { 0 < room self.old }
-        ensures { entries self.new ≡ entries self.old ++ entry.Call session command reply.now ∷ [] };
+        ensures added { entries self.new ≡ entries self.old ++ entry.Call session command reply.now ∷ [] }
+        ensures sure { sure self.old ≤ sure self.new };
 
     /// Records a report and what became of it as the last entry. There must be room for it.
     fn record_filing(&mut self, report: &Report<E>, noting: Noting)
         requires { 0 < room self.old }
-        ensures { entries self.new ≡ entries self.old ++ filing report.now noting ∷ [] };
+        ensures added { entries self.new ≡ entries self.old ++ filing report.now noting ∷ [] }
+        ensures sure { sure self.old ≤ sure self.new };
+
+    /// Returns whether all entries are kept for good. Does not allocate.
+    fn is_settled(&self) -> bool
+        ensures { IsTrue result ↔ (sure self.now ≡ length (entries self.now)) };
+
+    /// Has all entries kept for good. It may wait, and does not return if they cannot be kept.
+    fn settle<R: Wait>(&mut self, rt: &R)
+        ensures items { entries self.new ≡ entries self.old }
+        ensures sure { sure self.old ≤ sure self.new }
+        ensures all { length (entries self.new) ≤ sure self.new };
 }
 
 /// A recorder that keeps the number of entries and nothing else. Its size does not grow.
+///
+/// There is nothing to settle: each entry counts as kept for good.
 ///
 /// Contracts see its entries and the room for more.
 #[derive(Drop)]
@@ -74,9 +94,13 @@ impl<E> Unkept<E> {
 }
 
 impl<E: RingElection> Recorder<E> for Unkept<E> {
+    ghost use Rattle.std.specs.Prelude.{length};
+
     ghost entries = { λ a. a.items };
 
     ghost room = { λ a. a.room };
+
+    ghost sure = { λ a. length a.items };
 
     fn count(&self) -> usize {
         self.entries.len()
@@ -89,7 +113,8 @@ impl<E: RingElection> Recorder<E> for Unkept<E> {
 
     fn record_call(&mut self, session: u32, command: Command<E>, reply: &Reply)
         requires { 0 < self.old.room }
-        ensures { self.new.items ≡ self.old.items ++ entry.Call session command reply.now ∷ [] }
+        ensures added { self.new.items ≡ self.old.items ++ entry.Call session command reply.now ∷ [] }
+        ensures sure { length self.old.items ≤ length self.new.items }
     {
         self.entries
             .push_reserved(Trace::of_call(session, command, reply));
@@ -97,8 +122,15 @@ impl<E: RingElection> Recorder<E> for Unkept<E> {
 
     fn record_filing(&mut self, report: &Report<E>, noting: Noting)
         requires { 0 < self.old.room }
-        ensures { self.new.items ≡ self.old.items ++ filing report.now noting ∷ [] }
+        ensures added { self.new.items ≡ self.old.items ++ filing report.now noting ∷ [] }
+        ensures sure { length self.old.items ≤ length self.new.items }
     {
         self.entries.push_reserved(Trace::of_filing(report, noting));
     }
+
+    fn is_settled(&self) -> bool {
+        true
+    }
+
+    fn settle<R: Wait>(&mut self, _rt: &R) {}
 }

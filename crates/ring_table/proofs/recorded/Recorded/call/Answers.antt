@@ -7,5 +7,5 @@ use Rattle.ring_table.proofs.recorded.Recorded.call.Goals as goal
 pub invariant_of-self-2 : goal.invariant_of-self-2
 invariant_of-self-2 g c =
     let granted : c.perform-reply.result ≡ starved → ⊥ = search rules in
-    rw (c.record_call.ensures, c.in-Ok.ensures.items)
+    rw (c.record_call.ensures.added, c.in-Ok.ensures.items)
     (follows_more _ _ _ _ _ _ _ c.self.invariant (record { step = c.perform-reply.ensures; granted = granted }))
