@@ -1,6 +1,6 @@
 //! How a turn lock is opened over a table, and how it is closed.
 ghost use Rattle.std.specs.Prelude.{◌≡◌, ℕ, ◌*◌, ◌^◌, ◌<◌, IfOk};
-ghost use Rattle.ring_turn.specs.Calls.{Closes};
+ghost use Rattle.ring_turn.specs.Calls.{AreKept, Closes};
 ghost use Rattle.ring_turn.specs.Seats.{HasAllSeats, fresh_seats};
 ghost use Rattle.ring_turn.specs.private.Seats.{IsOpened};
 
@@ -71,6 +71,7 @@ impl<E: RingElection, T: Tabled<E> + Drop> TurnLock<E, T> {
             all.push_reserved(Seat {
                 place,
                 left: turns,
+                is_settled: true,
                 keeps: false,
                 hand: None,
             });
@@ -88,11 +89,12 @@ impl<E: RingElection, T: Tabled<E> + Drop> TurnLock<E, T> {
     ///
     /// The table's history is the one that the lock was opened with, followed by the entries that the
     /// seats made: those of each seat, each once, in its order, and no others. It begins with what each
-    /// seat has seen. The condition is that each seat is one of this lock and that none is missing.
-    /// Takes no memory.
+    /// seat has seen. The table keeps for good each entry of which a seat knows that. The condition is that
+    /// each seat is one of this lock and that none is missing. Takes no memory.
     pub fn close(self, seats: Vec<Seat<E, T>>) -> T
         requires { HasAllSeats self seats.items }
-        ensures { Closes E.is_two_way E.is_greatest self seats.items (T.shows result) }
+        ensures closes { Closes E.is_two_way E.is_greatest self seats.items (T.shows result) }
+        ensures kept { AreKept seats.items (T.sure result) }
     {
         let TurnLock {
             alloc: _,
@@ -105,6 +107,7 @@ impl<E: RingElection, T: Tabled<E> + Drop> TurnLock<E, T> {
             let Seat {
                 mut place,
                 left: _,
+                is_settled: _,
                 keeps: _,
                 hand,
             } = seat;

@@ -1,6 +1,7 @@
 //! The turn lock as an access to its table.
 ghost use Rattle.std.specs.Prelude.{◌≡◌, map};
 ghost use Rattle.ring_table.specs.Accesses.{AnswersAtSeat, BeginsAtSeat, Reports};
+ghost use Rattle.ring_turn.specs.Seats.{Settled};
 
 use crate::lock::TurnLock;
 use crate::seat::Seat;
@@ -13,11 +14,15 @@ use ring_table::{Access, Answer, Filed, Tabled};
 use std::sync::{Arc, Wait};
 
 impl<E: RingElection, T: Tabled<E> + Drop> Access<E> for TurnLock<E, T> {
+    ghost use Rattle.ring_turn.specs.Seats.{Settled};
+
     type Seat = Seat<E, T>;
 
     ghost has_seat = { λ lock seat. seat.lock ≡ lock.id };
 
     ghost mine = { λ seat. seat.mine };
+
+    ghost is_settled = { Settled };
 
     fn queue<R: Wait>(&self, rt: &R) -> Queued<'_> {
         Some(TurnLock::queue(self, rt))
@@ -73,5 +78,14 @@ impl<E: RingElection, T: Tabled<E> + Drop> Access<E> for TurnLock<E, T> {
         ensures entry { Reports E.is_greatest report.now seat.old.mine result seat.new.mine }
     {
         TurnLock::report(self, rt, seat, report)
+    }
+
+    fn settle<R: Wait>(&self, rt: &R, seat: &mut Seat<E, T>)
+        requires { seat.old.lock ≡ self.now.id }
+        ensures seat { seat.new.lock ≡ self.now.id }
+        ensures entries { seat.new.mine ≡ seat.old.mine }
+        ensures settled { Settled seat.new }
+    {
+        TurnLock::settle(self, rt, seat);
     }
 }
