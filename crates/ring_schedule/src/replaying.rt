@@ -13,6 +13,8 @@ use std::alloc::Global;
 struct Replayer;
 
 impl Answerer for Replayer {
+    ghost use Rattle.std.specs.Prelude.{◌≡◌};
+    ghost use Rattle.ring_lines.specs.laws.Settling.{stays_settled};
     ghost use Rattle.ring_schedule.specs.Replay.{RepliesTo};
     ghost use Rattle.ring_schedule.specs.private.Asking.{AsksEvent};
 
@@ -27,6 +29,10 @@ impl Answerer for Replayer {
     ghost asks = { AsksEvent };
 
     ghost answers = { λ _. RepliesTo };
+
+    ghost settles = { λ _ old new. new ≡ old };
+
+    ghost may_tell = { λ _ _. Unit {0} };
 
     fn read(&self, line: &[u8]) -> Option<Event<Any>> {
         parse_event(line)
@@ -50,6 +56,10 @@ impl Answerer for Replayer {
     }
 
     fn rest(&self, _state: &mut Mux<Any, AnyTraffic>) {}
+
+    fn settle(&self, _state: &mut Mux<Any, AnyTraffic>) {}
+
+    ghost settles_behind = { λ _. stays_settled (λ mux. mux) RepliesTo };
 }
 
 /// Answers a schedule: each line of the reader by one line to the writer, from no groups at all.

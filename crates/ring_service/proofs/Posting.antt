@@ -1,11 +1,15 @@
--- Posting: the begins that wait are tried in order, one at a time.
-use Rattle.std.proofs.Common.{◌≡◌, ◌+◌, ◌<◌, ◌≤◌, ℕ, zero, suc, List, [], ◌∷◌, ◌++◌, Some, length, slice_get, set, refl, sym, ap, ◌∙◌, subst, inl, inr, append_assoc, append-nil, eq-eqb, arith}
+-- Posting: the begins that wait are tried in order, one at a time, and those of terms are added.
+use Rattle.std.proofs.Common.{◌≡◌, ◌+◌, ◌<◌, ◌≤◌, ℕ, zero, suc, List, [], ◌∷◌, ◌++◌, Some, length, slice_get, map, set, refl, sym, ap, ◌∙◌, subst, inl, inr, append_assoc, append-nil, eq-eqb, arith}
+use Rattle.std.specs.Global.{Global}
 use Rattle.std.specs.Prelude.{All}
-use Rattle.std.proofs.lemmas.List.{length-append, length-set}
+use Rattle.std.specs.declared.sync.Arc.{Arc}
+use Rattle.std.proofs.lemmas.List.{length-append, length-set, map_push}
+use Rattle.std.proofs.lemmas.List.FromFn.{map-range_with_len_more}
 use Rattle.std.proofs.lemmas.Bool.{cases_eq, ne_eqb}
 use Rattle.ring_any.specs.declared.any.Any.{Any}
 use Rattle.ring_inbox.specs.Values.{SenderLog}
-use Rattle.ring_service.specs.private.Posts.{MakeUp, StoresBegins, Tries, begins_to}
+use Rattle.ring_node.specs.declared.charter.Charter.{Charter}
+use Rattle.ring_service.specs.private.Posts.{MakeUp, StoresBegins, Tries, begins_to, says, term_begins}
 use Rattle.ring_service.specs.declared.posts.Waiting.{Waiting}
 use Rattle.ring_workers.specs.declared.item.Item.{Item}
 use Rattle.ring_workers.specs.declared.item.Item.TheVariants.{Begin}
@@ -63,6 +67,18 @@ all_first {A} P xs after x is all = let each : All P (x ∷ after) = subst (λ (
 length-none : {A : Type 0} (xs : List A) → length xs ≡ 0 → xs ≡ []
 length-none [] none = refl
 length-none (x ∷ xs) none = absurd (omega arith)
+
+-- the begins of a term for the workers so far, and one more
+pub says_more : (begins : List Waiting) (before : List (ℕ × Charter Any)) (charter copy : Arc (Charter Any) Global) (worker : ℕ)
+    → copy.value ≡ charter.value → map says begins ≡ before ++ term_begins worker charter
+    → map says (begins ++ record { worker = worker; charter = copy } ∷ []) ≡ before ++ term_begins (worker + 1) charter
+says_more begins before charter copy worker same said =
+    let begin : ℕ → ℕ × Charter Any = λ number. (number, charter.value) in
+    map_push says begins (record { worker = worker; charter = copy })
+    ∙ ap (λ (l : List (ℕ × Charter Any)). l ++ (worker, copy.value) ∷ []) said
+    ∙ append_assoc before (term_begins worker charter) ((worker, copy.value) ∷ [])
+    ∙ ap (λ (c : Charter Any). before ++ (term_begins worker charter ++ (worker, c) ∷ [])) same
+    ∙ ap (λ (l : List (ℕ × Charter Any)). before ++ l) (sym (map-range_with_len_more begin 0 worker worker (omega arith)))
 
 module _ {M S : Type 0} where
   -- one begin more is for its worker

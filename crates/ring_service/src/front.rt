@@ -1,4 +1,4 @@
-ghost use Rattle.std.specs.Prelude.{◌≡◌};
+ghost use Rattle.std.specs.Prelude.{◌≡◌, ◌⊎◌};
 ghost use Rattle.ring_any.specs.Any.{any_greatest, any_two_way};
 ghost use Rattle.ring_events.specs.declared.event.Command.TheVariants as command;
 ghost use Rattle.ring_table.specs.Accesses.{AnswersAtSeat};
@@ -10,8 +10,9 @@ use crate::posts::Posts;
 use crate::session::Session;
 use ring_any::Any;
 use ring_events::Command;
-use ring_id::{GroupName, Refusal};
+use ring_id::{GroupName, NoMemory, Refusal};
 use ring_lines::{Intake, LineFault, Outlet, Queued, answer_lines};
+use ring_node::Charter;
 use ring_table::{Access, Answer};
 use std::alloc::Global;
 use std::marker::Model;
@@ -73,6 +74,9 @@ impl<A: Access<Any> + Drop> Front<A> {
     ///
     /// A start that begins a term is put to each worker. What a worker's inbox cannot store waits, and is
     /// tried again before each later command of any session.
+    ///
+    /// Before replies are written, all that they were given from is kept for good. However the session ends,
+    /// the seat that it leaves is settled, or it is as it was.
     pub fn serve<R: Wait, I: Intake, O: Outlet>(
         &self,
         rt: &R,
@@ -85,6 +89,7 @@ impl<A: Access<Any> + Drop> Front<A> {
         requires { A.has_seat self.now seat.old }
         ensures seat { A.has_seat self.now seat.new }
         ensures served { Serves I.read_gives O.write_gives A.mine session seat.old reader.old writer.old reads result seat.new reader.new writer.new }
+        ensures told { (seat.new ≡ seat.old) ⊎ A.is_settled seat.new }
     {
         let session = Session {
             front: self,
@@ -108,6 +113,7 @@ impl<A: Access<Any> + Drop> Front<A> {
         requires { A.has_seat self.now seat.old }
         ensures seat { A.has_seat self.now seat.new }
         ensures served { ServesPlaced I.read_gives O.write_gives A.mine session seat.old reader.old writer.old reads result seat.new reader.new writer.new }
+        ensures told { (seat.new ≡ seat.old) ⊎ A.is_settled seat.new }
     {
         let session = PlacedSession {
             session: Session {
@@ -138,6 +144,17 @@ impl<A: Access<Any> + Drop> Front<A> {
         ensures { seat.new ≡ seat.old }
     {
         self.access.rest(seat);
+    }
+
+    /// Has all that the seat's answers were given from kept for good. It may wait, and does not return if
+    /// that cannot be kept.
+    pub(crate) fn settle<R: Wait>(&self, rt: &R, seat: &mut A::Seat)
+        requires { A.has_seat self.now seat.old }
+        ensures seat { A.has_seat self.now seat.new }
+        ensures entries { A.mine seat.new ≡ A.mine seat.old }
+        ensures settled { A.is_settled seat.new }
+    {
+        self.access.settle(rt, seat);
     }
 
     /// The access's answer to a command of a session. What waits for the workers is tried first.
@@ -180,6 +197,20 @@ impl<A: Access<Any> + Drop> Front<A> {
         posts.try_waiting(rt);
         self.waits.store(!posts.is_idle(), Ordering::SeqCst);
         answer
+    }
+
+    /// Puts a begin for each of these terms to each worker, as a start of the term does. If an allocation
+    /// fails, none is put.
+    pub(crate) fn resume<R: Wait>(
+        &self,
+        rt: &R,
+        charters: &[Arc<Charter<Any>>],
+    ) -> Result<(), NoMemory> {
+        let mut posts = self.posts.lock(rt);
+        let added = posts.add_terms(self.alloc, charters);
+        posts.try_waiting(rt);
+        self.waits.store(!posts.is_idle(), Ordering::SeqCst);
+        added
     }
 
     // Tries the begins that wait, if any may.

@@ -14,6 +14,8 @@ pub(crate) struct PlacedSession<'a, A: Drop, R> {
 }
 
 impl<A: Access<Any> + Drop, R: Wait> Answerer for PlacedSession<'_, A, R> {
+    ghost use Rattle.std.specs.Prelude.{◌≡◌};
+    ghost use Rattle.ring_lines.specs.laws.Settling.{stays_settled};
     ghost use Rattle.ring_service.specs.Places.{PlacesIn};
     ghost use Rattle.ring_service.specs.private.Asking.{AsksCommand};
 
@@ -28,6 +30,10 @@ impl<A: Access<Any> + Drop, R: Wait> Answerer for PlacedSession<'_, A, R> {
     ghost asks = { AsksCommand };
 
     ghost answers = { λ placed line seat answer now. PlacesIn placed.session.number line (A.mine seat) answer (A.mine now) };
+
+    ghost settles = { λ _ seat now. A.mine now ≡ A.mine seat };
+
+    ghost may_tell = { λ _ seat. A.is_settled seat };
 
     fn read(&self, line: &[u8]) -> Option<Command<Any>> {
         self.session.read(line)
@@ -58,4 +64,10 @@ impl<A: Access<Any> + Drop, R: Wait> Answerer for PlacedSession<'_, A, R> {
     fn rest(&self, state: &mut A::Seat) {
         self.session.rest(state);
     }
+
+    fn settle(&self, state: &mut A::Seat) {
+        self.session.settle(state);
+    }
+
+    ghost settles_behind = { λ placed. stays_settled A.mine (PlacesIn placed.session.number) };
 }

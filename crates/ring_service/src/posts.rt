@@ -1,6 +1,7 @@
-ghost use Rattle.std.specs.Prelude.{◌≡◌, ◌<◌, ◌≤◌, ◌+◌, ◌⊎◌, ◌↔◌, [], ◌++◌, All, IsTrue, OnOk, vec_len};
+ghost use Rattle.std.specs.Prelude.{◌≡◌, ◌<◌, ◌≤◌, ◌+◌, ◌⊎◌, ◌↔◌, [], ◌++◌, All, IfOk, IsTrue, OnErr, OnOk, map, vec_len};
+ghost use Rattle.std.specs.List.{flat_map};
 ghost use Rattle.std.specs.VecDeque.{deque_capacity, deque_len};
-ghost use Rattle.ring_service.specs.private.Posts.{PutsBegin, Tries, begins_from};
+ghost use Rattle.ring_service.specs.private.Posts.{AddsTerms, PutsBegin, Tries, begins_from, says, term_begins};
 
 use ring_any::Any;
 use ring_id::NoMemory;
@@ -80,6 +81,26 @@ impl Posts {
         }
     }
 
+    /// Adds a begin of each of these terms for each worker, behind those that wait, in the order of the
+    /// terms. If an allocation fails, none is added.
+    pub(crate) fn add_terms(
+        &mut self,
+        alloc: Global,
+        charters: &[Arc<Charter<Any>>],
+    ) -> Result<(), NoMemory>
+        ensures passes { self.new.passes ≡ self.old.passes }
+        ensures ok { OnOk result (AddsTerms (vec_len self.old.passes) charters.now self.old.waiting.items self.new.waiting.items) }
+        ensures err { OnErr result (self.new.waiting.items ≡ self.old.waiting.items) }
+    {
+        let Ok(mut begins) = begins_of(alloc, charters, self.passes.len()) else {
+            return Err(NoMemory);
+        };
+        let Ok(()) = self.waiting.append(&mut begins) else {
+            return Err(NoMemory);
+        };
+        Ok(())
+    }
+
     /// Tries each begin that waits once, in order. What is not stored goes on waiting, in order. Takes no
     /// memory.
     pub(crate) fn try_waiting<R: Wait>(&mut self, rt: &R)
@@ -107,6 +128,33 @@ impl Posts {
         }
         waiting
     }
+}
+
+// Returns a begin of each of these terms for each of the first `workers` workers.
+fn begins_of(
+    alloc: Global,
+    charters: &[Arc<Charter<Any>>],
+    workers: usize,
+) -> Result<VecDeque<Waiting>, NoMemory>
+    ensures said { IfOk result (λ begins. map says begins.items ≡ flat_map (term_begins workers) charters.now) }
+    ensures known { IfOk result (λ begins. All (λ begin. begin.worker < workers) begins.items) }
+{
+    let mut begins = VecDeque::new(alloc);
+    for charter in charters {
+        for worker in 0..workers {
+            let Ok(copy) = Arc::try_clone(charter) else {
+                return Err(NoMemory);
+            };
+            let begin = Waiting {
+                worker,
+                charter: copy,
+            };
+            let Ok(()) = begins.push_back(begin) else {
+                return Err(NoMemory);
+            };
+        }
+    }
+    Ok(begins)
 }
 
 // Puts a begin into an inbox, or gives it back where the inbox does not store it.

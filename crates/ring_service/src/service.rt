@@ -5,6 +5,8 @@ use crate::front::Front;
 use crate::mesh::{Mesh, open, take_last};
 use crate::posts::{Posts, Waiting};
 use ring_any::Any;
+use ring_id::NoMemory;
+use ring_node::Charter;
 use ring_table::Access;
 use ring_workers::{Gate, Handed, OpenGate, Worker};
 use std::alloc::Global;
@@ -120,6 +122,20 @@ where
         ensures { result.now ≡ self.now }
     {
         &self.front
+    }
+
+    /// Has the workers run these terms, which were running when an earlier process ended. A begin of each
+    /// term is put to each worker, as a start of the term does, in the order of the terms. What a worker's
+    /// inbox cannot store waits, and is tried again before each later command of any session. Fails only if
+    /// an allocation fails; then no begin is put. That the begins come to the workers is tested, not proved.
+    pub fn resume<R: Wait>(
+        &self,
+        rt: &R,
+        charters: Vec<Arc<Charter<Any>>>,
+    ) -> Result<(), NoMemory> {
+        let resumed = self.front.resume(rt, &charters);
+        drop(charters);
+        resumed
     }
 
     /// Ends the service. The begins that wait are tried once, each worker is told to stop, and what they

@@ -31,6 +31,8 @@ impl<'b, A: Access<Any> + Drop, R: Wait> Session<'b, A, R> {
 }
 
 impl<A: Access<Any> + Drop, R: Wait> Answerer for Session<'_, A, R> {
+    ghost use Rattle.std.specs.Prelude.{◌≡◌};
+    ghost use Rattle.ring_lines.specs.laws.Settling.{stays_settled};
     ghost use Rattle.ring_service.specs.Sessions.{AnswersIn};
     ghost use Rattle.ring_service.specs.private.Asking.{AsksCommand};
 
@@ -45,6 +47,10 @@ impl<A: Access<Any> + Drop, R: Wait> Answerer for Session<'_, A, R> {
     ghost asks = { AsksCommand };
 
     ghost answers = { λ session line seat reply now. AnswersIn session.number line (A.mine seat) reply (A.mine now) };
+
+    ghost settles = { λ _ seat now. A.mine now ≡ A.mine seat };
+
+    ghost may_tell = { λ _ seat. A.is_settled seat };
 
     fn read(&self, line: &[u8]) -> Option<Command<Any>> {
         parse_command(line)
@@ -76,4 +82,10 @@ impl<A: Access<Any> + Drop, R: Wait> Answerer for Session<'_, A, R> {
     fn rest(&self, state: &mut A::Seat) {
         self.front.rest(state);
     }
+
+    fn settle(&self, state: &mut A::Seat) {
+        self.front.settle(self.rt, state);
+    }
+
+    ghost settles_behind = { λ session. stays_settled A.mine (AnswersIn session.number) };
 }

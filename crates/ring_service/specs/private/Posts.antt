@@ -1,5 +1,6 @@
 -- Posts: the begins of the terms that wait for the workers' inboxes.
-use Rattle.std.specs.Prelude.{◌≡◌, ◌==◌, ◌+◌, ◌⊎◌, ℕ, List, [], ◌∷◌, ◌++◌, if◌then◌else◌, length, Option, None, Some, slice_get}
+use Rattle.std.specs.Prelude.{◌≡◌, ◌==◌, ◌+◌, ◌⊎◌, ℕ, List, [], ◌∷◌, ◌++◌, if◌then◌else◌, length, map, Option, None, Some, slice_get}
+use Rattle.std.specs.List.{flat_map, range_with_len}
 use Rattle.std.specs.Global.{Global}
 use Rattle.std.specs.declared.sync.Arc.{Arc}
 use Rattle.ring_any.specs.declared.any.Any.{Any}
@@ -13,6 +14,20 @@ use Rattle.ring_workers.specs.declared.item.Item.TheVariants.{Begin}
 abbrev pub begins_from : ℕ → List (Arc (Charter Any) Global) → List Waiting
 begins_from worker [] = []
 begins_from worker (charter ∷ charters) = record { worker = worker; charter = charter } ∷ begins_from (worker + 1) charters
+
+-- what a begin says: the number of its worker, and its term's charter
+abbrev pub says : Waiting → ℕ × Charter Any
+says begin = (begin.worker, begin.charter.value)
+
+-- a begin of one term for each worker below this number, in their order
+abbrev pub term_begins : ℕ → Arc (Charter Any) Global → List (ℕ × Charter Any)
+term_begins workers charter = map (λ worker. (worker, charter.value)) (range_with_len 0 workers)
+
+-- a begin of each of these terms for each worker was added, in the order of the terms
+pub record AddsTerms (workers : ℕ) (charters : List (Arc (Charter Any) Global)) (old new : List Waiting) : Type 0 where
+  pub begins : List Waiting
+  pub said : map says begins ≡ flat_map (term_begins workers) charters
+  pub added : new ≡ old ++ begins
 
 -- the first list is made up of the other two, each in its order
 abbrev pub MakeUp : {A : Type 0} → List A → List A → List A → Type 0
