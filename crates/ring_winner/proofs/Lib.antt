@@ -1,0 +1,3 @@
+pub mod Greatest
+pub mod InPlace
+pub mod Remaining

@@ -1,0 +1,34 @@
+ghost use Rattle.std.specs.Prelude.{◌≡◌, IfOk};
+ghost use Rattle.ring_any.specs.Any.{any_winner};
+ghost use Rattle.ring_roster.specs.Ring.{greatest_of};
+
+use crate::rounds::last_active;
+use ring_any::Any;
+use ring_id::NodeId;
+use ring_roster::Roster;
+use std::alloc::{AllocError, Global};
+
+/// Returns the member that wins the election on this ring. The time is linear in the number of
+/// members. Allocates once for Peterson's election, and never for the others. Fails only if that
+/// allocation fails.
+pub fn winner_of(alloc: Global, algorithm: Any, roster: &Roster) -> Result<NodeId, AllocError>
+    ensures { IfOk result (λ leader. leader ≡ any_winner algorithm roster.now) }
+{
+    match algorithm {
+        Any::LeLann => Ok(greatest(roster)),
+        Any::Chang => Ok(greatest(roster)),
+        Any::Hirschberg => Ok(greatest(roster)),
+        Any::Peterson => last_active(alloc, roster),
+    }
+}
+
+/// Returns the greatest member.
+fn greatest(roster: &Roster) -> NodeId
+    ensures { result ≡ greatest_of roster.now }
+{
+    let mut greatest = roster.at(0).unwrap();
+    for position in 1..roster.len() {
+        greatest = greatest.max(roster.at(position).unwrap());
+    }
+    greatest
+}
