@@ -75,9 +75,11 @@ impl<D: Medium + Drop> Journal<D> {
         &self.medium
     }
 
-    /// Returns how many bytes are pending, each line counted with its LF.
+    /// Returns how many bytes are pending, each line counted with its LF. The second clause is a law of
+    /// every journal: it says what a restart finds if the crash comes now.
     pub fn pending(&self) -> usize
-        ensures { result ≡ self.now.pending }
+        ensures value { result ≡ self.now.pending }
+        ensures any_moment { FindsFirst self.now self.now }
     {
         self.batch.len()
     }
