@@ -1,0 +1,10 @@
+pub mod Adding
+pub mod Chartering
+pub mod Crossing
+pub mod Keeping
+pub mod Marking
+pub mod Reading
+pub mod Refusing
+pub mod Restarting
+pub mod Spelling
+pub mod Winning

@@ -1,0 +1,63 @@
+-- Why a file is refused.
+use Rattle.std.specs.Prelude.{◌≡◌, ◌≢◌, ◌⊎◌, ◌<◌, ℕ, List, [], ◌∷◌, ◌++◌, Some, None, length}
+use Rattle.ring_id.specs.Identity.{number_of}
+use Rattle.ring_any.specs.Any.{any_greatest, any_winner}
+use Rattle.ring_any.specs.declared.any.Any.{Any}
+use Rattle.ring_node.specs.declared.charter.Charter.{Charter}
+use Rattle.ring_node.specs.Reports.{IsTruthful}
+use Rattle.ring_terms.specs.Charters.{running_in}
+use Rattle.ring_terms.specs.Commands.{create_refusal, in_group, join_refusal, leave_refusal, start_refusal}
+use Rattle.ring_terms.specs.Object.{Object, OfGroup}
+use Rattle.ring_table.specs.Histories.{IsInformedOf}
+use Rattle.ring_journal.specs.Lines.{front, lines_in, text_of}
+use Rattle.ring_journal.specs.Whole.{IsBadAt}
+use Rattle.ring_change.specs.declared.change.Change.{Change}
+use Rattle.ring_change.specs.declared.change.Change.TheVariants.{Create, Join, Leave, Start, Know}
+use Rattle.ring_change.specs.Checks.{first_check}
+use Rattle.ring_change.specs.Lines.{marked_line}
+use Rattle.ring_change.specs.Spelling.{IsChange}
+use Rattle.ring_lives.specs.Replays.{Replays}
+use Rattle.ring_recovery.specs.JournalLines.{check_of, heading, journal_lines}
+use Rattle.ring_recovery.specs.declared.fault.RecoverFault.{RecoverFault}
+use Rattle.ring_recovery.specs.declared.fault.RecoverFault.TheVariants.{Bad, Version, NoMemory}
+
+-- A report may come that this member knows this leader of this term: it is the last term of the
+-- group, the member is in its ring, the leader is the winner, and the member does not know it yet.
+pub record MayKnow (group : List ℕ) (term member leader : ℕ) (groups : Object Any) : Type 0 where
+  pub charter : Charter Any
+  pub running : running_in group groups ≡ Some charter
+  pub numbered : charter.term ≡ term
+  pub truthful : IsTruthful (any_winner charter.algorithm) charter.roster member leader
+  pub news : ¬ (OfGroup group (IsInformedOf term (number_of member) leader) groups)
+
+-- A change may come: its command has no refusal, or its report may come.
+abbrev pub MayCome : Object Any → Change Any → Type 0
+MayCome groups (Create group algorithm) = create_refusal group groups ≡ None
+MayCome groups (Join group node) = in_group group (join_refusal node) groups ≡ None
+MayCome groups (Leave group node) = in_group group (leave_refusal node) groups ≡ None
+MayCome groups (Start group) = in_group group start_refusal groups ≡ None
+MayCome groups (Know group term member leader) = MayKnow group term member leader groups
+
+-- A line of a file begins at this byte, and no change that may come there has this line. The lines
+-- before it are those of changes that lead to these groups.
+pub record IsBadLine (found : List ℕ) (at : ℕ) : Type 0 where
+  pub before : List (Change Any)
+  pub groups : Object Any
+  pub line : List ℕ
+  pub after : List (List ℕ)
+  pub lines : lines_in found ≡ journal_lines before ++ line ∷ after
+  pub place : at ≡ length (text_of (journal_lines before))
+  pub inside : at < length found
+  pub replays : Replays any_greatest [] before groups
+  pub bad : (change : Change Any) → IsChange change → line ≡ marked_line (check_of first_check before) change → ¬ (MayCome groups change)
+
+-- A file begins with something else than the heading of a journal.
+pub record IsOther (found : List ℕ) : Type 0 where
+  pub some : front found ≢ []
+  pub other : (lines : List (List ℕ)) → lines_in found ≢ heading ∷ lines
+
+-- why a file is refused
+abbrev pub IsFaultOf : List ℕ → RecoverFault → Type 0
+IsFaultOf found (Bad at) = IsBadAt found at ⊎ IsBadLine found at
+IsFaultOf found Version = IsOther found
+IsFaultOf found NoMemory = Unit {0}

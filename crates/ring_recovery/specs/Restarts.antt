@@ -1,0 +1,24 @@
+-- What a restart recovers after a crash.
+use Rattle.std.specs.Prelude.{◌≡◌, ◌≤◌, ℕ, List, length, take}
+use Rattle.ring_any.specs.Any.{any_greatest, any_two_way}
+use Rattle.ring_any.specs.declared.any.Any.{Any}
+use Rattle.ring_terms.specs.Object.{Object}
+use Rattle.ring_table.specs.Histories.{IsLegal}
+use Rattle.ring_table.specs.declared.entry.Entry.{Entry}
+use Rattle.ring_lives.specs.Changes.{changes_of}
+use Rattle.ring_recovery.specs.Recovered.{RecoveredView, Recovers}
+use Rattle.ring_recovery.specs.Written.{FindsEntries}
+
+-- A table was recovered as it was after the first of these entries, and at least after the first
+-- `fewest`.
+pub record IsAfterFirst (entries : List (Entry Any)) (fewest : ℕ) (recovered : RecoveredView) : Type 0 where
+  pub left : ℕ
+  pub least : fewest ≤ left
+  pub most : left ≤ length entries
+  pub changes : changes_of recovered.history ≡ changes_of (take left entries)
+  pub groups : (groups : Object Any) → IsLegal any_two_way any_greatest (take left entries) groups → recovered.book ≡ groups
+
+-- a table that is recovered from a file that a crash left
+abbrev pub RestartsAfterFirst : Type 0
+RestartsAfterFirst =
+    (entries : List (Entry Any)) (fewest : ℕ) (found : List ℕ) (recovered : RecoveredView) → FindsEntries entries fewest found → Recovers found recovered → IsAfterFirst entries fewest recovered

@@ -1,0 +1,26 @@
+//! The journal of a table: its changes are written as they come, and a restart recovers the table from
+//! them.
+//!
+//! A `Written` records the entries of a table. It writes the line of each change to a journal, and
+//! knows how many of the entries are kept for good. If a crash comes at any moment of any call, the
+//! changes of the first entries are left, and at least of those that were kept for good.
+//!
+//! `recover` reads these lines, and carries out each change by the call that made it, on a table
+//! without groups. The table goes on over a new journal that begins with the lines that were found.
+#![tactic(auto)]
+
+mod alarm;
+mod charters;
+mod fault;
+mod recovered;
+mod recovery;
+mod replay;
+mod restart;
+mod written;
+
+pub use alarm::{Alarm, Ending};
+pub use fault::RecoverFault;
+pub use recovered::Recovered;
+pub use recovery::recover;
+pub use restart::restarts_after_first;
+pub use written::Written;

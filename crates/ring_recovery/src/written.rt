@@ -1,0 +1,244 @@
+//! The recorder that writes changes to a journal.
+ghost use Rattle.std.specs.Prelude.{◌≡◌, ◌↔◌, ◌<◌, ◌≤◌, ◌++◌, ◌∷◌, [], length, All, IsTrue, None, OnOk};
+ghost use Rattle.ring_journal.specs.Journals.{Adds, settled};
+ghost use Rattle.ring_table.specs.Accesses.{filing};
+ghost use Rattle.ring_table.specs.declared.entry.Entry.TheVariants as entry;
+ghost use Rattle.ring_change.specs.Changes.{change_by};
+ghost use Rattle.ring_change.specs.Checks.{first_check};
+ghost use Rattle.ring_change.specs.Lines.{check_behind, marked_line};
+ghost use Rattle.ring_change.specs.Spelling.{IsChange};
+ghost use Rattle.ring_lives.specs.Changes.{change_in, changes_of};
+ghost use Rattle.ring_recovery.specs.JournalLines.{check_of, journal_lines};
+ghost use Rattle.ring_recovery.specs.Written.{LeavesFirst};
+
+use crate::alarm::{Alarm, Ending};
+use ring_any::Any;
+use ring_change::{Change, Check, Line, change_of, change_of_filing, spell_line};
+use ring_events::{Command, Reply};
+use ring_id::NoMemory;
+use ring_journal::{Fault, Journal, Medium, RoomFault};
+use ring_node::Report;
+use ring_table::{Recorder, Unkept};
+use ring_terms::Noting;
+use std::marker::Model;
+use std::sync::{Arc, Wait};
+
+/// How many bytes the longest line of a change takes with its LF.
+const LONGEST: usize = Line::LONGEST + 1;
+
+/// A recorder that writes the changes of its entries to a journal. An entry takes no memory.
+///
+/// Contracts see its entries, for how many more there is room, how many of the first ones are kept for
+/// good, and its journal.
+#[derive(Drop)]
+pub struct Written<D: Medium + Drop> {
+    entries: Unkept<Any>,
+    journal: Journal<D>,
+    // the check after the last line
+    check: Check,
+    // how many of the first entries are kept for good
+    sure: usize,
+    alarm: Arc<Alarm>,
+}
+
+impl<D: Medium + Drop> Model for Written<D> {
+    ghost use Rattle.std.specs.Prelude.{◌/◌, min};
+    ghost use Rattle.ring_recovery.specs.Written.{WrittenView};
+    ghost use Rattle.ring_recovery.specs.private.Invariant.{IsWritten};
+
+    ghost Value = { WrittenView };
+
+    ghost view = { λ a. record { items = a.entries.items; room = min a.entries.room (a.journal.room / 71); sure = a.sure; journal = a.journal } };
+
+    ghost invariant = { λ a. IsWritten a.entries.items a.journal a.check a.sure };
+}
+
+// Adds the line of a change to a journal that has room for it.
+fn add_line<D: Medium + Drop>(journal: &mut Journal<D>, check: &mut Check, change: &Change<Any>)
+    requires room { 71 ≤ journal.old.room }
+    ensures added { Adds journal.old (marked_line check.old change.now) journal.new }
+    ensures check { check.new ≡ check_behind check.old change.now }
+    ensures legal { IsChange change.now }
+{
+    let line = spell_line(change, check);
+    journal.add_reserved(line.as_slice());
+}
+
+impl<D: Medium + Drop> Written<D> {
+    /// Returns a recorder of entries whose changes are the lines of a journal, all of them settled.
+    /// Does not allocate.
+    pub(crate) fn new(
+        entries: Unkept<Any>,
+        journal: Journal<D>,
+        check: Check,
+        alarm: Arc<Alarm>,
+    ) -> Written<D>
+        requires lines { journal.lines ≡ journal_lines (changes_of entries.items) }
+        requires legal { All IsChange (changes_of entries.items) }
+        requires check { check ≡ check_of first_check (changes_of entries.items) }
+        requires settled { settled journal ≡ length journal.lines }
+        ensures items { result.items ≡ entries.items }
+        ensures sure { result.sure ≡ length entries.items }
+        ensures journal { result.journal ≡ journal }
+    {
+        let sure = entries.count();
+        Written {
+            entries,
+            journal,
+            check,
+            sure,
+            alarm,
+        }
+    }
+
+    /// Returns the journal. The other clauses are laws of every recorder: which lines its journal has,
+    /// and what a restart finds if the crash comes now.
+    pub fn journal(&self) -> &Journal<D>
+        ensures value { result.now ≡ self.now.journal }
+        ensures lines { self.now.journal.lines ≡ journal_lines (changes_of self.now.items) }
+        ensures any_moment { LeavesFirst self.now self.now }
+    {
+        // the law of this call says what a crash leaves
+        let _pending = self.journal.pending();
+        &self.journal
+    }
+
+    /// Has all entries kept for good. If lines are pending, they are written and synced.
+    ///
+    /// After `Failed` no entry is kept for good any more.
+    pub fn try_settle(&mut self) -> Result<(), Fault>
+        ensures items { self.new.items ≡ self.old.items }
+        ensures sure { self.old.sure ≤ self.new.sure }
+        ensures ok { OnOk result (self.new.sure ≡ length self.new.items) }
+        ensures any_moment { LeavesFirst self.old self.new }
+    {
+        self.journal.settle()?;
+        self.sure = self.entries.count();
+        Ok(())
+    }
+
+    // Makes room for one more line. If the batch of the journal is full, its lines are settled first.
+    fn reserve_line(&mut self) -> Result<(), NoMemory>
+        ensures items { self.new.items ≡ self.old.items }
+        ensures room { OnOk result (71 ≤ self.new.journal.room) }
+        ensures sure { self.old.sure ≤ self.new.sure }
+        ensures any_moment { LeavesFirst self.old self.new }
+    {
+        match self.journal.reserve(LONGEST) {
+            Ok(()) => Ok(()),
+            Err(RoomFault::NoMemory) => Err(NoMemory),
+            Err(RoomFault::Full) => self.reserve_settled(),
+        }
+    }
+
+    // Settles the journal, and makes room for one more line.
+    fn reserve_settled(&mut self) -> Result<(), NoMemory>
+        ensures items { self.new.items ≡ self.old.items }
+        ensures room { OnOk result (71 ≤ self.new.journal.room) }
+        ensures sure { self.old.sure ≤ self.new.sure }
+        ensures any_moment { LeavesFirst self.old self.new }
+    {
+        let Ok(()) = self.try_settle() else {
+            return Err(NoMemory);
+        };
+        match self.journal.reserve(LONGEST) {
+            Ok(()) => Ok(()),
+            Err(_) => Err(NoMemory),
+        }
+    }
+}
+
+impl<D: Medium + Drop> Recorder<Any> for Written<D> {
+    ghost entries = { λ a. a.items };
+
+    ghost room = { λ a. a.room };
+
+    ghost sure = { λ a. a.sure };
+
+    /// Returns the number of entries. Does not allocate.
+    fn count(&self) -> usize {
+        self.entries.count()
+    }
+
+    /// Finds room for one more entry and its line. If the batch of the journal is full, its lines are
+    /// written and synced first.
+    fn reserve(&mut self) -> Result<(), NoMemory>
+        ensures items { self.new.items ≡ self.old.items }
+        ensures room { OnOk result (0 < self.new.room) }
+        ensures sure { self.old.sure ≤ self.new.sure }
+        ensures any_moment { LeavesFirst self.old self.new }
+    {
+        self.reserve_line()?;
+        self.entries.reserve()
+    }
+
+    /// Records a session's command and its reply as the last entry, for which there is room.
+    ///
+    /// The line of its change is pending then. If it makes no change, it is kept for good if all entries
+    /// before it are.
+    fn record_call(&mut self, session: u32, command: Command<Any>, reply: &Reply)
+        requires { 0 < self.old.room }
+        ensures added { self.new.items ≡ self.old.items ++ entry.Call session command reply.now ∷ [] }
+        ensures sure { self.old.sure ≤ self.new.sure }
+        ensures kept { change_by command reply.now ≡ None → self.old.sure ≡ length self.old.items → self.new.sure ≡ length self.new.items }
+        ensures disk { self.new.journal.disk ≡ self.old.journal.disk }
+        ensures any_moment { LeavesFirst self.old self.new }
+    {
+        let was_settled = self.is_settled();
+        self.entries.record_call(session, command, reply);
+        match change_of(&command, reply) {
+            Some(change) => add_line(&mut self.journal, &mut self.check, &change),
+            None if was_settled => self.sure = self.entries.count(),
+            None => {}
+        }
+    }
+
+    /// Records a report and what became of it as the last entry, for which there is room.
+    ///
+    /// The line of its change is pending then. If it makes no change, it is kept for good if all entries
+    /// before it are.
+    fn record_filing(&mut self, report: &Report<Any>, noting: Noting)
+        requires { 0 < self.old.room }
+        ensures added { self.new.items ≡ self.old.items ++ filing report.now noting ∷ [] }
+        ensures sure { self.old.sure ≤ self.new.sure }
+        ensures kept { change_in (filing report.now noting) ≡ None → self.old.sure ≡ length self.old.items → self.new.sure ≡ length self.new.items }
+        ensures disk { self.new.journal.disk ≡ self.old.journal.disk }
+        ensures any_moment { LeavesFirst self.old self.new }
+    {
+        let was_settled = self.is_settled();
+        self.entries.record_filing(report, noting);
+        match change_of_filing(report, noting) {
+            Some(change) => add_line(&mut self.journal, &mut self.check, &change),
+            None if was_settled => self.sure = self.entries.count(),
+            None => {}
+        }
+    }
+
+    /// Returns whether all entries are kept for good. Does not allocate. The second clause is a law of
+    /// every recorder: it says what a restart finds if the crash comes now.
+    fn is_settled(&self) -> bool
+        ensures settled { IsTrue result ↔ (self.now.sure ≡ length self.now.items) }
+        ensures any_moment { LeavesFirst self.now self.now }
+    {
+        // the law of this call says what a crash leaves
+        let _journal = self.journal();
+        self.sure == self.entries.count()
+    }
+
+    /// Has all entries kept for good. If the journal fails, it rings the alarm and does not return.
+    fn settle<R: Wait>(&mut self, rt: &R)
+        ensures items { self.new.items ≡ self.old.items }
+        ensures sure { self.old.sure ≤ self.new.sure }
+        ensures all { self.new.sure ≡ length self.new.items }
+        ensures any_moment { LeavesFirst self.old self.new }
+    {
+        if self.try_settle().is_ok() {
+            return;
+        }
+        self.alarm.ring(rt, Ending::Failed);
+        for _ in rt.forever() {
+            self.alarm.doze(rt);
+        }
+        unreachable!()
+    }
+}
