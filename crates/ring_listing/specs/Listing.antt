@@ -1,0 +1,58 @@
+-- The lines that say what a journal holds.
+use Rattle.std.specs.Prelude.{◌≡◌, ◌≢◌, ◌⊎◌, ◌≤◌, ◌<◌, ℕ, ◌+◌, ◌-◌, List, [], ◌∷◌, ◌++◌, Option, Some, None, codes, length, slice_index}
+use Rattle.std.specs.Fmt.{decimal}
+use Rattle.ring_any.specs.Any.{word_of}
+use Rattle.ring_any.specs.declared.any.Any.{Any}
+use Rattle.ring_change.specs.declared.change.Change.{Change}
+use Rattle.ring_change.specs.declared.change.Change.TheVariants.{Create, Join, Leave, Start, Know}
+use Rattle.ring_events.specs.declared.reply.Reply.TheVariants as reply
+use Rattle.ring_grammar.specs.Spelling.{reply_line}
+use Rattle.ring_journal.specs.Lines.{lines_in, text_of}
+use Rattle.ring_lives.specs.Changes.{changes_of}
+use Rattle.ring_recovery.specs.Recovered.{RecoveredView, Recovers}
+use Rattle.ring_terms.specs.Object.{GroupView, Object, find, leaders}
+
+-- the first line of a group: its name and the word of its algorithm
+abbrev pub head_line : List ℕ → Any → List ℕ
+head_line name algorithm = codes "group " ++ name ++ codes " " ++ word_of algorithm ++ 10 ∷ []
+
+-- the lines of a group, given its members and the leaders of its terms
+abbrev pub lines_of_group : List ℕ → Any → List ℕ → List (Option ℕ) → List ℕ
+lines_of_group name algorithm members leads = head_line name algorithm ++ codes "  " ++ reply_line (reply.Members members) ++ codes "  " ++ reply_line (reply.Terms leads)
+
+abbrev pub group_text : List ℕ → Any → Option (GroupView Any) → List ℕ
+group_text name algorithm None = []
+group_text name algorithm (Some group) = lines_of_group name algorithm group.members (leaders group)
+
+-- the lines of the group that a change creates, as it is in these groups
+abbrev pub change_text : Object Any → Change Any → List ℕ
+change_text groups (Create group algorithm) = group_text group algorithm (find group groups)
+change_text groups (Join group node) = []
+change_text groups (Leave group number) = []
+change_text groups (Start group) = []
+change_text groups (Know group term member leader) = []
+
+-- the lines of all groups that changes create, in order of creation
+abbrev pub groups_text : Object Any → List (Change Any) → List ℕ
+groups_text groups [] = []
+groups_text groups (change ∷ changes) = change_text groups change ++ groups_text groups changes
+
+-- the last line: how many changes there are, at which byte their text ends, and how many bytes of a torn
+-- tail follow it
+abbrev pub end_line : ℕ → ℕ → ℕ → List ℕ
+end_line changes end torn =
+    codes "whole: " ++ decimal changes ++ codes " changes end at byte " ++ decimal end ++ codes ", " ++ decimal torn ++ codes " bytes of a torn tail are dropped\n"
+
+-- So many bytes are in use: zeros alone follow them, and the last of them is no zero.
+pub record IsUsed (found : List ℕ) (used : ℕ) : Type 0 where
+  pub within : used ≤ length found
+  pub zeros : (k : ℕ) → used ≤ k → k < length found → slice_index found k ≡ 0
+  pub last : (used ≡ 0) ⊎ (slice_index found (used - 1) ≢ 0)
+
+-- The text says what a table that is recovered from these bytes holds.
+pub record Lists (found text : List ℕ) : Type 0 where
+  pub recovered : RecoveredView
+  pub recovers : Recovers found recovered
+  pub used : ℕ
+  pub in_use : IsUsed found used
+  pub lines : text ≡ groups_text recovered.book (changes_of recovered.history) ++ end_line (length recovered.history) (length (text_of (lines_in found))) (used - length (text_of (lines_in found)))

@@ -1,0 +1,78 @@
+ghost use Rattle.std.specs.Prelude.{◌≡◌, ◌++◌, length, All, IfErr, IfOk, OnOk};
+ghost use Rattle.ring_change.specs.Spelling.{IsChange};
+ghost use Rattle.ring_lives.specs.Changes.{changes_of};
+ghost use Rattle.ring_listing.specs.Listing.{IsUsed, Lists, end_line, groups_text};
+ghost use Rattle.ring_recovery.specs.Damage.{IsFaultOf};
+
+use crate::groups::put_groups;
+use ring_id::NoMemory;
+use ring_journal::whole_len;
+use ring_recovery::{RecoverFault, Recovered, recover};
+use std::alloc::Global;
+
+/// Returns the lines that say what the journal with these bytes holds.
+///
+/// For each group, in order of creation, there are three lines: its name and its algorithm, its members
+/// as `members` replies them, and the leaders of its terms as `terms` does. The last line says how many
+/// changes there are and at which byte their text ends. It also says how many bytes of a torn tail follow
+/// the text, which a restart drops.
+///
+/// Refuses the bytes that `recover` refuses, for the same reason.
+pub fn list_journal(alloc: Global, found: Vec<u8>) -> Result<Vec<u8>, RecoverFault>
+    ensures ok { IfOk result (λ text. Lists found.items text.items) }
+    ensures err { IfErr result (IsFaultOf found.items) }
+{
+    let end = whole_len(&found);
+    let torn = used_len(&found).saturating_sub(end);
+    let recovered = recover(alloc, found)?;
+    let listed = list(alloc, &recovered, end, torn);
+    drop(recovered);
+    match listed {
+        Ok(text) => Ok(text),
+        Err(_) => Err(RecoverFault::NoMemory),
+    }
+}
+
+// How many bytes there are up to the last one that is not a zero.
+fn used_len(found: &[u8]) -> usize
+    ensures used { IsUsed found.now result }
+{
+    let mut at = 0;
+    let mut used = 0;
+    while at < found.len() {
+        let is_used = found[at] != 0;
+        at += 1;
+        if is_used {
+            used = at;
+        }
+    }
+    used
+}
+
+// The lines of a recovered table, and the line about its text.
+fn list(alloc: Global, recovered: &Recovered, end: usize, torn: usize) -> Result<Vec<u8>, NoMemory>
+    requires { All IsChange (changes_of recovered.now.history) }
+    ensures { IfOk result (λ text. text.items ≡ groups_text recovered.now.book (changes_of recovered.now.history) ++ end_line (length recovered.now.history) end torn) }
+{
+    let mut text = Vec::new(alloc);
+    put_groups(alloc, recovered, &mut text)?;
+    put_end(alloc, recovered.count(), end, torn, &mut text)?;
+    Ok(text)
+}
+
+// Adds the line about the text.
+fn put_end(
+    alloc: Global,
+    changes: usize,
+    end: usize,
+    torn: usize,
+    text: &mut Vec<u8>,
+) -> Result<(), NoMemory>
+    ensures { OnOk result (text.new.items ≡ text.old.items ++ end_line changes end torn) }
+{
+    let line = format!(in alloc;
+        "whole: {changes} changes end at byte {end}, {torn} bytes of a torn tail are dropped\n"
+    )?;
+    text.extend_from_slice(line.as_bytes())?;
+    Ok(())
+}
