@@ -1,7 +1,8 @@
 //! The service that the program runs, and its sessions over sockets.
-ghost use Rattle.std.specs.Prelude.{◌≡◌, ◌<◌, ◌≤◌, ◌*◌, ◌+◌, ◌-◌, ◌/◌, ◌^◌, ◌↔◌, All, IfErr, IfOk, IsTrue, MatchBool, vec_len};
+ghost use Rattle.std.specs.Prelude.{◌≡◌, ◌⊎◌, ◌<◌, ◌≤◌, ◌*◌, ◌+◌, ◌-◌, ◌/◌, ◌^◌, ◌↔◌, All, IfErr, IfOk, IsTrue, MatchBool, vec_len};
 ghost use Rattle.ring_service.specs.Places.{ServesPlaced};
 ghost use Rattle.ring_service.specs.Sessions.{Serves};
+ghost use Rattle.ring_turn.specs.Seats.{Settled};
 ghost use Rattle.ring_server.specs.Faults.{IsOfStart};
 ghost use Rattle.ring_server.specs.private.Faults.{start_told_as};
 ghost use Rattle.ring_server.specs.Sessions.{GainsCalls};
@@ -164,7 +165,8 @@ impl<T: Tabled<Any> + Drop> Serving for Guest<'_, T> {
     }
 
     fn serve<R: Wait>(&mut self, rt: &R, session: u32, stream: &TcpStream, places: bool)
-        ensures { GainsCalls session self.old.seat.mine self.new.seat.mine }
+        ensures gained { GainsCalls session self.old.seat.mine self.new.seat.mine }
+        ensures told { (self.new.seat ≡ self.old.seat) ⊎ Settled self.new.seat }
     {
         let _ = stream.set_nodelay(true);
         let (mut reader, mut writer) = (FromRead(stream), ToWrite(stream));
@@ -186,6 +188,7 @@ fn answer<R: Wait, I: Intake, O: Outlet, T: Tabled<Any> + Drop>(
     requires { seat.old.lock ≡ front.now.id }
     ensures seat { seat.new.lock ≡ front.now.id }
     ensures gained { GainsCalls session seat.old.mine seat.new.mine }
+    ensures told { (seat.new ≡ seat.old) ⊎ Settled seat.new }
     ensures served { MatchBool places
         (ServesPlaced I.read_gives O.write_gives (λ seat. seat.mine) session seat.old reader.old writer.old 4294967295 result seat.new reader.new writer.new)
         (Serves I.read_gives O.write_gives (λ seat. seat.mine) session seat.old reader.old writer.old 4294967295 result seat.new reader.new writer.new) }
