@@ -7,8 +7,8 @@ use std::process::Abort;
 use std::sync::{Mutex, Wait};
 
 // The lock at which answers queue, and marks of what was done: `r` a line was read, `l` a long one, `q` it was queued for,
-// `a` a line was answered, `z` the answerer rests, `s` an answer was spelled, `<` a read call, `>` a write call. Where
-// the lock was held, the letter is a great one, and the others are `!`.
+// `a` a line was answered, `z` the answerer rests, `t` it settles, `s` an answer was spelled, `<` a read call, `>` a write
+// call. If the lock was held, the letter is a capital one, and the others are `!`.
 #[derive(Drop)]
 struct Watched {
     door: Mutex<()>,
@@ -55,6 +55,8 @@ impl Spell for Told<'_> {
 }
 
 impl<'b, R: Wait> Answerer for Queueing<'b, R> {
+    ghost use Rattle.std.specs.Prelude.{◌≡◌};
+
     type State = ();
 
     type Asked = ();
@@ -66,6 +68,10 @@ impl<'b, R: Wait> Answerer for Queueing<'b, R> {
     ghost asks = { λ _ _. Unit {0} };
 
     ghost answers = { λ _ _ _ _ _. Unit {0} };
+
+    ghost settles = { λ _ old new. new ≡ old };
+
+    ghost may_tell = { λ _ _. Unit {0} };
 
     fn read(&self, _line: &[u8]) {
         self.watched.note(b'r', b'R');
@@ -96,6 +102,12 @@ impl<'b, R: Wait> Answerer for Queueing<'b, R> {
     fn rest(&self, _state: &mut ()) {
         self.watched.note(b'z', b'Z');
     }
+
+    fn settle(&self, _state: &mut ()) {
+        self.watched.note(b't', b'T');
+    }
+
+    ghost settles_behind = { λ _ _ _ _ _ _ given _. given };
 }
 
 // A reader that gives these pieces, one for each read call.
@@ -202,24 +214,24 @@ fn assert_notes<R: Wait + Abort + AllocGlobal>(
 
 #[test]
 fn the_queue_is_held_while_lines_are_answered(rt: HostRuntime) {
-    assert_notes(&rt, &[b"a\nb\nc", b"d\n"], 9, b"<rrqAAZss><rqAZs><");
-    assert_notes(&rt, &[b"a\n", b"b"], 9, b"<rqAZs><<rqAZs>");
-    assert_notes(&rt, &[&[b'a'; 200], b"\nb\n"], 9, b"<<lrqAAZss><");
+    assert_notes(&rt, &[b"a\nb\nc", b"d\n"], 9, b"<rrqAAZtss><rqAZts><");
+    assert_notes(&rt, &[b"a\n", b"b"], 9, b"<rqAZts><<rqAZts>");
+    assert_notes(&rt, &[&[b'a'; 200], b"\nb\n"], 9, b"<<lrqAAZtss><");
 }
 
 #[test]
 fn the_queue_is_left_where_the_page_is_full(rt: HostRuntime) {
-    assert_notes(&rt, &[b"a\nb\nc\nd"], 40000, b"<rrrqAAAZss>>s><rqAZs>");
+    assert_notes(&rt, &[b"a\nb\nc\nd"], 40000, b"<rrrqAAAZtss>>s><rqAZts>");
 }
 
 #[test]
 fn at_most_64_lines_are_answered_together(rt: HostRuntime) {
-    let mut wanted = [b'r'; 202];
+    let mut wanted = [b'r'; 204];
     wanted[0] = b'<';
     wanted[65] = b'q';
     wanted[66..130].fill(b'A');
-    wanted[130] = b'Z';
-    wanted[131..195].fill(b's');
-    wanted[195..].copy_from_slice(b"rqAZs><");
+    wanted[130..132].copy_from_slice(b"Zt");
+    wanted[132..196].fill(b's');
+    wanted[196..].copy_from_slice(b"rqAZts><");
     assert_notes(&rt, &[&[b'\n'; 65]], 9, &wanted);
 }

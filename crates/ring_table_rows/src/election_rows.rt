@@ -2,12 +2,14 @@
 ghost use Rattle.std.specs.Prelude.{◌≤◌};
 
 use crate::grounds::{Ended, Ground};
-use crate::meetings::{new_meeting, reaches};
+use crate::meetings::{Meeting, new_meeting, reaches};
 use crate::memory::shared;
 use crate::telling::{FOUR, FOUR_ITEMS, FOUR_TOLD, all_know_two, nodes_of, repeated};
+use ring_any::Any;
 use ring_election::RingElection;
 use ring_id::GroupName;
-use ring_node::Node;
+use ring_lines::parse_command;
+use ring_node::{Charter, Node};
 use ring_service::Waiting;
 use ring_table::{Entry, Table};
 use ring_terms::Noting;
@@ -42,19 +44,15 @@ fn finish_known<E: RingElection>(rt: &impl Abort, table: &mut Table<E>, nodes: &
     assert!(rt; table.history().len() == before.saturating_add(4));
 }
 
-// Two workers that must both run decide a term of four members, with inboxes of this capacity: all come to rest, and
-// the table knows what they know, also where the nodes are filed once more when all is done.
-fn decide<R: Abort + Threads + Wait + Clock + Copy + Send + Sync + Drop + 'static>(
+// Two workers that must both run decide the term of four members that they were told of: all come to rest, and the table
+// knows what they know, also if the nodes are filed once more when all is done.
+fn end_decided<R: Abort + Threads + Wait + Clock + Drop>(
     rt: &R,
     alloc: Global,
-    inbox: usize,
-)
-    requires { (1 ≤ inbox) × (inbox ≤ 65536) }
-{
-    let gate = new_meeting(rt, alloc);
-    let copy = Arc::try_clone(&gate).expect(rt, "no copy");
-    let mut ground = Ground::open(rt, alloc, 2, inbox, copy).expect(rt, "no service");
-    ground.tells(rt, alloc, 1, FOUR, FOUR_TOLD);
+    ground: Ground,
+    gate: Arc<Meeting<R>>,
+) {
+    let mut ground = ground;
     assert!(rt; reaches(rt, &gate.left, FOUR_ITEMS));
     ground.tells(rt, alloc, 1, b"terms a\n", b"terms 1:2\n");
     drop(gate);
@@ -71,12 +69,62 @@ fn decide<R: Abort + Threads + Wait + Clock + Copy + Send + Sync + Drop + 'stati
     drop(table);
 }
 
+// Two workers decide a term of four members that a session starts, with inboxes of this capacity.
+fn decide<R: Abort + Threads + Wait + Clock + Copy + Send + Sync + Drop + 'static>(
+    rt: &R,
+    alloc: Global,
+    inbox: usize,
+)
+    requires { (1 ≤ inbox) × (inbox ≤ 65536) }
+{
+    let gate = new_meeting(rt, alloc);
+    let copy = Arc::try_clone(&gate).expect(rt, "no copy");
+    let mut ground = Ground::open(rt, alloc, 2, inbox, copy).expect(rt, "no service");
+    ground.tells(rt, alloc, 1, FOUR, FOUR_TOLD);
+    end_decided(rt, alloc, ground, gate);
+}
+
 #[test]
 fn two_workers_decide_a_term_by_a_lock(rt: HostRuntime) {
     let alloc = rt.alloc();
     for inbox in [64, 1] {
         decide(&rt, alloc, inbox);
     }
+}
+
+// The lines by which the group of the term of four members is made.
+const FOUR_MADE: [&[u8]; 5] = [
+    b"create a peterson",
+    b"join a 4",
+    b"join a 1",
+    b"join a 3",
+    b"join a 2",
+];
+
+// A table in which the term of four members was started, with its charter.
+fn started(rt: &impl Abort, alloc: Global) -> (Table<Any>, Vec<Arc<Charter<Any>>>) {
+    let mut table = Table::new(alloc);
+    for line in FOUR_MADE {
+        let command = parse_command(line).expect(rt, "no command");
+        drop(table.call(1, command));
+    }
+    let group = GroupName::from_bytes(b"a").expect(rt, "no name");
+    let (reply, charters) = table.begin(1, group, 1);
+    drop(reply);
+    assert!(rt; charters.len() == 1);
+    (table, charters)
+}
+
+// Two workers decide a term that was running when its table was given to their service.
+#[test]
+fn two_workers_decide_a_term_that_was_running(rt: HostRuntime) {
+    let alloc = rt.alloc();
+    let (table, charters) = started(&rt, alloc);
+    let gate = new_meeting(&rt, alloc);
+    let copy = Arc::try_clone(&gate).expect(&rt, "no copy");
+    let ground = Ground::over(&rt, alloc, table, 2, 64, copy).expect(&rt, "no service");
+    assert!(rt; ground.service.resume(&rt, charters).is_ok());
+    end_decided(&rt, alloc, ground, gate);
 }
 
 // The lines by which twenty groups of the members 1 and 2 are made, and each is started once.

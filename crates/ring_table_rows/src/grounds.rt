@@ -89,7 +89,8 @@ pub struct Ended {
 }
 
 impl Ground {
-    /// A service with so many workers. None where memory is refused or a thread cannot be made.
+    /// A service with `workers` workers over a table without groups. `None` if memory is refused or a thread
+    /// cannot be made.
     pub fn open<G, R>(
         rt: &R,
         alloc: Global,
@@ -103,7 +104,25 @@ impl Ground {
         requires workers { workers ≤ 8 }
         requires inbox { (1 ≤ inbox) × (inbox ≤ 65536) }
     {
-        let Ok((table, seats)) = LockedTable::new(alloc, Table::new(alloc), workers + 2) else {
+        Ground::over(rt, alloc, Table::new(alloc), workers, inbox, gate)
+    }
+
+    /// The same over this table.
+    pub fn over<G, R>(
+        rt: &R,
+        alloc: Global,
+        table: Table<Any>,
+        workers: usize,
+        inbox: usize,
+        gate: Arc<G>,
+    ) -> Option<Ground>
+    where
+        G: Gate + Send + Sync + Drop + 'static,
+        R: Abort + Threads + Wait + Clock + Copy + Send + Drop + 'static,
+        requires workers { workers ≤ 8 }
+        requires inbox { (1 ≤ inbox) × (inbox ≤ 65536) }
+    {
+        let Ok((table, seats)) = LockedTable::new(alloc, table, workers + 2) else {
             return None;
         };
         match open(rt, alloc, table, seats, inbox, gate) {

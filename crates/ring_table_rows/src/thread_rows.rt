@@ -221,16 +221,20 @@ fn are_placed<E: RingElection>(rt: &impl Abort, table: &Table<E>, places: &[usiz
     assert!(rt; places.len() == 100);
 }
 
-// Creates the group `a`, by the first call of all.
+// Creates the group `a`, by the first call of all, while the seat keeps the table. Then the seat rests, and an identity
+// joins by one more call of it. If it kept the table after that, the calls through other seats would wait for good.
 fn create<R: Abort + Wait, S: Shared>(rt: &R, table: &S, seat: &mut S::Seat)
     requires { (number : ℕ) × S.sits table.now number seat.old }
     ensures { (number : ℕ) → S.sits table.now number seat.old → S.sits table.now number seat.new }
 {
+    table.keep(seat);
     let first = parse_command(b"create a chang").expect(rt, "no command");
     if place_of(rt, table, seat, 0, first) != Some(1) {
         let again = parse_command(b"create a chang").expect(rt, "no command");
         assert!(rt; place_of(rt, table, seat, 0, again) == Some(1));
     }
+    table.rest(seat);
+    assert!(rt; join_one(rt, table, seat, 0, 250) == 2);
 }
 
 // Two threads with a seat each, in which a hundred identities join each: each call stands at the place that was told,
@@ -257,7 +261,7 @@ where
     let closed = table.end(rt, alloc, (one, other, third));
     are_placed(rt, &closed, &low, 1);
     are_placed(rt, &closed, &high, 101);
-    assert!(rt; closed.history().len() == 201);
+    assert!(rt; closed.history().len() == 202);
     drop(low);
     drop(high);
     drop(closed);

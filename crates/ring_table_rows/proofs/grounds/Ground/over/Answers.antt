@@ -1,6 +1,6 @@
 use denote.Param.Send.{sendable}
 use Rattle.ring_table_rows.proofs.Crossing.{locked_seat_send}
-use Rattle.ring_table_rows.proofs.grounds.Ground.open.Goals as goal
+use Rattle.ring_table_rows.proofs.grounds.Ground.over.Goals as goal
 
 -- its seats may go to threads
 pub open-requires-send-A-Seat : goal.open-requires-send-A-Seat
