@@ -1,0 +1,271 @@
+"""Crash images: lives of the program that are recorded, and what a restart finds after a crash at any moment."""
+
+import collections
+import contextlib
+import pathlib
+import subprocess
+import tempfile
+from typing import NamedTuple
+
+from journals.changes import KINDS, History, line_of, whole_text
+from journals.lives import asked, client_of, compare, go_on, living
+from journals.recording import Disk, read_recording
+from journals.talkers import SHARED, Grower, Log, Talker, counts_of, talk_all
+from serving import PATIENCE, Client, Differs, same
+
+NAME = "ring.journal"
+CLIENTS = 8
+# How many replies each client waits for in a life, and the one by which the file grows past its zeros.
+REPLIES, GROWING = 150, 1500
+LIVES = 3
+# The journal of the next life is one of some images of moments in the last part of this one.
+SOME, LAST_PART = 400, 0.9
+# Of each 4 images, the groups of one go on: their terms are decided, and one more is started.
+GOING_ON = 4
+# How many images wait for a restart at a time.
+AT_ONCE = 64
+
+
+class Recorded:
+    """A recorded life: the files that it began with, its events, and its journal. `count` changes were on the disk
+    when it began. A reply *needs* a number of changes: it is right after them, and not before."""
+
+    def __init__(self, files, events, history, count):
+        self.files, self.events, self.history, self.count = files, events, history, count
+        # of each port, the replies that were sent to it: how many changes each needs, and its line
+        self.replies = {}
+
+    def hear(self, log):
+        """Takes the replies that were sent over a connection, and sees that the client received no others."""
+        replies = [reply.decode() for reply in sent_text(self.events, log.port).split(b"\n")[:-1]]
+        if replies[:len(log.replies)] != log.replies:
+            raise Differs("the recording does not have the replies that a client received")
+        counts = counts_of(self.history, log.asked, replies, self.count)
+        lines = [line_of(name, command)[:-1].decode() for name, command in log.asked]
+        self.replies[log.port] = list(zip(counts, lines))
+
+    def needed_before(self, events):
+        """Returns for each event, and for the end, the most changes that a reply before it needs, and the line of that
+        reply. A reply counts from the begin of the call that sends its LF."""
+        sent, most = collections.Counter(), (self.count, "an earlier life")
+        needed = [most]
+        for event in events:
+            if event.kind == "M" and event.key in self.replies:
+                first = sent[event.key]
+                sent[event.key] += sent_part(event).count(b"\n")
+                most = max([most, *self.replies[event.key][first:sent[event.key]]], key=lambda it: it[0])
+            needed.append(most)
+        return needed
+
+
+def sent_text(events, port):
+    """Returns the bytes that were sent to a port."""
+    return b"".join(sent_part(event) for event in events if event.kind == "M" and event.key == port)
+
+
+def sent_part(event):
+    """Returns the bytes that a client may have received of a call that sends."""
+    return event.data if event.done is None else event.data[:max(event.done, 0)]
+
+
+def record_life(program, library, folder, files, before, seed):
+    """Runs the program over these files with clients, and records it. `before` is the text of the changes that are on
+    the disk."""
+    for name, data in files.items():
+        (folder / name).write_bytes(data)
+    recording, file = folder / "recording", folder / NAME
+    environment = {"LD_PRELOAD": str(library), "RECORD_TO": str(recording), "RECORD_FILE": str(file)}
+    talkers = [*(Talker(number, seed) for number in range(CLIENTS)), Grower(CLIENTS, seed)]
+    with living(program, file, "--sessions", "64", environment=environment) as life:
+        maker = make_shared(life.port)
+        talk_all(talkers, life.port, lambda it: it.count() >= (GROWING if isinstance(it, Grower) else REPLIES))
+    events = read_recording(recording)
+    text = whole_text(see_all(folder, files, events))
+    history = History()
+    history.read(before)
+    recorded = Recorded(files, events, history, history.count)
+    if not text.startswith(before):
+        raise Differs("a restart changed the text of the journal")
+    history.read(text)
+    for log in [maker, *(log for talker in talkers for log in talker.logs)]:
+        recorded.hear(log)
+    return recorded
+
+
+def make_shared(port):
+    """Creates the groups that all clients share, if there are none. The answer is what was asked and replied."""
+    client = Client(port)
+    log = Log(client.socket.getsockname()[1])
+    log.asked = [(name, ("create", kind)) for name, kind in zip(SHARED, KINDS)]
+    log.replies = asked(client, log.asked)
+    client.close()
+    return log
+
+
+def see_all(folder, files, events):
+    """Sees that the files are as the recording says: it has all calls that changed them. A call that never ended was
+    carried out or not. The answer is the journal's file with such calls."""
+    whole, without = Disk(files), Disk(files)
+    for event in events:
+        whole.apply(event)
+        if event.done is not None or not event.kind.isupper():
+            without.apply(event)
+    for name in {*files, *whole.now()}:
+        path = folder / name
+        found = path.read_bytes() if path.exists() else None
+        if found not in (whole.now().get(name), without.now().get(name)):
+            raise Differs(f"the recording does not have all calls that changed {name}")
+    return whole.now()[NAME]
+
+
+class Image(NamedTuple):
+    """The files that a crash leaves, and how many changes its journal has. `needed` has the most changes that a reply
+    before the crash needs, and the line of that reply."""
+
+    files: dict
+    count: int
+    needed: tuple
+    moment: int
+
+    def is_torn(self):
+        """Returns whether there is something between the whole lines and the zeros."""
+        found = self.files.get(NAME, b"")
+        return len(found.rstrip(b"\0")) > len(whole_text(found))
+
+
+def draw_images(life, events, moments, dice):
+    """Yields an image for each of these moments, which rise: the number of events that are over."""
+    disk, over, needed = Disk(life.files), 0, life.needed_before(events)
+    for moment in moments:
+        for event in events[over:moment]:
+            disk.apply(event)
+        over = moment
+        files = disk.draw(dice)
+        count = max(whole_text(files.get(NAME, b"")).count(b"\n") - 1, 0)
+        yield Image(files, count, needed[moment], moment)
+
+
+def judge(life, image, restart):
+    """Sees that a restart over an image finds all changes that a reply needs, and none in part."""
+    needed, line = image.needed
+    if image.count < needed:
+        raise Differs(f"a crash before event {image.moment} leaves {image.count} changes, and the reply to {line!r}"
+                      f" needs {needed}")
+    restart(life, image)
+
+
+def restart_service(program):
+    """Returns a restart that serves clients over an image, and goes on with some of them."""
+    def restart(life, image):
+        with image_folder(image) as file, living(program, file) as run, client_of(run) as client:
+            compare(lambda questions: asked(client, questions), life.history, image.count)
+            if image.moment % GOING_ON == 0:
+                go_on(client, life.history, image.count)
+    return restart
+
+
+def restart_listing(program):
+    """Returns a restart that lists an image by `ringd journal`, which changes nothing."""
+    def restart(life, image):
+        with image_folder(image) as file:
+            if file.exists():
+                ran = subprocess.run([program, "journal", file], stdin=subprocess.DEVNULL, capture_output=True,
+                                     timeout=PATIENCE, check=False)
+                wanted = listing_of(life.history, image.count, image.files[NAME])
+                same("what is listed", (ran.stdout, ran.stderr, ran.returncode), (wanted, b"", 0))
+                same("the file after it was listed", file.read_bytes(), image.files[NAME])
+    return restart
+
+
+def restart_both(program):
+    """Returns a restart that lists an image, and then serves clients over it."""
+    both = restart_listing(program), restart_service(program)
+
+    def restart(life, image):
+        for one in both:
+            one(life, image)
+    return restart
+
+
+@contextlib.contextmanager
+def image_folder(image):
+    """The files of an image in a new folder; the value is the path of the journal."""
+    with tempfile.TemporaryDirectory() as folder:
+        write_image(image, folder)
+        yield pathlib.Path(folder, NAME)
+
+
+def write_image(image, folder):
+    """Writes the files of an image into a folder."""
+    for name, data in image.files.items():
+        pathlib.Path(folder, name).write_bytes(data)
+
+
+def listing_of(history, count, found):
+    """Returns what `ringd journal` prints of a file whose journal has `count` changes."""
+    lines = []
+    for name in history.names.at(count):
+        group = history.group_at(name, count)
+        lines += [f"group {name} {group.kind}", f"  {group.reply(('members',))}", f"  {group.reply(('terms',))}"]
+    end = len(whole_text(found))
+    torn = max(len(found.rstrip(b"\0")) - end, 0)
+    lines.append(f"whole: {count} changes end at byte {end}, {torn} bytes of a torn tail are dropped")
+    return "\n".join([*lines, ""]).encode()
+
+
+def moments_of(life, events, count, dice):
+    """Returns `count` moments in rising order, drawn by chance. One in five is in the start of the life, one while the
+    file grows by zeros, and two are while a write or a move of a name is not on the disk for good."""
+    disk, unsure, growing = Disk(life.files), [], []
+    for moment, event in enumerate(events, 1):
+        disk.apply(event)
+        unsure += [moment] if disk.is_unsure() else []
+        growing += [moment] if disk.is_growing() else []
+    start = [event.kind for event in events].index("M")
+    choices = [range(start + 1), unsure, growing or unsure, unsure, range(len(events) + 1)]
+    return sorted(dice.choice(choices[at % len(choices)]) for at in range(count))
+
+
+def judge_all(life, restart, images, dice, pool):
+    """Has a restart over many images of a life. The answer is how many of them had a torn end. An image that is
+    reported is left in a folder."""
+    def one(image):
+        try:
+            judge(life, image, restart)
+        except (Differs, OSError, subprocess.TimeoutExpired) as fault:
+            folder = tempfile.mkdtemp(prefix="crash-image-")
+            write_image(image, folder)
+            raise Differs(f"{fault}; the image is in {folder}") from None
+
+    runs, torn = collections.deque(), 0
+    for image in draw_images(life, life.events, moments_of(life, life.events, images, dice), dice):
+        torn += image.is_torn()
+        runs.append(pool.submit(one, image))
+        if len(runs) > AT_ONCE:
+            runs.popleft().result()
+    for run in runs:
+        run.result()
+    return torn
+
+
+def next_files(life, dice):
+    """Returns the files of the next life: an image of a late moment of this one, with a torn end if there is one."""
+    moments = moments_of(life, life.events, SOME, dice)
+    late = [moment for moment in moments if moment > LAST_PART * len(life.events)]
+    images = list(draw_images(life, life.events, late, dice))
+    return dice.choice([image for image in images if image.is_torn()] or images).files
+
+
+def check_images(program, library, images, restart, dice, pool, lives=LIVES):
+    """Records lives, one after a crash of the other, and has a restart over images of each. The answer is a line about
+    them, and the last life."""
+    files, before, torn, replies = {}, b"", 0, 0
+    for number in range(lives):
+        with tempfile.TemporaryDirectory() as folder:
+            life = record_life(program, library, pathlib.Path(folder), files, before, dice.random())
+        torn += judge_all(life, restart, -(-images // lives), dice, pool)
+        replies += sum(map(len, life.replies.values()))
+        files = next_files(life, dice)
+        before = whole_text(files[NAME])
+    return (f"{-(-images // lives) * lives} crash images of {lives} lives under {CLIENTS} clients, {torn} of them with"
+            f" a torn end: each of {replies} replies holds after each crash"), life

@@ -1,0 +1,172 @@
+"""Lives of `ringd run --journal`: a run of the program, what it shows, and whether that fits a journal."""
+
+import contextlib
+import itertools
+import os
+import random
+import signal
+import socket
+import subprocess
+import threading
+import time
+
+from identity import numbers_of
+from journals.changes import line_of
+from serving import HOST, PATIENCE, Client, Differs, short, text_of
+
+# Below the ports that the system gives to clients, so that no client of another run is in the way.
+LOWEST, HIGHEST = 11000, 32000
+PORTS = itertools.cycle(random.sample(range(LOWEST, HIGHEST), HIGHEST - LOWEST))
+PORTS_LOCK = threading.Lock()
+# How often the program is started because somebody else took its port.
+TRIES = 5
+# How many questions are sent at once.
+AT_ONCE = 256
+# How many zeros are written ahead of the text at a time, and at most how many bytes between two syncs.
+AHEAD = 65536
+LISTEN_FAILED = b"ringd: listen failed\n"
+
+
+def next_port():
+    """Returns a port that nobody listens on, and that no other thread is given soon."""
+    while True:
+        with PORTS_LOCK:
+            port = next(PORTS)
+        with contextlib.suppress(OSError), socket.socket() as probe:
+            probe.setsockopt(socket.SOL_SOCKET, socket.SO_REUSEADDR, 1)
+            probe.bind((HOST, port))
+            return port
+
+
+class Life:
+    """A run of the program over a journal. `listens` says whether it listens; else it has ended."""
+
+    def __init__(self, program, file, *words, environment=None, folder=None, user=None, workers=2, inbox=1024):
+        self.folder, self.user, self.workers, self.inbox = folder or file.parent, user, workers, inbox
+        self.words = [program, "run", "CONFIG", *(["--journal", str(file)] if file else []), *words]
+        self.environment = {**os.environ, **(environment or {})}
+        for _ in range(TRIES):
+            self.begin()
+            self.wait()
+            if self.listens or self.error != LISTEN_FAILED:
+                break
+
+    def begin(self):
+        """Starts the program on a free port."""
+        self.port, self.listens, self.error = next_port(), False, b""
+        config = self.folder / f"{self.port}.toml"
+        config.write_bytes(text_of(self.port, self.workers, self.inbox))
+        drop = (lambda: os.setuid(self.user)) if self.user else None
+        self.run = subprocess.Popen([config if word == "CONFIG" else word for word in self.words],
+                                    stdin=subprocess.DEVNULL, stdout=subprocess.PIPE, stderr=subprocess.PIPE,
+                                    env=self.environment, cwd=self.folder, preexec_fn=drop)
+
+    def wait(self):
+        """Waits until the program says that it listens, or ends."""
+        self.out = self.run.stdout.readline()
+        self.listens = self.out == b"listening %s:%d\n" % (HOST.encode(), self.port)
+        if not self.listens:
+            rest, self.error = self.run.communicate(timeout=PATIENCE)
+            self.out += rest
+
+    def kill(self):
+        """Kills the process. The answer is what it wrote to standard error."""
+        if self.listens:
+            self.run.send_signal(signal.SIGKILL)
+            rest, self.error = self.run.communicate(timeout=PATIENCE)
+            self.out += rest
+        return self.error
+
+
+def kill_in_the_start(program, file, seconds):
+    """Starts the program over a journal, and kills it after `seconds` seconds."""
+    config = file.with_name("start.toml")
+    config.write_bytes(text_of(next_port()))
+    run = subprocess.Popen([program, "run", str(config), "--journal", str(file)], stdin=subprocess.DEVNULL,
+                           stdout=subprocess.DEVNULL, stderr=subprocess.DEVNULL)
+    time.sleep(seconds)
+    run.kill()
+    run.wait()
+
+
+@contextlib.contextmanager
+def living(program, file, *words, **given):
+    """A life that listens, and is killed in the end. It must have written nothing to standard error."""
+    life = Life(program, file, *words, **given)
+    try:
+        if not life.listens:
+            raise Differs(f"it ends with status {life.run.returncode}, {short(life.out)}, {short(life.error)}")
+        yield life
+    finally:
+        error = life.kill()
+    if error:
+        raise Differs(f"standard error has {short(error)}")
+
+
+def asked(client, questions):
+    """Asks many questions, each a group's name and a command. The answer is the replies."""
+    replies = []
+    for at in range(0, len(questions), AT_ONCE):
+        some = questions[at:at + AT_ONCE]
+        client.send(b"".join(line_of(name, command) for name, command in some))
+        replies += [client.line()[:-1].decode() for _ in some]
+    return replies
+
+
+def compare(ask, history, count):
+    """Compares all groups that `ask` shows with those after `count` changes. A member of a last term may have come to
+    know the right leader since."""
+    names = history.names.at(count)
+    questions, wanted = [("", ("groups",))], [(" ".join(["groups", *names]),)]
+    for name in names:
+        group = history.group_at(name, count)
+        decided = decided_group(group)
+        for command in [("members",), ("terms",), *(("who", it) for it in numbers_of(group.ring))]:
+            questions.append((name, command))
+            wanted.append((group.reply(command), decided.reply(command)))
+    for (name, command), seen, right in zip(questions, ask(questions), wanted):
+        if seen not in right:
+            line = short(line_of(name, command)[:-1].decode())
+            raise Differs(f"after {count} changes {line} is answered {short(seen)}, and not {short(right[0])}")
+
+
+def decided_group(group):
+    """Returns a group whose last term is decided at all members."""
+    if not group.ring:
+        return group
+    return group._replace(leaders=(*group.leaders[:-1], group.winner()), informed=frozenset(numbers_of(group.ring)))
+
+
+def wait_until_decided(client, groups):
+    """Waits until every member of the last term of these groups, given by their names, names the right leader."""
+    wanted = [(name, ("who", it), decided_group(group)) for name, group in groups.items()
+              for it in numbers_of(group.ring)]
+    until = time.monotonic() + PATIENCE
+    while wanted:
+        replies = asked(client, [(name, command) for name, command, _ in wanted])
+        left = []
+        for (name, command, group), reply in zip(wanted, replies):
+            if reply == f"undecided {len(group.leaders)}":
+                left.append((name, command, group))
+            elif reply != group.reply(command):
+                raise Differs(f"{name}: {command} is answered {short(reply)}, and not {group.reply(command)}")
+        wanted = left
+        if wanted and time.monotonic() > until:
+            raise Differs(f"{wanted[0][0]}: {len(wanted)} members know no leader")
+
+
+def go_on(client, history, count):
+    """Waits until the last terms are decided, starts one more term of each group, and waits again."""
+    groups = {name: history.group_at(name, count) for name in history.names.at(count)}
+    wait_until_decided(client, groups)
+    replies = asked(client, [(name, ("start",)) for name in groups])
+    for (name, group), reply in zip(groups.items(), replies):
+        if reply != group.reply(("start",)):
+            raise Differs(f"{name}: start is answered {short(reply)}, and not {group.reply(('start',))}")
+    wait_until_decided(client, {name: group.after(("start",)) for (name, group), reply in zip(groups.items(), replies)
+                                if reply.startswith("term ")})
+
+
+def client_of(life):
+    """A client of a life, which ends with its use."""
+    return contextlib.closing(Client(life.port))

@@ -1,0 +1,212 @@
+"""Checks of the files that are refused as a journal, one by one. The program prints one line
+about each, and does not change it."""
+
+import os
+import random
+import stat
+
+from journals.changes import FIRST, marked, text_of_changes
+from journals.lives import AHEAD, Life, client_of, living
+from serving import Differs, ended, same
+
+CHECKS = []
+NOBODY = 65534
+IN_USE = b"ringd: journal in use\n"
+UNREADABLE = b"ringd: journal unreadable\n"
+NOT_A_FILE = b"ringd: journal not a file\n"
+VERSION = b"ringd: journal of another version\n"
+FAILED = b"ringd: journal failed\n"
+CHANGES = [b"create a chang", b"join a 5/9", b"join a 7", b"leave a 7", b"join a 8", b"start a", b"know a 1 8 5/9",
+           b"know a 1 5/9 5/9", b"create b peterson", b"start a", b"join b 1", b"leave a 5"]
+
+
+def check(function):
+    """Lists a function among the checks, under its name."""
+    CHECKS.append(function)
+    return function
+
+
+def bad_at(place):
+    """The line about a byte at which a journal is bad."""
+    return b"ringd: journal bad at byte %d\n" % place
+
+
+def contents(folder):
+    """Returns what is in a folder, without configurations and the lock."""
+    return {path.name: (stat.S_IFMT(path.lstat().st_mode), path.read_bytes() if path.is_file() else None)
+            for path in folder.iterdir() if path.suffix not in (".toml", ".lock")}
+
+
+def refused(program, file, error, what="", **given):
+    """Sees that the program ends with this line before it listens, and changes no file."""
+    folder = given.get("folder", file.parent)
+    before = contents(folder)
+    life = Life(program, file, **given)
+    life.kill()
+    same(f"{what}: standard output, standard error and status", (life.out, life.error, life.run.returncode),
+         (b"", error, 1))
+    if contents(folder) != before:
+        raise Differs(f"{what}: a file was changed")
+
+
+@check
+def a_second_process_is_refused(program, file):
+    with living(program, file) as life, client_of(life) as client:
+        same("reply", client.ask(b"create a chang\n"), b"ok\n")
+        refused(program, file, IN_USE)
+        same("reply", client.ask(b"join a 5\n"), b"ok\n")
+    with living(program, file) as life, client_of(life) as client:
+        same("reply", client.ask(b"members a\n"), b"members 5\n")
+
+
+@check
+def a_name_that_is_no_file_is_refused(program, file):
+    other = file.with_name("other")
+    other.write_bytes(text_of_changes(CHANGES))
+    makers = {"a folder": file.mkdir, "a pipe": lambda: os.mkfifo(file), "a link": lambda: file.symlink_to(other),
+              "a link to nothing": lambda: file.symlink_to("nothing"),
+              "a link to itself": lambda: file.symlink_to(file)}
+    for what, make in makers.items():
+        make()
+        refused(program, file, NOT_A_FILE, what)
+        (file.rmdir if what == "a folder" else file.unlink)()
+
+
+@check
+def a_folder_that_is_missing_is_refused(program, file):
+    refused(program, file.parent / "none" / file.name, UNREADABLE, folder=file.parent)
+    refused(program, file.parent / "none" / ".." / file.name, UNREADABLE, folder=file.parent)
+    refused(program, file.parent / ("x" * 300), UNREADABLE, folder=file.parent)
+
+
+@check
+def a_lock_that_can_not_be_opened_is_refused(program, file):
+    file.write_bytes(text_of_changes(CHANGES))
+    file.with_name(f"{file.name}.lock").mkdir()
+    refused(program, file, UNREADABLE)
+
+
+@check
+def a_new_file_that_can_not_be_made_is_told(program, file):
+    file.write_bytes(text_of_changes(CHANGES))
+    file.with_name(f"{file.name}.new").mkdir()
+    refused(program, file, FAILED)
+
+
+@check
+def a_file_that_can_not_be_read_is_refused(program, file):
+    file.write_bytes(text_of_changes(CHANGES))
+    file.chmod(0)
+    user = None if os.getuid() else NOBODY
+    if user:
+        file.parent.chmod(0o777)
+        if not can_run(program, user):
+            print(f"a_file_that_can_not_be_read_is_refused: left out, since the program can't be run by user {user}")
+            return
+    refused(program, file, UNREADABLE, user=user)
+
+
+def can_run(program, user):
+    """Returns whether a user that is not root can run the program."""
+    pid = os.fork()
+    if not pid:
+        os.setuid(user)
+        os._exit(0 if os.access(program, os.X_OK) else 1)
+    return os.waitpid(pid, 0)[1] == 0
+
+
+@check
+def another_version_is_refused(program, file):
+    text = text_of_changes(CHANGES)
+    for found in (b"ringd journal 2\n", text.replace(b" 1\n", b" 2\n", 1), text.replace(b"\n", b" \n", 1),
+                  text.replace(b"\n", b"\r\n", 1), b"\n" + text, b" " + text, text[1:], FIRST[:-1], FIRST[:5],
+                  FIRST[:5] + bytes(90), text[len(FIRST):]):
+        file.write_bytes(found)
+        refused(program, file, VERSION, repr(found[:20]))
+
+
+@check
+def a_file_of_something_else_is_refused(program, file):
+    for found in (b"x", b"\n", b"\xff" * 9, b"hello\n", b"workers = 2\n", b"\x7fELF\x02\x01\x01\0\0\0", b"x" * 100000,
+                  b"create a chang\njoin a 5\n"):
+        file.write_bytes(found)
+        refused(program, file, VERSION, repr(found[:20]))
+    text = text_of_changes(CHANGES)
+    file.write_bytes(bytes(100) + text + text_of_changes([b"create a chang"] * 9000))
+    refused(program, file, bad_at(100 + AHEAD - 100), "zeros and a long text")
+
+
+def places_of(text):
+    """Returns the place of the first byte of each line."""
+    return [0, *(at + 1 for at, byte in enumerate(text) if byte == 10)][:-1]
+
+
+@check
+def each_damaged_byte_is_found(program, file):
+    text, dice = text_of_changes(CHANGES), random.Random(1)
+    begins = places_of(text)
+    for place in range(len(text) - 1):
+        begin = max(begin for begin in begins if begin <= place)
+        other = text[place] ^ dice.choice([1, 2, 4, 8, 16, 32, 64, 128])
+        file.write_bytes(text[:place] + bytes([other or 255]) + text[place + 1:] + bytes(AHEAD))
+        refused(program, file, bad_at(begin) if begin else VERSION, f"byte {place} as {other}")
+
+
+@check
+def lines_that_are_moved_are_found(program, file):
+    lines = text_of_changes(CHANGES).splitlines(True)
+    for at in range(1, len(lines) - 1):
+        begin = sum(map(len, lines[:at]))
+        for what, rest in [("left out", lines[at + 1:]), ("swapped", [lines[at + 1], lines[at], *lines[at + 2:]]),
+                           ("empty", [b"\n", *lines[at:]])]:
+            file.write_bytes(b"".join([*lines[:at], *rest]))
+            refused(program, file, bad_at(begin), f"line {at} {what}")
+        file.write_bytes(b"".join([*lines[:at + 1], lines[at], *lines[at + 1:]]))
+        refused(program, file, bad_at(begin + len(lines[at])), f"line {at} twice")
+
+
+@check
+def changes_that_can_not_come_there_are_found(program, file):
+    before = text_of_changes(CHANGES)
+    for change in (b"create a chang", b"create c bully", b"create c", b"join a 8", b"join a 8/1", b"join c 1",
+                   b"join a 07", b"join a 1/0", b"join a 0", b"leave a 5", b"leave a 8/0", b"leave a 4294967296",
+                   b"start b ", b"start c", b"know a 1 8 5/9", b"know a 2 8 8", b"know a 2 9 5/9", b"know a 2 8 5",
+                   b"know a 3 8 5/9", b"know a 2 5 5/9", b"know b 1 1 1", b"know a 2 8", b"know a 2 8 5/9 5/9", b"",
+                   b"who a 8", b"members a", b"groups", b"drain a 1", b"know a 02 8 5/9", b"JOIN a 3", b"x" * 200,
+                   b"create " + b"x" * 17 + b" chang"):
+        file.write_bytes(text_of_changes([*CHANGES, change, b"create z chang"]))
+        refused(program, file, bad_at(len(before)), repr(change))
+    for change in (b"know a 2 8 5/9", b"start b", b"join a 5/9", b"create " + b"x" * 16 + b" chang"):
+        file.write_bytes(text_of_changes([*CHANGES, change]))
+        with living(program, file):
+            pass
+
+
+@check
+def marks_have_one_spelling(program, file):
+    before = text_of_changes(CHANGES)
+    line, _ = marked(b"join b 12", 0)
+    right = text_of_changes([*CHANGES, b"join b 12"])[len(before):]
+    for wrong in (line, right.upper(), right.replace(b" #", b"#"), right.replace(b" #", b"  #"), right[:-2] + b"\n",
+                  right.replace(b" #", b" "), right.replace(b" #", b" ##"), b" " + right, right[:-1] + b" \n"):
+        if wrong != right:
+            file.write_bytes(before + wrong)
+            refused(program, file, bad_at(len(before)), repr(wrong))
+
+
+@check
+def bytes_far_after_the_first_zero_are_found(program, file):
+    text = text_of_changes(CHANGES)
+    for at, more in ((AHEAD, b"x"), (AHEAD, b"\n"), (AHEAD + 1, b"\xff"), (3 * AHEAD, b"x"), (AHEAD, text)):
+        file.write_bytes(text + bytes(at) + more + bytes(5))
+        refused(program, file, bad_at(len(text) + at), f"{at} bytes after the first zero")
+    file.write_bytes(text + bytes(AHEAD - 1) + b"xy" + bytes(AHEAD))
+    refused(program, file, bad_at(len(text) + AHEAD), "one of two bytes is too far")
+
+
+@check
+def places_are_refused_with_a_journal(program, file):
+    life = Life(program, file, "--places")
+    with ended(life.run):
+        same("what it said", (life.out, life.error), (b"", b"ringd: --places cannot be used with --journal\n"))
+        same("files", contents(file.parent), {})

@@ -1,0 +1,356 @@
+"""Checks of what a restart finds, one by one."""
+
+import signal
+import subprocess
+import time
+
+from journals.changes import FIRST, History, text_of_changes, whole_text
+from journals.lives import AHEAD, Life, asked, client_of, living
+from serving import PATIENCE, Client, Differs, ended, same
+
+CHECKS = []
+# By how many bytes memory may grow.
+MOST = 1 << 20
+
+
+def check(function):
+    """Lists a function among the checks, under its name."""
+    CHECKS.append(function)
+    return function
+
+
+def say(life, lines, replies):
+    """Sends lines over a connection of their own, and compares the replies."""
+    same("replies", Client(life.port).told(lines), replies)
+
+
+def until(life, line, reply, first):
+    """Asks a question until it has this reply; before that it may have the first one."""
+    patience = time.monotonic() + PATIENCE
+    with client_of(life) as client:
+        seen = client.ask(line)
+        while seen == first and time.monotonic() < patience:
+            seen = client.ask(line)
+    same("reply", seen, reply)
+
+
+@check
+def a_restart_finds_groups_members_and_leaders(program, file):
+    with living(program, file) as life:
+        say(life, b"create a chang\ncreate b peterson\njoin a 4\njoin a 1/9\njoin a 3\njoin a 2\nleave a 3\nstart a\n",
+            b"ok\n" * 7 + b"term 1\n")
+        say(life, b"join b 4\njoin b 1\njoin b 3\njoin b 2/7\nstart b\njoin a 5\nleave a 4\n",
+            b"ok\n" * 4 + b"term 1\n" + b"ok\n" * 2)
+        for line in (b"who a 4\n", b"who a 1\n", b"who a 2\n"):
+            until(life, line, b"leader 1 1/9\n", b"undecided 1\n")
+        until(life, b"who b 1\n", b"leader 1 4\n", b"undecided 1\n")
+    with living(program, file) as life:
+        say(life, b"who a 4\nwho a 1\nwho a 2\nwho b 1\n", b"leader 1 1/9\n" * 3 + b"leader 1 4\n")
+        say(life, b"groups\nmembers a\nmembers b\nterms a\nterms b\n",
+            b"groups a b\nmembers 1/9 2 5\nmembers 4 1 3 2/7\nterms 1:1/9\nterms 1:4\n")
+        say(life, b"who a 5\ncreate a chang\njoin a 1\nleave a 4\n",
+            b"no not-in-term\nno exists\nno member\nno not-member\n")
+
+
+@check
+def a_term_goes_on_counting(program, file):
+    with living(program, file) as life:
+        say(life, b"create a lelann\njoin a 1\n" + b"start a\n" * 3, b"ok\nok\nterm 1\nterm 2\nterm 3\n")
+        until(life, b"who a 1\n", b"leader 3 1\n", b"undecided 3\n")
+    with living(program, file) as life:
+        say(life, b"join a 2\nstart a\n", b"ok\nterm 4\n")
+        until(life, b"who a 1\n", b"leader 4 2\n", b"undecided 4\n")
+    with living(program, file) as life:
+        say(life, b"leave a 1\nleave a 2\nstart a\nwho a 1\n", b"ok\nok\nno empty\nleader 4 2\n")
+        with client_of(life) as client:
+            terms = client.ask(b"terms a\n").split()
+        same("the last of four terms", (len(terms), terms[0], terms[-1]), (5, b"terms", b"4:2"))
+
+
+@check
+def running_terms_are_decided_as_they_would_have_been(program, file):
+    kinds = [(b"lelann", b"1/9"), (b"chang", b"1/9"), (b"hirschberg", b"1/9"), (b"peterson", b"3")]
+    members = [b"4", b"1/9", b"3", b"2"]
+    with living(program, file) as life:
+        for kind, _ in kinds:
+            joins = b"".join(b"join %s %s\n" % (kind, member) for member in members)
+            say(life, b"create %s %s\n" % (kind, kind) + joins, b"ok\n" * 5)
+        say(life, b"".join(b"start %s\n" % kind for kind, _ in kinds), b"term 1\n" * 4)
+    for _ in range(2):
+        with living(program, file) as life:
+            for kind, leader in kinds:
+                for member in (b"4", b"1", b"3", b"2"):
+                    until(life, b"who %s %s\n" % (kind, member), b"leader 1 %s\n" % leader, b"undecided 1\n")
+
+
+@check
+def a_large_ring_is_decided_over_many_lives(program, file):
+    members = b"".join(b"join a %d\n" % member for member in range(1, 257))
+    with living(program, file) as life:
+        say(life, b"create a lelann\n" + members + b"start a\n", b"ok\n" * 257 + b"term 1\n")
+    known = set()
+    for number in range(40):
+        with living(program, file) as life, client_of(life) as client:
+            if number == 39:
+                until(life, b"who a 256\n", b"leader 1 256\n", b"undecided 1\n")
+            replies = asked(client, [("a", ("who", member)) for member in range(1, 257)])
+        told = {member for member, reply in enumerate(replies, 1) if reply == "leader 1 256"}
+        same("what is neither decided nor undecided", {*replies} - {"leader 1 256", "undecided 1"}, set())
+        same("members that knew the leader and know none", known - told, set())
+        known |= told
+
+
+@check
+def many_terms_go_on_over_inboxes_of_one(program, file):
+    names = ["g%d" % number for number in range(256)]
+    made = [change for name in names for change in
+            [b"create %s hirschberg" % name.encode(), *(b"join %s %d" % (name.encode(), it) for it in (3, 1, 2))]]
+    file.write_bytes(text_of_changes(made + [b"start %s" % name.encode() for name in names]))
+    for workers in (1, 2, 8):
+        with living(program, file, workers=workers, inbox=1) as life, client_of(life) as client:
+            patience, replies = time.monotonic() + PATIENCE, []
+            while set(replies) != {"leader %d 3" % (1 + (workers > 1))} and time.monotonic() < patience:
+                replies = asked(client, [(name, ("who", it)) for name in names for it in (3, 1, 2)])
+            same("members that know no leader", sum(not reply.startswith("leader ") for reply in replies), 0)
+            if workers == 1:
+                asked(client, [(name, ("start",)) for name in names])
+
+
+@check
+def limits_hold_over_lives(program, file):
+    with living(program, file) as life:
+        say(life, b"create a chang\njoin a 1\n" + b"start a\n" * 600, b"ok\nok\n" + terms_from(1, 600))
+    with living(program, file) as life:
+        say(life, b"start a\n" * 500, terms_from(601, 1000) + b"no term-limit\n" * 100)
+        say(life, b"".join(b"create g%d chang\n" % number for number in range(100)), b"ok\n" * 100)
+        say(life, b"".join(b"join a %d\n" % number for number in range(2, 101)), b"ok\n" * 99)
+    with living(program, file) as life:
+        say(life, b"start a\nstart g0\n", b"no term-limit\nno empty\n")
+        say(life, b"".join(b"create h%d chang\n" % number for number in range(160)),
+            b"ok\n" * 155 + b"no group-limit\n" * 5)
+        say(life, b"".join(b"join a %d\n" % number for number in range(101, 261)),
+            b"ok\n" * 156 + b"no ring-full\n" * 4)
+    with living(program, file) as life:
+        say(life, b"create i chang\njoin a 300\nstart a\n", b"no group-limit\nno ring-full\nno term-limit\n")
+
+
+def terms_from(first, last):
+    """Returns the replies to starts of these terms."""
+    return b"".join(b"term %d\n" % term for term in range(first, last + 1))
+
+
+@check
+def changes_take_no_memory_for_good(program, file):
+    lines, replies = b"join a 4294967295/65535\nleave a 4294967295\n" * 500, b"ok\n" * 1000
+    with living(program, file) as life, client_of(life) as client:
+        same("reply", client.ask(b"create a chang\n"), b"ok\n")
+        seen = []
+        for _ in range(60):
+            client.send(lines)
+            same("replies", b"".join(client.line() for _ in range(1000)), replies)
+            seen.append(resident(life.run.pid))
+    if seen[-1] - seen[19] > MOST:
+        raise Differs(f"40000 changes have memory grow from {seen[19]} to {seen[-1]} bytes")
+
+
+def resident(pid):
+    """Returns the resident memory of a process in bytes."""
+    with open(f"/proc/{pid}/status", encoding="utf-8") as status:
+        return next(int(line.split()[1]) * 1024 for line in status if line.startswith("VmRSS:"))
+
+
+@check
+def a_journal_is_lines_that_people_read(program, file):
+    with living(program, file) as life:
+        say(life, b"create a chang\njoin a 5/9\njoin a 7\njoin a 7\nleave a 7\nstart a\nwho a 9\nbad\n",
+            b"ok\nok\nok\nno member\nok\nterm 1\nno not-in-term\nno bad-line\n")
+        until(life, b"who a 5\n", b"leader 1 5/9\n", b"undecided 1\n")
+    changes = [b"create a chang", b"join a 5/9", b"join a 7", b"leave a 7", b"start a", b"know a 1 5/9 5/9"]
+    found = file.read_bytes()
+    same("the text of the journal", whole_text(found), text_of_changes(changes))
+    same("bytes after the text that are no zeros", found[len(whole_text(found)):].strip(b"\0"), b"")
+
+
+@check
+def a_restart_keeps_each_line(program, file):
+    with living(program, file) as life:
+        say(life, b"create a chang\njoin a 5/9\njoin a 7\n", b"ok\n" * 3)
+    text = whole_text(file.read_bytes())
+    for _ in range(3):
+        with living(program, file) as life:
+            say(life, b"members a\n", b"members 5/9 7\n")
+        same("the text of the journal", whole_text(file.read_bytes()), text)
+    same("files next to the journal", names_next_to(file), [file.name, f"{file.name}.lock"])
+
+
+def names_next_to(file):
+    """Returns the names of the files in a journal's folder, without configurations."""
+    return sorted(path.name for path in file.parent.iterdir() if path.suffix != ".toml")
+
+
+@check
+def a_term_of_a_ring_of_256_has_a_line_for_each_member(program, file):
+    members = b"".join(b"join a %d/65535\n" % member for member in range(4294967040, 4294967296))
+    with living(program, file) as life:
+        say(life, b"create a chang\n" + members + b"start a\n", b"ok\n" * 257 + b"term 1\n")
+        with client_of(life) as client:
+            replies = ["undecided 1"]
+            while "undecided 1" in replies:
+                replies = asked(client, [("a", ("who", member)) for member in range(4294967040, 4294967296)])
+    history = History()
+    history.read(whole_text(file.read_bytes()))
+    same("changes", history.count, 1 + 256 + 1 + 256)
+
+
+@check
+def questions_and_refusals_write_nothing(program, file):
+    with living(program, file) as life:
+        say(life, b"create a chang\njoin a 1\nstart a\n", b"ok\nok\nterm 1\n")
+        until(life, b"who a 1\n", b"leader 1 1\n", b"undecided 1\n")
+        before = file.stat()
+        say(life, b"who a 1\nmembers a\nterms a\ngroups\njoin a 1\nleave a 2\nbad\n" * 1000,
+            b"leader 1 1\nmembers 1\nterms 1:1\ngroups a\nno member\nno not-member\nno bad-line\n" * 1000)
+        after = file.stat()
+        same("the time of the last write", after.st_mtime_ns, before.st_mtime_ns)
+        same("the size", after.st_size, before.st_size)
+
+
+@check
+def a_long_journal_grows_by_zeros(program, file):
+    joins = b"".join(b"join a %d/65535\nleave a %d\n" % (4294960000 + at, 4294960000 + at) for at in range(2000))
+    with living(program, file) as life:
+        say(life, b"create a chang\n" + joins, b"ok\n" * 4001)
+    found = file.read_bytes()
+    text = whole_text(found)
+    same("changes", text.count(b"\n"), 4002)
+    if not len(text) <= len(found) <= len(text) + 2 * AHEAD:
+        raise Differs(f"the file has {len(found)} bytes, and its text {len(text)}")
+    with living(program, file) as life:
+        say(life, b"members a\ngroups\n", b"members\ngroups a\n")
+
+
+@check
+def a_signal_ends_a_life_like_a_crash(program, file):
+    with living(program, file) as life:
+        say(life, b"create a chang\n", b"ok\n")
+        life.run.send_signal(signal.SIGTERM)
+        same("status", life.run.wait(PATIENCE), -signal.SIGTERM)
+    with living(program, file) as life:
+        say(life, b"groups\n", b"groups a\n")
+
+
+@check
+def a_journal_without_lines_begins_anew(program, file):
+    for found in (b"", bytes(70), bytes(200000), FIRST, FIRST + bytes(100)):
+        file.write_bytes(found)
+        with living(program, file) as life:
+            say(life, b"groups\ncreate a chang\n", b"groups\nok\n")
+        with living(program, file) as life:
+            say(life, b"groups\n", b"groups a\n")
+
+
+@check
+def a_torn_tail_is_dropped(program, file):
+    text = text_of_changes([b"create a chang", b"join a 5", b"join a 7"])
+    for tail in (b"j", b"join a 8", b"join a 8 #12345678", b"\0" * 9 + b"join a 8 #12345678\n", b"\0\n", b"#",
+                 b"join a 8\0#00000000\n" * 3, bytes(AHEAD - 1) + b"x", b"x" * 70000, b"create b"):
+        for zeros in (0, 1, AHEAD):
+            file.write_bytes(text + tail + bytes(zeros))
+            with living(program, file) as life:
+                say(life, b"groups\nmembers a\n", b"groups a\nmembers 5 7\n")
+            same("the text of the journal", whole_text(file.read_bytes()), text)
+
+
+@check
+def what_an_earlier_start_left_is_removed(program, file):
+    file.write_bytes(text_of_changes([b"create a chang"]))
+    file.with_name(f"{file.name}.new").write_bytes(b"ringd journal 1\ncreate b chang #0000")
+    file.with_name(f"{file.name}.lock").write_bytes(b"x")
+    with living(program, file) as life:
+        say(life, b"groups\n", b"groups a\n")
+    same("files next to the journal", names_next_to(file), [file.name, f"{file.name}.lock"])
+
+
+@check
+def a_journal_may_be_in_the_folder_of_the_program(program, file):
+    life = Life(program, file.name, folder=file.parent)
+    with ended(life.run):
+        same("the first line", life.out, b"listening 127.0.0.1:%d\n" % life.port)
+        say(life, b"create a chang\n", b"ok\n")
+    with living(program, file) as other:
+        say(other, b"groups\n", b"groups a\n")
+
+
+@check
+def without_a_journal_nothing_is_kept(program, file):
+    for _ in range(2):
+        life = Life(program, None, folder=file.parent)
+        with ended(life.run):
+            say(life, b"groups\ncreate a chang\n", b"groups\nok\n")
+    same("files", names_next_to(file), [])
+
+
+@check
+def a_copy_of_a_growing_journal_is_a_journal(program, file):
+    copies = []
+    with living(program, file) as life, client_of(life) as client:
+        same("reply", client.ask(b"create a chang\n"), b"ok\n")
+        for number in range(1, 201):
+            client.send(b"join a %d\n" % number)
+            if number % 20 == 0:
+                copies.append((number - 1, file.read_bytes()))
+            same("reply", client.line(), b"ok\n")
+    for number, found in copies:
+        file.write_bytes(found)
+        with living(program, file) as life, client_of(life) as client:
+            seen = client.ask(b"members a\n").split()[1:]
+        same("members of a copy", seen, [b"%d" % it for it in range(1, len(seen) + 1)])
+        if len(seen) < number:
+            raise Differs(f"a copy has {len(seen)} members, and {number} joined before it was made")
+
+
+@check
+def a_journal_is_listed_while_it_grows(program, file):
+    with living(program, file) as life, client_of(life) as client:
+        for number in range(20):
+            same("reply", client.ask(b"create g%d chang\n" % number), b"ok\n")
+            client.send(b"join g%d 5/9\njoin g%d 7\n" % (number, number) * 20)
+            ran = listing(program, file)
+            for _ in range(40):
+                client.line()
+            same("status and standard error", (ran.returncode, ran.stderr), (0, b""))
+            lines = ran.stdout.splitlines()
+            same("groups that are listed", sum(line.startswith(b"group ") for line in lines), number + 1)
+            same("the first words of the last line", lines[-1].split(b" ")[0], b"whole:")
+
+
+def listing(program, file):
+    """Returns a run of `ringd journal`."""
+    return subprocess.run([program, "journal", file], stdin=subprocess.DEVNULL, capture_output=True, timeout=PATIENCE,
+                          check=False)
+
+
+@check
+def a_damaged_journal_goes_on_after_a_cut(program, file):
+    text = text_of_changes([b"create a chang", b"join a 5", b"join a 7", b"join a 8"])
+    at = text.index(b"join a 7")
+    file.write_bytes(text.replace(b"join a 7", b"join a 6"))
+    ran = listing(program, file)
+    same("what is listed", (ran.returncode, ran.stdout, ran.stderr),
+         (1, b"", b"ringd: journal bad at byte %d\n" % at))
+    file.write_bytes(file.read_bytes()[:at])
+    with living(program, file) as life:
+        say(life, b"members a\n", b"members 5\n")
+
+
+@check
+def a_journal_is_a_schedule(program, file):
+    with living(program, file) as life:
+        say(life, b"create a chang\njoin a 5/9\njoin a 7\nleave a 5\nstart a\nstart a\n",
+            b"ok\n" * 4 + b"term 1\nterm 2\n")
+        until(life, b"who a 7\n", b"leader 2 7\n", b"undecided 2\n")
+    lines = file.read_bytes().replace(b"\0", b"").splitlines()
+    commands = [line.partition(b" #")[0] for line in lines if not line.startswith((b"ringd", b"know"))]
+    ran = subprocess.run([program, "replay"], input=b"\n".join(commands), capture_output=True, timeout=PATIENCE,
+                         check=False)
+    same("replies", ran.stdout, b"ok\n" * 4 + b"term 1\nterm 2\n")
