@@ -18,11 +18,13 @@ SHARED = ("session_rows::", "thread_rows::")
 # Tests that ask once more, by crate and by the beginnings of their names: for each growth they have to pass.
 ASK_AGAIN = {
     "ring_line_rows_tests": ("",),
+    "ring_recovery_rows_tests": ("faults::", "lives::a_full_", "lives::a_table_", "lives::the_"),
     "ring_rows_tests": (
         "node_rows::", "note_rows::", "scan_rows::", "schedules::", "settle_rows::", "work_rows::",
         "workers::starved_worker::", "world_rows::",
     ),
     "ring_table_rows_tests": ("seat_rows::", "table_rows::", *SHARED),
+    "ring_winner_rows_tests": ("",),
 }
 # Tests that start threads, and end whichever growth is refused.
 THREADED = {
