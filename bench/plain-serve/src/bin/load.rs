@@ -1,9 +1,10 @@
-//! Asks a server on 127.0.0.1 who leads, over and over, and counts the replies.
+//! Asks a server on 127.0.0.1 who leads, or has it change groups, over and over, and counts the replies.
 //!
 //! `load PORT CONNECTIONS DEPTH SECONDS WHAT`: each connection has a thread, which writes DEPTH lines at
 //! once and reads as many replies before it writes the next. WHAT is `leader`, where every reply has to
-//! be the leader of the group that is made first, or `echo`, where it has to be the line itself. One line
-//! is printed: the number of replies, and the seconds that they took.
+//! be the leader of the group that is made first, or `echo`, where it has to be the line itself. With `changes` a
+//! member joins and leaves a group of each connection's own. One line is printed: the number of replies, and the
+//! seconds that they took.
 
 #[path = "../asking.rs"]
 mod asking;
@@ -45,11 +46,14 @@ impl Load {
         let connected = Client::connect(self.port);
         begin.wait();
         let mut client = connected?;
-        let (lines, replies) = self.wanted.batch(self.depth, connection);
+        let batches = self.wanted.batches(self.depth, connection);
         let began = Instant::now();
         let mut count = 0;
-        while began.elapsed() < self.time {
-            client.expect(&lines, &replies)?;
+        for (lines, replies) in batches.iter().cycle() {
+            if began.elapsed() >= self.time {
+                break;
+            }
+            client.expect(lines, replies)?;
             count += self.depth;
         }
         Ok(count)
@@ -78,7 +82,7 @@ impl Load {
 fn main() -> ExitCode {
     let words: Vec<String> = std::env::args().skip(1).collect();
     let Some(load) = Load::from_words(&words) else {
-        eprintln!("usage: load PORT CONNECTIONS DEPTH SECONDS leader|echo");
+        eprintln!("usage: load PORT CONNECTIONS DEPTH SECONDS leader|echo|changes");
         return ExitCode::from(2);
     };
     match load.run() {

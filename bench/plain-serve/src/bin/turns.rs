@@ -31,7 +31,7 @@ struct Server {
 impl Server {
     fn prepare(port: u16, wanted: Wanted, depth: usize) -> io::Result<Server> {
         wanted.prepare(port)?;
-        let (lines, replies) = wanted.batch(depth, 0);
+        let (lines, replies) = wanted.batches(depth, 0).swap_remove(0);
         Ok(Server {
             client: Client::connect(port)?,
             lines,
