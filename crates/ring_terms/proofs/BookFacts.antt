@@ -42,6 +42,11 @@ pub missing_in : {E : Type 0} (entries : List (List ℕ × Group E)) (object : O
 missing_in {E} entries object is name at =
     subst (λ (o : Object E). find name o ≡ None) is (lookup-map (bytes_eq name) (group_view {E = E}) entries ∙ ap (option_map (group_view {E = E})) (sym at))
 
+-- a book shows at a place what its entry there shows
+pub entry_in : {E : Type 0} (entries : List (List ℕ × Group E)) (object : Object E) → object_view entries ≡ object → (place : ℕ) → slice_get object place ≡ option_map (λ (e : List ℕ × Group E). (e.0, group_view e.1)) (slice_get entries place)
+entry_in {E} entries object is place =
+    sym (ap (λ (o : Object E). slice_get o place) is) ∙ slice_get-map (λ (e : List ℕ × Group E). (e.0, group_view e.1)) entries place
+
 -- what is so of the group of this name is so of what the one that was looked up shows
 pub of_shown : {E : Type 0} (entries : List (List ℕ × Group E)) (object : Object E) → object_view entries ≡ object → (name : List ℕ) (g : Group E) → Some g ≡ lookup (bytes_eq name) entries →
     (Says : GroupView E → Type 0) → OfGroup name Says object → Says (group_view g)

@@ -32,6 +32,7 @@ new_term_kept winner ring is_ring = record {
   marked = length-replicate (length ring) false;
   wins = λ leader h. absurd (none-some leader h);
   led = λ position h. absurd (false≢true (sym (slice_get-replicate (length ring) position false true h)));
+  heard = λ h. absurd (false≢true h);
 }
 
 -- a group with a running charter has a term

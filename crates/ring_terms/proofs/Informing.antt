@@ -12,6 +12,7 @@ use Rattle.ring_terms.specs.Object.{TermView}
 use Rattle.ring_terms.specs.Kept.{IsTermKept}
 use Rattle.ring_terms.specs.Moves.{IsNamed, InformsIn, LeadsAfter, inform}
 use Rattle.ring_terms.specs.Standings.{IsInformedIn}
+use Rattle.ring_terms.proofs.Objects.{set_here}
 
 -- the winner of a ring may be named
 pub winner_named : {S M : Type 0} {two_way greatest : Bool} {t : Table S M} {fits : Fitting M} {winner : List ℕ → ℕ} → Lawful two_way greatest t fits winner → (ring : List ℕ) → IsRing ring → IsNamed greatest ring (winner ring)
@@ -40,12 +41,13 @@ pub uninformed_without_leader : (winner : List ℕ → ℕ) (term : TermView) �
 uninformed_without_leader winner term kept position within none = unset_mark term position (get_or term.informed position false) kept.led none (slice_get-get_or term.informed position false (rw kept.marked within))
 
 -- a term in which a member becomes informed of the winner keeps what terms keep
-pub inform_kept : (winner : List ℕ → ℕ) (term : TermView) → IsTermKept winner term → (position leader : ℕ) → leader ≡ winner term.ring → IsTermKept winner (inform position leader term)
-inform_kept winner term kept position leader leads = record {
+pub inform_kept : (winner : List ℕ → ℕ) (term : TermView) → IsTermKept winner term → (position leader : ℕ) → position < length term.ring → leader ≡ winner term.ring → IsTermKept winner (inform position leader term)
+inform_kept winner term kept position leader inside leads = record {
   is_ring = kept.is_ring;
   marked = length-set term.informed position true ∙ kept.marked;
   wins = λ other same. sym (same_Some leader other same) ∙ leads;
   led = λ p there. refl;
+  heard = λ _. (position, set_here term.informed position true (rw kept.marked inside));
 }
 
 module _ (winner : List ℕ → ℕ) (term : TermView) (kept : IsTermKept winner term) (member leader position : ℕ)

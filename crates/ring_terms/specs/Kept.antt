@@ -13,6 +13,8 @@ pub record IsTermKept (winner : List ℕ → ℕ) (term : TermView) : Type 0 whe
   pub wins : (leader : ℕ) → term.leader ≡ Some leader → leader ≡ winner term.ring
   -- where somebody is informed, there is a leader
   pub led : (position : ℕ) → slice_get term.informed position ≡ Some true → IsSome term.leader
+  -- where there is a leader, somebody is informed
+  pub heard : IsSome term.leader → (position : ℕ) × (slice_get term.informed position ≡ Some true)
 
 -- what is so of a group
 pub record IsGroupKept {E : Type 0} (winner : E → List ℕ → ℕ) (group : GroupView E) : Type 0 where

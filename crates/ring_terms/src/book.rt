@@ -1,4 +1,4 @@
-ghost use Rattle.std.specs.Prelude.{◌≡◌, ◌<◌, [], length, None, OnErr, OnOk, Some, slice_index, true, false};
+ghost use Rattle.std.specs.Prelude.{◌≡◌, ◌<◌, [], length, None, OnErr, OnOk, Some, slice_get, slice_index, true, false};
 ghost use Rattle.ring_terms.specs.Object.{InGroup, OfGroup, leaders, names, place_of};
 ghost use Rattle.ring_terms.specs.Charters.{next_charter, running_charter, running_in};
 ghost use Rattle.ring_terms.specs.Commands.{create_refusal, in_group, join_refusal, leave_refusal, never_refused, running_refusal, start_refusal, who_refusal, Answers, Creates, Joins, Leaves, Shows, StartsWith};
@@ -7,6 +7,7 @@ ghost use Rattle.ring_terms.specs.Notes.{Notes};
 ghost use Rattle.ring_terms.specs.Standings.{Tells};
 
 use crate::group::Group;
+use crate::shown::ShownGroup;
 use crate::standing::{Noting, Standing};
 use indexmap::IndexMap;
 use ring_election::RingElection;
@@ -209,6 +210,16 @@ impl<E: RingElection> Book<E> {
         ensures kept { IsKept E.winner self.now }
     {
         self.groups.get_index_of(&group)
+    }
+
+    /// The group at this place in order of creation, counted from 0; none past the last. Takes no memory.
+    pub fn group_at(&self, place: usize) -> Option<ShownGroup<'_, E>>
+        ensures { result ≡ slice_get self.now place }
+    {
+        let Some((name, group)) = self.groups.get_index(place) else {
+            return None;
+        };
+        Some(ShownGroup::new(*name, group))
     }
 
     /// Files a report: the member is informed of the leader of the last term of its group. Takes no

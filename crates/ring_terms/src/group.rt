@@ -1,4 +1,5 @@
-ghost use Rattle.std.specs.Prelude.{◌≡◌, ◌+◌, ◌<◌, ◌≤◌, IfOk, None, OnErr, OnOk, Some, filter, length, map, not, slice_index, true, false};
+ghost use Rattle.std.specs.Prelude.{◌≡◌, ◌+◌, ◌<◌, ◌≤◌, IfOk, None, OnErr, OnOk, Some, filter, length, map, not, slice_get, slice_index, true, false};
+ghost use Rattle.std.specs.Option.{option_copied};
 ghost use Rattle.std.specs.List.{list_any};
 ghost use Rattle.ring_roster.specs.Ring.{is_numbered};
 ghost use Rattle.ring_terms.specs.Object.{new_group, leaders};
@@ -93,6 +94,27 @@ impl<E: RingElection> Group<E> {
             return Err(Refusal::NoMemory);
         };
         Ok(MemberList::new(members))
+    }
+
+    /// The algorithm of its terms.
+    pub(crate) fn algorithm(&self) -> E
+        ensures { result ≡ self.now.algorithm }
+    {
+        self.algorithm
+    }
+
+    /// The members in place.
+    pub(crate) fn member_slice(&self) -> &[NodeId]
+        ensures { result.now ≡ self.now.members.items }
+    {
+        &self.members
+    }
+
+    /// The term with this place, counted from 0.
+    pub(crate) fn term_at(&self, place: usize) -> Option<&Term<E>>
+        ensures { option_copied result ≡ slice_get self.now.terms.items place }
+    {
+        self.terms.get(place)
     }
 
     /// The leader of each term.

@@ -52,6 +52,13 @@ impl<E: RingElection> Term<E> {
         self.leader
     }
 
+    /// For each position whether that member is informed.
+    pub(crate) fn informed(&self) -> &[bool]
+        ensures { result.now ≡ self.now.informed.items }
+    {
+        &self.informed
+    }
+
     /// What this term says to the member with this number.
     pub(crate) fn who(&self, node: NodeNo) -> Result<Standing, Refusal>
         requires { IsSound E.winner self.now }

@@ -30,4 +30,4 @@ returns-clause-notes g c =
 -- The ring stays, there are as many marks as before, and the leader is the winner.
 pub returns-clause-kept : goal.returns-clause-kept
 returns-clause-kept g c =
-    inform_kept _ _ c.requires.sound c.args.position c.args.leader c.requires.wins
+    inform_kept _ _ c.requires.sound c.args.position c.args.leader c.requires.inside c.requires.wins
