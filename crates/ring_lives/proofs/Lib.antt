@@ -1,4 +1,6 @@
+mod Beginning
 mod Joining
 mod Leading
+mod Parting
 mod Replaying
 mod Telling

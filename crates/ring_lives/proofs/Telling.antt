@@ -1,10 +1,10 @@
--- The places of a life's entries in the history of all lives, and the changes that it begins with.
-use Rattle.std.proofs.Common.{◌≡◌, ◌≤◌, ◌<◌, ◌+◌, ℕ, zero, suc, Bool, List, [], ◌∷◌, ◌++◌, ◌⊎◌, inl, inr, Option, Some, None, length, take, slice_get, refl, ap, sym, ◌∙◌, subst, append_assoc, arith, length-append}
+-- The places of a life's entries in the history of all lives, and the changes of two histories.
+use Rattle.std.proofs.Common.{◌≡◌, ◌≤◌, ◌<◌, ◌+◌, ℕ, zero, suc, Bool, List, [], ◌∷◌, ◌++◌, ◌⊎◌, inl, inr, Option, Some, None, length, take, slice_get, refl, ap, ◌∙◌, subst, append_assoc, arith, length-append}
 use Rattle.ring_election.proofs.Members.{slice_get-append_left, slice_get-append_right}
 use Rattle.ring_table.specs.declared.entry.Entry.{Entry}
 use Rattle.ring_change.specs.declared.change.Change.{Change}
 use Rattle.ring_lives.specs.Changes.{change_in, changes_of, onto}
-use Rattle.ring_lives.specs.Lives.{AreToldIn, BeginWithAll, Life, Succeed, all_kept, all_told, kept}
+use Rattle.ring_lives.specs.Lives.{AreToldIn, Life, Succeed, all_kept, all_told, kept}
 use Rattle.ring_lives.specs.Leaders.{IsIn}
 
 -- the changes of two histories, one after another
@@ -12,7 +12,7 @@ onto_more : {A : Type 0} (x : Option A) (xs ys : List A) → onto x (xs ++ ys) �
 onto_more None xs ys = refl
 onto_more (Some x) xs ys = refl
 
-changes_of-append : {E : Type 0} (first second : List (Entry E)) → changes_of (first ++ second) ≡ changes_of first ++ changes_of second
+pub changes_of-append : {E : Type 0} (first second : List (Entry E)) → changes_of (first ++ second) ≡ changes_of first ++ changes_of second
 changes_of-append [] second = refl
 changes_of-append {E} (entry ∷ first) second =
     ap (λ (changes : List (Change E)). onto (change_in entry) changes) (changes_of-append first second) ∙ onto_more (change_in entry) (changes_of first) (changes_of second)
@@ -57,15 +57,6 @@ module _ {E : Type 0} (two_way greatest : E → Bool) where
         subst (λ (offset : ℕ). AreToldIn (before ++ (kept life ++ all_kept lives)) offset lives) (length-append before (kept life))
             (subst (λ (history : List (Entry E)). AreToldIn history (length (before ++ kept life)) lives) (append_assoc before (kept life) (all_kept lives)) rest),
       )
-
-  -- lives begin with the changes of all that was left before them
-  pub begin_with_all : (lives : List (Life E)) (before found : List (Entry E)) → changes_of found ≡ changes_of before → Succeed two_way greatest found lives → BeginWithAll before lives
-  begin_with_all [] before found same succeed = tt
-  begin_with_all (life ∷ lives) before found same succeed =
-      let opened = succeed.1 ∙ same in
-      let further : changes_of (life.opening ++ kept life) ≡ changes_of (before ++ kept life) =
-      changes_of-append life.opening (kept life) ∙ ap (λ (changes : List (Change E)). changes ++ changes_of (kept life)) opened ∙ sym (changes_of-append before (kept life)) in
-      (opened, begin_with_all lives (before ++ kept life) (life.opening ++ kept life) further succeed.2)
 
   -- an entry whose reply a client got is in the history of all lives
   pub told_kept : (lives : List (Life E)) (found : List (Entry E)) (entry : Entry E) → Succeed two_way greatest found lives → IsIn entry (all_told lives) → IsIn entry (all_kept lives)

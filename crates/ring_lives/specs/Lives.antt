@@ -1,10 +1,11 @@
--- Lives of a service, one after another. Each begins with the changes that the last crash left.
+-- Lives of a service, one after another. Each begins with the groups that the last crash left.
 use Rattle.std.specs.Prelude.{◌≡◌, ◌≤◌, ◌<◌, ◌+◌, ℕ, Bool, List, [], ◌∷◌, ◌++◌, Some, length, take, slice_get}
 use Rattle.ring_terms.specs.Object.{Object}
 use Rattle.ring_table.specs.Histories.{IsLegal}
 use Rattle.ring_table.specs.declared.entry.Entry.{Entry}
 use Rattle.ring_lives.specs.Changes.{changes_of}
 use Rattle.ring_lives.specs.Leaders.{NameOneLeader}
+use Rattle.ring_lives.specs.Replays.{LeadAlike}
 
 -- a life: the entries that its table had when it was opened, those that it got, how many of these the crash
 -- left, and how many of these have replies that clients got
@@ -37,11 +38,6 @@ abbrev pub all_told : {E : Type 0} → List (Life E) → List (Entry E)
 all_told [] = []
 all_told (life ∷ lives) = take life.told life.log ++ all_told lives
 
--- each life begins with the changes of all entries that are left of earlier lives
-abbrev pub BeginWithAll : {E : Type 0} → List (Entry E) → List (Life E) → Type 0
-BeginWithAll before [] = Unit {0}
-BeginWithAll before (life ∷ lives) = (changes_of life.opening ≡ changes_of before) × BeginWithAll (before ++ kept life) lives
-
 module _ {E : Type 0} (two_way greatest : E → Bool) where
   -- A life's table is legal, and the crash left each entry whose reply a client got.
   pub record IsLife (life : Life E) : Type 0 where
@@ -49,13 +45,23 @@ module _ {E : Type 0} (two_way greatest : E → Bool) where
     pub legal : IsLegal two_way greatest (life.opening ++ life.log) book
     pub told : life.told ≤ life.left
 
-  -- each life is opened with the changes that the one before it left
+  -- each life is opened with entries that lead to the groups that the one before it left
   abbrev pub Succeed : List (Entry E) → List (Life E) → Type 0
   Succeed before [] = Unit {0}
-  Succeed before (life ∷ lives) = IsLife life × (changes_of life.opening ≡ changes_of before) × Succeed (life.opening ++ kept life) lives
+  Succeed before (life ∷ lives) = IsLife life × LeadAlike greatest life.opening before × Succeed (life.opening ++ kept life) lives
+
+  -- each life is opened with the very changes that the one before it left
+  abbrev pub SucceedExactly : List (Entry E) → List (Life E) → Type 0
+  SucceedExactly before [] = Unit {0}
+  SucceedExactly before (life ∷ lives) = IsLife life × (changes_of life.opening ≡ changes_of before) × SucceedExactly (life.opening ++ kept life) lives
+
+  -- each life begins with the groups that all entries lead to which are left of earlier lives
+  abbrev pub BeginWithAll : List (Entry E) → List (Life E) → Type 0
+  BeginWithAll before [] = Unit {0}
+  BeginWithAll before (life ∷ lives) = LeadAlike greatest life.opening before × BeginWithAll (before ++ kept life) lives
 
   -- These lives are one legal history. It has each entry whose reply a client got, and each life begins with
-  -- the changes of all entries before it.
+  -- the groups that all entries before it lead to.
   pub record IsOneRun (lives : List (Life E)) : Type 0 where
     pub book : Object E
     pub legal : IsLegal two_way greatest (all_kept lives) book
@@ -65,6 +71,10 @@ module _ {E : Type 0} (two_way greatest : E → Bool) where
   -- All lives from the first one on are one run.
   abbrev pub AreOneRun : Type 0
   AreOneRun = (lives : List (Life E)) → Succeed [] lives → IsOneRun lives
+
+  -- Lives that begin with the very changes before them begin with the groups that these lead to.
+  abbrev pub MayBeExact : Type 0
+  MayBeExact = (lives : List (Life E)) → SucceedExactly [] lives → Succeed [] lives
 
   -- No two clients got different leaders of one term, in all lives from the first one on.
   abbrev pub TellOneLeader : Type 0

@@ -23,6 +23,12 @@ module _ {E : Type 0} (greatest : E → Bool) where
   Replays old [] new = new ≡ old
   Replays old (change ∷ changes) new = (mid : Object E) × Does old change mid × Replays mid changes new
 
+  -- The changes of two histories lead from no groups to the same groups.
+  pub record LeadAlike (first second : List (Entry E)) : Type 0 where
+    pub groups : Object E
+    pub by_first : Replays [] (changes_of first) groups
+    pub by_second : Replays [] (changes_of second) groups
+
   -- the same changes lead from the same groups to the same groups
   abbrev pub AreExact : Type 0
   AreExact = (changes : List (Change E)) (old a b : Object E) → Replays old changes a → Replays old changes b → a ≡ b
