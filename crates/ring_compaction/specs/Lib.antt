@@ -1,0 +1,2 @@
+pub mod BookChanges
+pub mod Bound
