@@ -1,5 +1,5 @@
 -- A recorder with one entry more.
-use Rattle.std.proofs.Common.{◌≡◌, ◌≤◌, ℕ, List, [], ◌∷◌, ◌++◌, Option, Some, None, All, length, take, refl, ap, sym, ◌∙◌, subst, arith, append-nil, length-append}
+use Rattle.std.proofs.Common.{◌≡◌, ◌<◌, ◌≤◌, ◌+◌, ◌-◌, ◌^◌, ℕ, min, List, [], ◌∷◌, ◌++◌, Option, Some, None, All, length, take, refl, ap, sym, ◌∙◌, subst, arith, append-nil, length-append}
 use Rattle.std.proofs.lemmas.List.{take_all, take-append-le}
 use Rattle.std.proofs.lemmas.List.Elements.{All-push}
 use Rattle.ring_any.specs.declared.any.Any.{Any}
@@ -13,8 +13,13 @@ use Rattle.ring_change.specs.Lines.{check_behind, marked_line}
 use Rattle.ring_change.specs.Spelling.{IsChange}
 use Rattle.ring_lives.specs.Changes.{change_in, changes_of, onto}
 use Rattle.ring_recovery.specs.JournalLines.{check_of, journal_lines}
+use Rattle.ring_recovery.specs.Life.{IsLife}
 use Rattle.ring_recovery.specs.private.Invariant.{IsWritten}
 use Rattle.ring_recovery.proofs.Marking.{check_of-push, journal_lines-push, marked_lines-length}
+
+-- there are few entries if there is room for one more
+pub room_left : (many other : ℕ) → 0 < min (2 ^ 44 - 1 - many) other → many + 1 < 2 ^ 44
+room_left many other some = omega (arith, some)
 
 -- the changes of entries and then one more
 pub changes_of-push : (entries : List (Entry Any)) (entry : Entry Any) → changes_of (entries ++ entry ∷ []) ≡ changes_of entries ++ onto (change_in entry) []
@@ -37,76 +42,86 @@ still_first : (entries : List (Entry Any)) (entry : Entry Any) (sure : ℕ) → 
 still_first entries entry sure within = ap (λ (first : List (Entry Any)). length (changes_of first)) (take-append-le sure entries (entry ∷ []) within)
 
 -- the entry of a change, whose line was added
-pub with_change : (entries : List (Entry Any)) (entry : Entry Any) (change : Change Any) (old new : JournalView) (check next sure : ℕ) → IsWritten entries old check sure
-    → change_in entry ≡ Some change → IsChange change → Adds old (marked_line check change) new → next ≡ check_behind check change → IsWritten (entries ++ entry ∷ []) new next sure
-with_change entries entry change old new check next sure written some legal adds checked =
+pub with_change : (life : ℕ) (entries : List (Entry Any)) (entry : Entry Any) (change : Change Any) (old new : JournalView) (check next sure : ℕ) → IsWritten life entries old check sure
+    → length entries + 1 < 2 ^ 44 → change_in entry ≡ Some change → IsChange change → Adds old (marked_line check change) new → next ≡ check_behind check change → IsWritten life (entries ++ entry ∷ []) new next sure
+with_change life entries entry change old new check next sure written few some legal adds checked =
     let changes = changes_of-change entries entry change some in
     record {
+      counted = written.counted;
       lines = adds.lines
           ∙ ap (λ (lines : List (List ℕ)). lines ++ marked_line check change ∷ []) written.lines
-          ∙ ap (λ (before : ℕ). journal_lines (changes_of entries) ++ marked_line before change ∷ []) written.checked
-          ∙ sym (journal_lines-push (changes_of entries) change)
-          ∙ ap journal_lines (sym changes);
+          ∙ ap (λ (before : ℕ). journal_lines life (changes_of entries) ++ marked_line before change ∷ []) written.checked
+          ∙ sym (journal_lines-push life (changes_of entries) change)
+          ∙ ap (journal_lines life) (sym changes);
       legal = subst (λ (all : List (Change Any)). All IsChange all) (sym changes) (All-push IsChange (changes_of entries) change written.legal legal);
       checked = checked ∙ ap (λ (before : ℕ). check_behind before change) written.checked ∙ sym (check_of-push first_check (changes_of entries) change) ∙ ap (check_of first_check) (sym changes);
+      few = omega (arith, few, length-append entries (entry ∷ []));
       within = omega (arith, written.within, length-append entries (entry ∷ []));
       kept = omega (arith, written.kept, still_first entries entry sure written.within, ap (λ (disk : Moment). length (whole_lines_of (take disk.kept disk.text))) adds.disk);
     }
 
 -- an entry without a change
-pub without_change : (entries : List (Entry Any)) (entry : Entry Any) (journal : JournalView) (check sure : ℕ) → IsWritten entries journal check sure
-    → change_in entry ≡ None → IsWritten (entries ++ entry ∷ []) journal check sure
-without_change entries entry journal check sure written none =
+pub without_change : (life : ℕ) (entries : List (Entry Any)) (entry : Entry Any) (journal : JournalView) (check sure : ℕ) → IsWritten life entries journal check sure
+    → length entries + 1 < 2 ^ 44 → change_in entry ≡ None → IsWritten life (entries ++ entry ∷ []) journal check sure
+without_change life entries entry journal check sure written few none =
     let changes = changes_of-none entries entry none in
     record {
-      lines = written.lines ∙ ap journal_lines (sym changes);
+      counted = written.counted;
+      lines = written.lines ∙ ap (journal_lines life) (sym changes);
       legal = subst (λ (all : List (Change Any)). All IsChange all) (sym changes) written.legal;
       checked = written.checked ∙ ap (check_of first_check) (sym changes);
+      few = omega (arith, few, length-append entries (entry ∷ []));
       within = omega (arith, written.within, length-append entries (entry ∷ []));
       kept = omega (arith, written.kept, still_first entries entry sure written.within);
     }
 
 -- an entry without a change, which is kept since all entries before it are
-pub with_question : (entries : List (Entry Any)) (entry : Entry Any) (journal : JournalView) (check sure now : ℕ) → IsWritten entries journal check sure
-    → change_in entry ≡ None → sure ≡ length entries → now ≡ length (entries ++ entry ∷ []) → IsWritten (entries ++ entry ∷ []) journal check now
-with_question entries entry journal check sure now written none all is =
-    let more = without_change entries entry journal check sure written none in
+pub with_question : (life : ℕ) (entries : List (Entry Any)) (entry : Entry Any) (journal : JournalView) (check sure now : ℕ) → IsWritten life entries journal check sure
+    → length entries + 1 < 2 ^ 44 → change_in entry ≡ None → sure ≡ length entries → now ≡ length (entries ++ entry ∷ []) → IsWritten life (entries ++ entry ∷ []) journal check now
+with_question life entries entry journal check sure now written few none all is =
+    let more = without_change life entries entry journal check sure written few none in
     let before : take sure entries ≡ entries = take_all sure entries (omega (arith, all)) in
     let after : take now (entries ++ entry ∷ []) ≡ entries ++ entry ∷ [] = take_all now (entries ++ entry ∷ []) (omega (arith, is)) in
     let same : length (changes_of (take now (entries ++ entry ∷ []))) ≡ length (changes_of (take sure entries)) =
     ap (λ (l : List (Entry Any)). length (changes_of l)) after ∙ ap length (changes_of-none entries entry none) ∙ ap (λ (l : List (Entry Any)). length (changes_of l)) (sym before) in
     record {
+      counted = more.counted;
       lines = more.lines;
       legal = more.legal;
       checked = more.checked;
+      few = more.few;
       within = omega (arith, is);
       kept = omega (arith, written.kept, same);
     }
 
 -- all entries are kept where all lines are settled
-pub begun : (entries : List (Entry Any)) (journal : JournalView) (check sure : ℕ) → journal.lines ≡ journal_lines (changes_of entries) → All IsChange (changes_of entries) → check ≡ check_of first_check (changes_of entries)
-    → settled journal ≡ length journal.lines → sure ≡ length entries → IsWritten entries journal check sure
-begun entries journal check sure lines legal checked all is =
+pub begun : (life : ℕ) (entries : List (Entry Any)) (journal : JournalView) (check sure : ℕ) → IsLife life → length entries < 2 ^ 44 → journal.lines ≡ journal_lines life (changes_of entries) → All IsChange (changes_of entries) → check ≡ check_of first_check (changes_of entries)
+    → settled journal ≡ length journal.lines → sure ≡ length entries → IsWritten life entries journal check sure
+begun life entries journal check sure counted few lines legal checked all is =
     let whole : take sure entries ≡ entries = take_all sure entries (omega (arith, is)) in
     record {
+      counted = counted;
       lines = lines;
       legal = legal;
       checked = checked;
+      few = few;
       within = omega (arith, is);
       kept = omega (arith, all, ap length lines, marked_lines-length first_check (changes_of entries), ap (λ (l : List (Entry Any)). length (changes_of l)) whole);
     }
 
 -- all entries, once all lines are settled
-pub all_kept : (entries : List (Entry Any)) (old new : JournalView) (check sure now : ℕ) → IsWritten entries old check sure → new.lines ≡ old.lines → settled new ≡ length new.lines → now ≡ length entries
-    → IsWritten entries new check now
-all_kept entries old new check sure now written lines all is = begun entries new check now (lines ∙ written.lines) written.legal written.checked all is
+pub all_kept : (life : ℕ) (entries : List (Entry Any)) (old new : JournalView) (check sure now : ℕ) → IsWritten life entries old check sure → new.lines ≡ old.lines → settled new ≡ length new.lines → now ≡ length entries
+    → IsWritten life entries new check now
+all_kept life entries old new check sure now written lines all is = begun life entries new check now written.counted written.few (lines ∙ written.lines) written.legal written.checked all is
 
 -- the same lines, of which no fewer are settled
-pub same_lines : (entries : List (Entry Any)) (old new : JournalView) (check sure : ℕ) → IsWritten entries old check sure → new.lines ≡ old.lines → settled new ≡ settled old → IsWritten entries new check sure
-same_lines entries old new check sure written lines settles = record {
+pub same_lines : (life : ℕ) (entries : List (Entry Any)) (old new : JournalView) (check sure : ℕ) → IsWritten life entries old check sure → new.lines ≡ old.lines → settled new ≡ settled old → IsWritten life entries new check sure
+same_lines life entries old new check sure written lines settles = record {
+  counted = written.counted;
   lines = lines ∙ written.lines;
   legal = written.legal;
   checked = written.checked;
+  few = written.few;
   within = written.within;
   kept = omega (arith, written.kept, settles);
 }

@@ -13,6 +13,7 @@ use Rattle.ring_change.specs.Checks.{first_check}
 use Rattle.ring_change.specs.Spelling.{IsChange}
 use Rattle.ring_lives.specs.Changes.{change_in, changes_of}
 use Rattle.ring_recovery.specs.JournalLines.{heading, journal_lines, marked_lines}
+use Rattle.ring_recovery.specs.Life.{IsLife}
 use Rattle.ring_recovery.specs.Written.{FindsEntries, LeavesFirst, WrittenView}
 use Rattle.ring_recovery.specs.private.Invariant.{IsWritten}
 use Rattle.ring_recovery.proofs.Marking.{marked_lines-length, marked_lines-take}
@@ -64,40 +65,42 @@ first_changes (entry ∷ entries) (suc fewest) (suc many) within least most = el
 ] refl
 
 -- a restart that finds the first lines finds the changes of the first entries
-from_lines : (entries : List (Entry Any)) (sure many : ℕ) (found : List ℕ) → All IsChange (changes_of entries) → sure ≤ length entries → 1 + length (changes_of (take sure entries)) ≤ many → many ≤ length (journal_lines (changes_of entries))
-    → lines_in found ≡ take many (journal_lines (changes_of entries)) → IsWhole found → FindsEntries entries sure found
-from_lines entries sure zero found legal within least most same whole = absurd (omega (arith, least))
-from_lines entries sure (suc n) found legal within least most same whole =
+from_lines : (life : ℕ) (entries : List (Entry Any)) (sure many : ℕ) (found : List ℕ) → IsLife life → All IsChange (changes_of entries) → sure ≤ length entries → 1 + length (changes_of (take sure entries)) ≤ many → many ≤ length (journal_lines life (changes_of entries))
+    → lines_in found ≡ take many (journal_lines life (changes_of entries)) → IsWhole found → FindsEntries life entries sure found
+from_lines life entries sure zero found counted legal within least most same whole = absurd (omega (arith, least))
+from_lines life entries sure (suc n) found counted legal within least most same whole =
     let first = first_changes entries sure n within (omega (arith, least)) (omega (arith, most, marked_lines-length first_check (changes_of entries))) in
     record {
+      counted = counted;
       left = first.left;
       least = first.least;
       most = first.most;
-      lines = same ∙ ap (λ (lines : List (List ℕ)). heading ∷ lines) (marked_lines-take first_check n (changes_of entries) ∙ ap (marked_lines first_check) first.are);
+      lines = same ∙ ap (λ (lines : List (List ℕ)). heading life ∷ lines) (marked_lines-take first_check n (changes_of entries) ∙ ap (marked_lines first_check) first.are);
       legal = subst (λ (changes : List (Change Any)). All IsChange changes) first.are (All-take IsChange n (changes_of entries) legal);
       whole = whole;
     }
 
 -- A crash between these two leaves the changes of the first entries, if the lines stay the same.
-pub leaves_lines : (entries : List (Entry Any)) (old new : JournalView) (check sure : ℕ) → IsWritten entries old check sure → new.lines ≡ old.lines → FindsFirst old new
-    → (m : Moment) → Grows old.disk m → Grows m new.disk → (found : List ℕ) → MayFind found m.text m.kept → FindsEntries entries sure found
-leaves_lines entries old new check sure written lines finds m from to found find =
+pub leaves_lines : (life : ℕ) (entries : List (Entry Any)) (old new : JournalView) (check sure : ℕ) → IsWritten life entries old check sure → new.lines ≡ old.lines → FindsFirst old new
+    → (m : Moment) → Grows old.disk m → Grows m new.disk → (found : List ℕ) → MayFind found m.text m.kept → FindsEntries life entries sure found
+leaves_lines life entries old new check sure written lines finds m from to found find =
     let its = finds m from to found find in
-    let all : new.lines ≡ journal_lines (changes_of entries) = lines ∙ written.lines in
-    from_lines entries sure its.first.many found written.legal written.within (omega (arith, written.kept, its.first.least))
+    let all : new.lines ≡ journal_lines life (changes_of entries) = lines ∙ written.lines in
+    from_lines life entries sure its.first.many found written.counted written.legal written.within (omega (arith, written.kept, its.first.least))
     (omega (arith, its.first.most, ap length all)) (its.first.are ∙ ap (take its.first.many) all) its.whole
 
 -- An entry more changes nothing of what a crash leaves.
-pub leaves_more : (old : WrittenView) (entry : Entry Any) (items : List (Entry Any)) (disk : Moment) → LeavesFirst old old → items ≡ old.items ++ entry ∷ [] → disk ≡ old.journal.disk
-    → (m : Moment) → Grows old.journal.disk m → Grows m disk → (found : List ℕ) → MayFind found m.text m.kept → FindsEntries items old.sure found
-leaves_more old entry items disk leaves more same m from to found find =
+pub leaves_more : (old : WrittenView) (life : ℕ) (entry : Entry Any) (items : List (Entry Any)) (disk : Moment) → LeavesFirst old old → life ≡ old.life → items ≡ old.items ++ entry ∷ [] → disk ≡ old.journal.disk
+    → (m : Moment) → Grows old.journal.disk m → Grows m disk → (found : List ℕ) → MayFind found m.text m.kept → FindsEntries life items old.sure found
+leaves_more old life entry items disk leaves is more same m from to found find =
     let its = leaves m from (subst (λ (d : Moment). Grows m d) same to) found find in
     let front : take its.left items ≡ take its.left old.items = ap (take its.left) more ∙ take-append-le its.left old.items (entry ∷ []) its.most in
     record {
+      counted = subst IsLife (sym is) its.counted;
       left = its.left;
       least = its.least;
       most = omega (arith, its.most, ap length more, length-append old.items (entry ∷ []));
-      lines = its.lines ∙ ap (λ (entries : List (Entry Any)). journal_lines (changes_of entries)) (sym front);
+      lines = its.lines ∙ ap (λ (l : ℕ). journal_lines l (changes_of (take its.left old.items))) (sym is) ∙ ap (λ (entries : List (Entry Any)). journal_lines life (changes_of entries)) (sym front);
       legal = subst (λ (entries : List (Entry Any)). All IsChange (changes_of entries)) (sym front) its.legal;
       whole = its.whole;
     }

@@ -1,10 +1,13 @@
 pub mod Adding
 pub mod Chartering
+pub mod Compacting
 pub mod Crossing
+pub mod Headed
 pub mod Keeping
 pub mod Marking
 pub mod Reading
 pub mod Refusing
 pub mod Restarting
+pub mod Rising
 pub mod Spelling
 pub mod Winning

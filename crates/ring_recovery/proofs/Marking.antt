@@ -18,8 +18,8 @@ pub marked_lines-push : (check : ℕ) (changes : List (Change Any)) (change : Ch
 marked_lines-push check [] change = refl
 marked_lines-push check (first ∷ changes) change = ap (λ (lines : List (List ℕ)). marked_line check first ∷ lines) (marked_lines-push (check_behind check first) changes change)
 
-pub journal_lines-push : (changes : List (Change Any)) (change : Change Any) → journal_lines (changes ++ change ∷ []) ≡ journal_lines changes ++ marked_line (check_of first_check changes) change ∷ []
-journal_lines-push changes change = ap (λ (lines : List (List ℕ)). heading ∷ lines) (marked_lines-push first_check changes change)
+pub journal_lines-push : (life : ℕ) (changes : List (Change Any)) (change : Change Any) → journal_lines life (changes ++ change ∷ []) ≡ journal_lines life changes ++ marked_line (check_of first_check changes) change ∷ []
+journal_lines-push life changes change = ap (λ (lines : List (List ℕ)). heading life ∷ lines) (marked_lines-push first_check changes change)
 
 -- each change has one line
 pub marked_lines-length : (check : ℕ) (changes : List (Change Any)) → length (marked_lines check changes) ≡ length changes

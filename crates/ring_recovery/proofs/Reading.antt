@@ -15,6 +15,7 @@ use Rattle.ring_lives.specs.Changes.{changes_of}
 use Rattle.ring_lives.specs.Replays.{Replays}
 use Rattle.ring_recovery.specs.Damage.{IsBadLine, MayCome}
 use Rattle.ring_recovery.specs.JournalLines.{check_of, journal_lines}
+use Rattle.ring_recovery.specs.Life.{IsLife}
 use Rattle.ring_recovery.specs.Recovered.{IsReplayed}
 use Rattle.ring_recovery.specs.private.Replaying.{RedoesLine}
 use Rattle.ring_recovery.proofs.Adding.{changes_of-change}
@@ -22,8 +23,10 @@ use Rattle.ring_recovery.proofs.Marking.{check_of-push, journal_lines-push}
 
 -- The lines before these were carried out. The first of these begins at this place, and `check` is the check before it.
 pub record IsRead (found : List ℕ) (rest : List (List ℕ)) (table : RecordedView Any) (check at : ℕ) : Type 0 where
-  pub lines : lines_in found ≡ journal_lines (changes_of table.history) ++ rest
-  pub place : at ≡ length (text_of (journal_lines (changes_of table.history)))
+  pub life : ℕ
+  pub counted : IsLife life
+  pub lines : lines_in found ≡ journal_lines life (changes_of table.history) ++ rest
+  pub place : at ≡ length (text_of (journal_lines life (changes_of table.history)))
   pub checked : check ≡ check_of first_check (changes_of table.history)
   pub legal : All IsChange (changes_of table.history)
   pub replayed : All IsReplayed table.history
@@ -49,8 +52,8 @@ module _ (found line : List ℕ) (rest : List (List ℕ)) (table : RecordedView 
   -- the next line ends within the file
   pub ends_within : at + (length line + 1) ≤ length found
   ends_within =
-      let all = ap text_of read.lines ∙ text_of-append (journal_lines (changes_of table.history)) (line ∷ rest) in
-      omega (arith, read.place, ap length all, length-append (text_of (journal_lines (changes_of table.history))) (text_of (line ∷ rest)), length-append line (10 ∷ text_of rest), whole_within (front found), front_within found)
+      let all = ap text_of read.lines ∙ text_of-append (journal_lines read.life (changes_of table.history)) (line ∷ rest) in
+      omega (arith, read.place, ap length all, length-append (text_of (journal_lines read.life (changes_of table.history))) (text_of (line ∷ rest)), length-append line (10 ∷ text_of rest), whole_within (front found), front_within found)
 
   -- it was carried out
   pub next_line : (new : RecordedView Any) (next now : ℕ) → RedoesLine check line table next new → now ≡ at + (length line + 1) → IsRead found rest new next now
@@ -58,12 +61,14 @@ module _ (found line : List ℕ) (rest : List (List ℕ)) (table : RecordedView 
       let change = redoes.change in
       let more : changes_of new.history ≡ changes_of table.history ++ change ∷ [] = ap changes_of redoes.redoes.added ∙ changes_of-change table.history redoes.redoes.entry change redoes.redoes.made in
       let marked : marked_line check change ≡ marked_line (check_of first_check (changes_of table.history)) change = ap (λ (before : ℕ). marked_line before change) read.checked in
-      let lines : journal_lines (changes_of new.history) ≡ journal_lines (changes_of table.history) ++ line ∷ [] =
-      ap journal_lines more ∙ journal_lines-push (changes_of table.history) change ∙ ap (λ (l : List ℕ). journal_lines (changes_of table.history) ++ l ∷ []) (sym marked ∙ sym redoes.marked.same) in
-      let text = ap text_of lines ∙ text_of-append (journal_lines (changes_of table.history)) (line ∷ []) in
+      let lines : journal_lines read.life (changes_of new.history) ≡ journal_lines read.life (changes_of table.history) ++ line ∷ [] =
+      ap (journal_lines read.life) more ∙ journal_lines-push read.life (changes_of table.history) change ∙ ap (λ (l : List ℕ). journal_lines read.life (changes_of table.history) ++ l ∷ []) (sym marked ∙ sym redoes.marked.same) in
+      let text = ap text_of lines ∙ text_of-append (journal_lines read.life (changes_of table.history)) (line ∷ []) in
       record {
-        lines = read.lines ∙ sym (append_assoc (journal_lines (changes_of table.history)) (line ∷ []) rest) ∙ ap (λ (l : List (List ℕ)). l ++ rest) (sym lines);
-        place = omega (arith, is, read.place, ap length text, length-append (text_of (journal_lines (changes_of table.history))) (text_of (line ∷ [])), length-append line (10 ∷ []));
+        life = read.life;
+        counted = read.counted;
+        lines = read.lines ∙ sym (append_assoc (journal_lines read.life (changes_of table.history)) (line ∷ []) rest) ∙ ap (λ (l : List (List ℕ)). l ++ rest) (sym lines);
+        place = omega (arith, is, read.place, ap length text, length-append (text_of (journal_lines read.life (changes_of table.history))) (text_of (line ∷ [])), length-append line (10 ∷ []));
         checked = redoes.marked.checked
             ∙ ap (λ (before : ℕ). check_behind before change) read.checked
             ∙ sym (check_of-push first_check (changes_of table.history) change)
@@ -75,6 +80,7 @@ module _ (found line : List ℕ) (rest : List (List ℕ)) (table : RecordedView 
   -- it may not come
   pub bad_line : Replays any_greatest [] (changes_of table.history) table.book → ((change : Change Any) → IsChange change → line ≡ marked_line check change → MayCome table.book change → ⊥) → IsBadLine found at
   bad_line replays none = record {
+    life = read.life;
     before = changes_of table.history;
     groups = table.book;
     line = line;

@@ -8,11 +8,11 @@ use Rattle.ring_change.specs.Checks.{check_mark}
 use Rattle.ring_change.specs.Lines.{check_behind, marked_line}
 use Rattle.ring_change.specs.Spelling.{IsChange, SpellsChange, change_line}
 
-mark_long : (check : ℕ) → length (check_mark check) ≡ 10
+pub mark_long : (check : ℕ) → length (check_mark check) ≡ 10
 mark_long check = refl
 
 -- two texts are equal if they are so with two other texts of one length after them
-same_front : (a b m n : List ℕ) → a ++ m ≡ b ++ n → length m ≡ length n → a ≡ b
+pub same_front : (a b m n : List ℕ) → a ++ m ≡ b ++ n → length m ≡ length n → a ≡ b
 same_front a b m n same long =
     let size : length a ≡ length b = omega (arith, long, ap length same, length-append a m, length-append b n) in
     sym (take-append_seam a m) ∙ ap (take (length a)) same ∙ ap (λ (k : ℕ). take k (b ++ n)) size ∙ take-append_seam b n

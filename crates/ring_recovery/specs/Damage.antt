@@ -1,5 +1,5 @@
 -- Why a file is refused.
-use Rattle.std.specs.Prelude.{◌≡◌, ◌≢◌, ◌⊎◌, ◌<◌, ℕ, List, [], ◌∷◌, ◌++◌, Some, None, length}
+use Rattle.std.specs.Prelude.{◌≡◌, ◌≢◌, ◌⊎◌, ◌<◌, ◌^◌, ℕ, List, [], ◌∷◌, ◌++◌, Some, None, length}
 use Rattle.ring_id.specs.Identity.{number_of}
 use Rattle.ring_any.specs.Any.{any_greatest, any_winner}
 use Rattle.ring_any.specs.declared.any.Any.{Any}
@@ -17,9 +17,10 @@ use Rattle.ring_change.specs.Checks.{first_check}
 use Rattle.ring_change.specs.Lines.{marked_line}
 use Rattle.ring_change.specs.Spelling.{IsChange}
 use Rattle.ring_lives.specs.Replays.{Replays}
-use Rattle.ring_recovery.specs.JournalLines.{check_of, heading, journal_lines}
+use Rattle.ring_recovery.specs.JournalLines.{check_of, heading, heading_words, journal_lines}
+use Rattle.ring_recovery.specs.Life.{IsLife}
 use Rattle.ring_recovery.specs.declared.fault.RecoverFault.{RecoverFault}
-use Rattle.ring_recovery.specs.declared.fault.RecoverFault.TheVariants.{Bad, Version, NoMemory}
+use Rattle.ring_recovery.specs.declared.fault.RecoverFault.TheVariants.{Bad, Lives, NoMemory, Version}
 
 -- A report may come that this member knows this leader of this term: it is the last term of the
 -- group, the member is in its ring, the leader is the winner, and the member does not know it yet.
@@ -41,23 +42,37 @@ MayCome groups (Know group term member leader) = MayKnow group term member leade
 -- A line of a file begins at this byte, and no change that may come there has this line. The lines
 -- before it are those of changes that lead to these groups.
 pub record IsBadLine (found : List ℕ) (at : ℕ) : Type 0 where
+  pub life : ℕ
   pub before : List (Change Any)
   pub groups : Object Any
   pub line : List ℕ
   pub after : List (List ℕ)
-  pub lines : lines_in found ≡ journal_lines before ++ line ∷ after
-  pub place : at ≡ length (text_of (journal_lines before))
+  pub lines : lines_in found ≡ journal_lines life before ++ line ∷ after
+  pub place : at ≡ length (text_of (journal_lines life before))
   pub inside : at < length found
   pub replays : Replays any_greatest [] before groups
   pub bad : (change : Change Any) → IsChange change → line ≡ marked_line (check_of first_check before) change → ¬ (MayCome groups change)
 
--- A file begins with something else than the heading of a journal.
+-- A file begins with the words of a heading. The rest of its first line, which begins at this byte, is
+-- not the number of a life and its mark.
+pub record IsBadHeading (found : List ℕ) (at : ℕ) : Type 0 where
+  pub place : at ≡ length heading_words
+  pub rest : List ℕ
+  pub begins : found ≡ heading_words ++ rest
+  pub bad : (life : ℕ) (lines : List (List ℕ)) → IsLife life → lines_in found ≢ heading life ∷ lines
+
+-- A file begins with something else than the words of a heading.
 pub record IsOther (found : List ℕ) : Type 0 where
   pub some : front found ≢ []
-  pub other : (lines : List (List ℕ)) → lines_in found ≢ heading ∷ lines
+  pub other : (rest : List ℕ) → found ≢ heading_words ++ rest
+
+-- A file is of the last life that a journal has.
+abbrev pub IsOfLastLife : List ℕ → Type 0
+IsOfLastLife found = (lines : List (List ℕ)) × (lines_in found ≡ heading (2 ^ 20) ∷ lines)
 
 -- why a file is refused
 abbrev pub IsFaultOf : List ℕ → RecoverFault → Type 0
-IsFaultOf found (Bad at) = IsBadAt found at ⊎ IsBadLine found at
+IsFaultOf found (Bad at) = IsBadAt found at ⊎ IsBadHeading found at ⊎ IsBadLine found at
 IsFaultOf found Version = IsOther found
+IsFaultOf found Lives = IsOfLastLife found
 IsFaultOf found NoMemory = Unit {0}

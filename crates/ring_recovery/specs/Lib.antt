@@ -1,6 +1,9 @@
 pub mod Charters
+pub mod Compacted
 pub mod Damage
 pub mod JournalLines
+pub mod Life
+pub mod Places
 pub mod Recovered
 pub mod Restarts
 pub mod Written

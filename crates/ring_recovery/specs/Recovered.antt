@@ -1,5 +1,5 @@
 -- What a recovery gives, and what it has to do with the file that was found.
-use Rattle.std.specs.Prelude.{◌≡◌, ◌⊎◌, ℕ, List, [], All}
+use Rattle.std.specs.Prelude.{◌≡◌, ◌⊎◌, ◌+◌, ℕ, List, [], All}
 use Rattle.ring_any.specs.Any.{any_greatest, any_two_way}
 use Rattle.ring_any.specs.declared.any.Any.{Any}
 use Rattle.ring_journal.specs.Journals.{HasAll}
@@ -13,34 +13,39 @@ use Rattle.ring_change.specs.Spelling.{IsChange}
 use Rattle.ring_lives.specs.Changes.{changes_of}
 use Rattle.ring_lives.specs.Replays.{Replays}
 use Rattle.ring_recovery.specs.JournalLines.{journal_lines}
+use Rattle.ring_recovery.specs.Life.{IsLife}
 
--- A recovered table: its book, its history, and the text that its next journal begins with.
+-- A recovered table: its book, its history, the number of the life that it begins, and the text that
+-- the journal of this life begins with.
 pub record RecoveredView : Type 0 where
   pub book : Object Any
   pub history : List (Entry Any)
+  pub life : ℕ
   pub text : List ℕ
 
--- The text is the lines of these changes, each with its LF.
-pub record IsTextOf (changes : List (Change Any)) (text : List ℕ) : Type 0 where
+-- The text is the lines of a journal of these changes in this life, each with its LF.
+pub record IsTextOf (life : ℕ) (changes : List (Change Any)) (text : List ℕ) : Type 0 where
   pub whole : HasAll text
-  pub lines : whole_lines_of text ≡ journal_lines changes
+  pub lines : whole_lines_of text ≡ journal_lines life changes
 
--- The lines of a file are those of these changes. If its first byte is a zero or missing, there are
--- no changes.
-abbrev pub HasChanges : List ℕ → List (Change Any) → Type 0
-HasChanges found changes = (lines_in found ≡ journal_lines changes) ⊎ ((front found ≡ []) × (changes ≡ []))
+-- The lines of a file are those of these changes in its life with the number `lives`. If its first
+-- byte is a zero or missing, it had no life and there are no changes.
+abbrev pub HasChanges : List ℕ → ℕ → List (Change Any) → Type 0
+HasChanges found lives changes = (IsLife lives × (lines_in found ≡ journal_lines lives changes)) ⊎ ((front found ≡ []) × (lives ≡ 0) × (changes ≡ []))
 
 -- an entry that a recovery makes: a call of session 0, or a filing
 abbrev pub IsReplayed : Entry Any → Type 0
 IsReplayed (Call session command reply) = session ≡ 0
 IsReplayed (Filing group term member leader noting) = Unit {0}
 
--- The changes of the table's history are those of the file. Its book is what they lead to from no
--- groups at all.
+-- The changes of the table's history are those of the file, and the life that it begins is the next
+-- one. Its book is what the changes lead to from no groups at all.
 pub record Recovers (found : List ℕ) (recovered : RecoveredView) : Type 0 where
-  pub found_changes : HasChanges found (changes_of recovered.history)
+  pub lives : ℕ
+  pub next : recovered.life ≡ lives + 1
+  pub found_changes : HasChanges found lives (changes_of recovered.history)
   pub legal : All IsChange (changes_of recovered.history)
-  pub text : IsTextOf (changes_of recovered.history) recovered.text
+  pub text : IsTextOf recovered.life (changes_of recovered.history) recovered.text
   pub history : IsLegal any_two_way any_greatest recovered.history recovered.book
   pub book : Replays any_greatest [] (changes_of recovered.history) recovered.book
   pub replayed : All IsReplayed recovered.history

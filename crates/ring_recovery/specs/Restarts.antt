@@ -1,5 +1,5 @@
 -- What a restart recovers after a crash.
-use Rattle.std.specs.Prelude.{◌≡◌, ◌≤◌, ℕ, List, length, take}
+use Rattle.std.specs.Prelude.{◌≡◌, ◌≤◌, ◌+◌, ℕ, List, length, take}
 use Rattle.ring_any.specs.Any.{any_greatest, any_two_way}
 use Rattle.ring_any.specs.declared.any.Any.{Any}
 use Rattle.ring_terms.specs.Object.{Object}
@@ -10,8 +10,9 @@ use Rattle.ring_recovery.specs.Recovered.{RecoveredView, Recovers}
 use Rattle.ring_recovery.specs.Written.{FindsEntries}
 
 -- A table was recovered as it was after the first of these entries, and at least after the first
--- `fewest`.
-pub record IsAfterFirst (entries : List (Entry Any)) (fewest : ℕ) (recovered : RecoveredView) : Type 0 where
+-- `fewest`. It begins the life after this one.
+pub record IsAfterFirst (life : ℕ) (entries : List (Entry Any)) (fewest : ℕ) (recovered : RecoveredView) : Type 0 where
+  pub next : recovered.life ≡ life + 1
   pub left : ℕ
   pub least : fewest ≤ left
   pub most : left ≤ length entries
@@ -21,4 +22,4 @@ pub record IsAfterFirst (entries : List (Entry Any)) (fewest : ℕ) (recovered :
 -- a table that is recovered from a file that a crash left
 abbrev pub RestartsAfterFirst : Type 0
 RestartsAfterFirst =
-    (entries : List (Entry Any)) (fewest : ℕ) (found : List ℕ) (recovered : RecoveredView) → FindsEntries entries fewest found → Recovers found recovered → IsAfterFirst entries fewest recovered
+    (life : ℕ) (entries : List (Entry Any)) (fewest : ℕ) (found : List ℕ) (recovered : RecoveredView) → FindsEntries life entries fewest found → Recovers found recovered → IsAfterFirst life entries fewest recovered

@@ -1,3 +1,4 @@
 pub mod Invariant
 pub mod Reading
+pub mod Rebuilding
 pub mod Replaying

@@ -10,6 +10,8 @@ pub enum RecoverFault {
     Bad { at: usize },
     /// The file is no journal of this version.
     Version,
+    /// The journal has had its last life.
+    Lives,
     /// An allocation failed.
     NoMemory,
 }

@@ -5,22 +5,34 @@
 //! knows how many of the entries are kept for good. If a crash comes at any moment of any call, the
 //! changes of the first entries are left, and at least of those that were kept for good.
 //!
+//! Each recovery begins a new life of the journal, whose number is in the first line. So the places that
+//! replies tell rise over all lives.
+//!
 //! `recover` reads these lines, and carries out each change by the call that made it, on a table
-//! without groups. The table goes on over a new journal that begins with the lines that were found.
+//! without groups. The table goes on over a new journal that begins with the lines that were found, or
+//! with fewer lines that lead to the same groups and terms.
 #![tactic(auto)]
 
 mod alarm;
 mod charters;
+mod compaction;
 mod fault;
+mod heading;
+mod life;
+mod places;
 mod recovered;
 mod recovery;
 mod replay;
 mod restart;
+mod resumption;
 mod written;
 
 pub use alarm::{Alarm, Ending};
 pub use fault::RecoverFault;
+pub use life::Life;
+pub use places::places_rise;
 pub use recovered::Recovered;
 pub use recovery::recover;
 pub use restart::restarts_after_first;
+pub use resumption::{resume, resumes_after_first};
 pub use written::Written;

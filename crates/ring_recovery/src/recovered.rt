@@ -1,6 +1,8 @@
-ghost use Rattle.std.specs.Prelude.{◌≡◌, length, map, All, IfOk};
+ghost use Rattle.std.specs.Prelude.{◌≡◌, ◌<◌, ◌^◌, length, map, All, IfOk};
 ghost use Rattle.ring_change.specs.Checks.{first_check};
 ghost use Rattle.ring_change.specs.Spelling.{IsChange};
+ghost use Rattle.ring_any.specs.Any.{any_greatest, any_two_way};
+ghost use Rattle.ring_table.specs.Histories.{IsLegal};
 ghost use Rattle.ring_lives.specs.Changes.{changes_of};
 ghost use Rattle.ring_recovery.specs.Charters.{running_charters};
 ghost use Rattle.ring_recovery.specs.JournalLines.{check_of};
@@ -8,6 +10,7 @@ ghost use Rattle.ring_recovery.specs.Recovered.{IsTextOf};
 
 use crate::alarm::Alarm;
 use crate::charters::charters_of;
+use crate::life::Life;
 use crate::replay::Replayed;
 use crate::written::Written;
 use ring_any::Any;
@@ -23,13 +26,14 @@ use std::sync::Arc;
 
 /// A table that was recovered, and the text that its next journal begins with.
 ///
-/// Contracts see its book, its history and the text. The text is the lines of the changes of the
-/// history.
+/// Contracts see its book, its history, the number of the life that it begins, and the text. The text is
+/// the heading of this life and the lines of the changes of the history.
 #[derive(Drop)]
 pub struct Recovered {
     table: Replayed,
     // the check after the last line
     check: Check,
+    life: Life,
     text: Batch,
 }
 
@@ -39,29 +43,47 @@ impl Model for Recovered {
 
     ghost Value = { RecoveredView };
 
-    ghost view = { λ a. record { book = a.table.book; history = a.table.history; text = a.text.bytes } };
+    ghost view = { λ a. record { book = a.table.book; history = a.table.history; life = a.life; text = a.text.bytes } };
 
-    ghost invariant = { λ a. IsRecovered a.table.history a.check a.text.bytes };
+    ghost invariant = { λ a. IsRecovered a.life a.table.history a.check a.text.bytes };
 }
 
 impl Recovered {
     /// Returns a table with the text of its changes. Does not allocate.
-    pub(crate) fn new(table: Replayed, check: Check, text: Batch) -> Recovered
-        requires text { IsTextOf (changes_of table.history) text.bytes }
+    pub(crate) fn new(table: Replayed, check: Check, life: Life, text: Batch) -> Recovered
+        requires few { length table.history < 2 ^ 44 }
+        requires text { IsTextOf life (changes_of table.history) text.bytes }
         requires legal { All IsChange (changes_of table.history) }
         requires check { check ≡ check_of first_check (changes_of table.history) }
-        ensures { result ≡ record { book = table.book; history = table.history; text = text.bytes } }
+        ensures { result ≡ record { book = table.book; history = table.history; life = life; text = text.bytes } }
     {
-        Recovered { table, check, text }
+        Recovered {
+            table,
+            check,
+            life,
+            text,
+        }
     }
 
-    /// Returns the text that the next journal begins with: the lines that were found, or the heading
-    /// alone if the file has no line.
+    /// Returns the text that the next journal begins with: the heading of its life, and the lines of
+    /// its changes. The other clauses are laws of every recovered table.
     pub fn text(&self) -> &Batch
         ensures value { result.now.bytes ≡ self.now.text }
-        ensures lines { IsTextOf (changes_of self.now.history) self.now.text }
+        ensures lines { IsTextOf self.now.life (changes_of self.now.history) self.now.text }
+        ensures changes { All IsChange (changes_of self.now.history) }
+        ensures legal { IsLegal any_two_way any_greatest self.now.history self.now.book }
+        ensures few { length self.now.history < 2 ^ 44 }
     {
+        // the history is legal, as its count says
+        let _count = self.table.count();
         &self.text
+    }
+
+    /// Returns the life that the next journal begins with.
+    pub fn life(&self) -> Life
+        ensures { result ≡ self.now.life }
+    {
+        self.life
     }
 
     /// Returns the groups and terms. Does not allocate.
@@ -100,10 +122,19 @@ impl Recovered {
         requires kept { (D.moment medium).kept ≡ length self.text }
         ensures { result ≡ record { book = self.book; history = self.history; sure = length self.history } }
     {
-        let Recovered { table, check, text } = self;
+        let Recovered {
+            table,
+            check,
+            life,
+            text,
+        } = self;
         drop(text);
         let (book, entries) = table.into_parts();
         let journal = Journal::new(alloc, medium);
-        Recorded::resume(alloc, book, Written::new(entries, journal, check, alarm))
+        Recorded::resume(
+            alloc,
+            book,
+            Written::new(entries, journal, check, life, alarm),
+        )
     }
 }

@@ -4,9 +4,11 @@ ghost use Rattle.ring_journal.specs.Lines.{front, lines_in, whole_lines_of};
 ghost use Rattle.ring_recovery.specs.Damage.{IsFaultOf};
 ghost use Rattle.ring_recovery.specs.JournalLines.{heading};
 ghost use Rattle.ring_recovery.specs.Recovered.{Recovers};
-ghost use Rattle.ring_recovery.specs.private.Reading.{HasReplayed, lines_or_heading};
+ghost use Rattle.ring_recovery.specs.private.Reading.{HasRead, HasReplayed, IsHeaded, after_first, first_size};
 
 use crate::fault::RecoverFault;
+use crate::heading::{fault_of, next_life, put_heading};
+use crate::life::Life;
 use crate::recovered::Recovered;
 use crate::replay::{ReplayFault, Replayed, replay_line};
 use ring_any::Any;
@@ -16,27 +18,41 @@ use ring_lives::follows_replays;
 use ring_table::{Recorded, Unkept};
 use std::alloc::{AllocError, Global};
 
-/// The first line of a journal.
-const HEADING: &[u8] = b"ringd journal 1";
+/// A life has fewer entries than this.
+const ENTRIES: usize = 1 << 44;
+
+// What a file says apart from its changes.
+#[derive(Clone, Copy)]
+struct Said {
+    // the life after that of the file
+    life: Life,
+    // the first byte after the heading
+    start: usize,
+    // the check after the last line
+    check: Check,
+}
 
 /// Recovers a table from the bytes of its journal's file.
 ///
 /// Each line is carried out by the call that made it: a command of session 0 which is done, or a report
 /// which is noted. A file without lines is an empty table, if its first byte is missing or a zero. The
-/// bytes after the last line are a torn tail and are left out.
+/// bytes after the last line are a torn tail and are left out. The table begins the life after that of
+/// the file, or life 1 if the file has no line.
 ///
-/// Faults, of which the first two are clauses:
+/// Faults, of which all but the last are clauses:
 /// - `Bad`: the byte is the first of a line, and no change that may come there has this line. Or it is
-///   a byte that no crash leaves there.
-/// - `Version`: the file begins with something else than the heading of a journal.
-/// - `NoMemory`: an allocation failed.
+///   a byte that no crash leaves there. Or the number of the life, which begins at this byte, or the mark
+///   after it is damaged.
+/// - `Version`: the file begins with something else than the words of a heading.
+/// - `Lives`: the file is of life 1048576, which is the last one.
+/// - `NoMemory`: an allocation failed, or the file has 2^44 changes or more.
 pub fn recover(alloc: Global, found: Vec<u8>) -> Result<Recovered, RecoverFault>
     ensures ok { IfOk result (Recovers found.items) }
     ensures err { IfErr result (IsFaultOf found.items) }
 {
     let mut table = Recorded::new(alloc, Unkept::new(alloc));
     match replay_file(alloc, &found, &mut table) {
-        Ok(check) => finish(alloc, found, check, table),
+        Ok(said) => finish(alloc, found, said, table),
         Err(fault) => {
             drop(found);
             drop(table);
@@ -45,18 +61,26 @@ pub fn recover(alloc: Global, found: Vec<u8>) -> Result<Recovered, RecoverFault>
     }
 }
 
-// Carries out the changes of a file on a table without groups. Returns the check after them.
-fn replay_file(alloc: Global, found: &[u8], table: &mut Replayed) -> Result<Check, RecoverFault>
+// Carries out the changes of a file on a table without groups.
+fn replay_file(alloc: Global, found: &[u8], table: &mut Replayed) -> Result<Said, RecoverFault>
     requires { table.old.history ≡ [] }
-    ensures ok { IfOk result (HasReplayed found.now table.new) }
+    ensures ok { IfOk result (λ said. HasReplayed found.now table.new said.life said.start said.check) }
     ensures err { IfErr result (IsFaultOf found.now) }
 {
     let mut lines = read_lines(found)?;
     match lines.next() {
-        Some(first) if first == HEADING => replay_lines(alloc, found, lines, table),
-        Some(_) => Err(RecoverFault::Version),
-        None if is_blank(found) => Ok(Check::new()),
-        None => Err(RecoverFault::Version),
+        Some(first) => {
+            let life = next_life(found, first)?;
+            let start = first.len() + 1;
+            let check = replay_lines(alloc, found, start, lines, table)?;
+            Ok(Said { life, start, check })
+        }
+        None if is_blank(found) => Ok(Said {
+            life: Life::first(),
+            start: 0,
+            check: Check::new(),
+        }),
+        None => Err(fault_of(found)),
     }
 }
 
@@ -70,22 +94,24 @@ fn is_blank(found: &[u8]) -> bool
     }
 }
 
-// Carries out the changes of the lines after the heading.
+// Carries out the changes of the lines after the heading, which begin at `start`. Returns the check after
+// them.
 fn replay_lines(
     alloc: Global,
     found: &[u8],
+    start: usize,
     lines: Lines<'_>,
     table: &mut Replayed,
 ) -> Result<Check, RecoverFault>
-    requires lines { lines_in found.now ≡ heading ∷ lines }
+    requires lines { IsHeaded found.now start lines }
     requires empty { table.old.history ≡ [] }
-    ensures ok { IfOk result (HasReplayed found.now table.new) }
+    ensures ok { IfOk result (HasRead found.now table.new) }
     ensures err { IfErr result (IsFaultOf found.now) }
 {
     // a history has the effect of its changes
     follows_replays::<Any>();
     let mut check = Check::new();
-    let mut at = HEADING.len() + 1;
+    let mut at = start;
     for line in lines {
         match replay_line(alloc, line, &mut check, table) {
             Ok(()) => at += line.len() + 1,
@@ -100,18 +126,23 @@ fn replay_lines(
 fn finish(
     alloc: Global,
     found: Vec<u8>,
-    check: Check,
+    said: Said,
     table: Replayed,
 ) -> Result<Recovered, RecoverFault>
-    requires { HasReplayed found.items table check }
+    requires { HasReplayed found.items table said.life said.start said.check }
     ensures ok { IfOk result (Recovers found.items) }
     ensures err { IfErr result (IsFaultOf found.items) }
 {
     // the history is legal, as its count says, and has the effect of its changes
-    let _count = table.count();
+    if table.count() >= ENTRIES {
+        drop(found);
+        drop(table);
+        return Err(RecoverFault::NoMemory);
+    }
     follows_replays::<Any>();
-    match text_of(alloc, found) {
-        Ok(text) => Ok(Recovered::new(table, check, text)),
+    let Said { life, start, check } = said;
+    match text_of(alloc, found, life, start) {
+        Ok(text) => Ok(Recovered::new(table, check, life, text)),
         Err(_) => {
             drop(table);
             Err(RecoverFault::NoMemory)
@@ -119,19 +150,20 @@ fn finish(
     }
 }
 
-// The lines of a file as a text, or the heading if it has none.
-fn text_of(alloc: Global, found: Vec<u8>) -> Result<Batch, AllocError>
+/// The heading of a life and the lines of the changes of a file, as a text.
+pub(crate) fn text_of(
+    alloc: Global,
+    found: Vec<u8>,
+    life: Life,
+    start: usize,
+) -> Result<Batch, AllocError>
+    requires { start ≡ first_size (lines_in found.items) }
     ensures whole { IfOk result (λ text. HasAll text.bytes) }
-    ensures lines { IfOk result (λ text. whole_lines_of text.bytes ≡ lines_or_heading (lines_in found.items)) }
+    ensures lines { IfOk result (λ text. whole_lines_of text.bytes ≡ heading life ∷ after_first (lines_in found.items)) }
 {
-    let whole = whole_len(&found);
-    if whole == 0 {
-        drop(found);
-        let mut heading = Batch::new(alloc);
-        heading.add(HEADING)?;
-        return Ok(heading);
-    }
-    let mut text = found;
-    text.truncate(whole);
+    let mut text = Vec::new(alloc);
+    put_heading(life, &mut text)?;
+    text.extend_from_slice(&found[start..whole_len(&found)])?;
+    drop(found);
     Ok(Batch::from(text))
 }

@@ -69,8 +69,12 @@ pub(crate) fn replay_line(
     }
 }
 
-// Carries out a change.
-fn replay(alloc: Global, change: Change<Any>, table: &mut Replayed) -> Result<(), ReplayFault>
+/// Carries out a change.
+pub(crate) fn replay(
+    alloc: Global,
+    change: Change<Any>,
+    table: &mut Replayed,
+) -> Result<(), ReplayFault>
     ensures ok { OnOk result (Redoes table.old change table.new) }
     ensures refused { result ≡ Err replay_fault.Refused → ¬ (MayCome table.old.book change) }
 {

@@ -1,5 +1,5 @@
 //! The recorder that writes changes to a journal.
-ghost use Rattle.std.specs.Prelude.{◌≡◌, ◌↔◌, ◌<◌, ◌≤◌, ◌++◌, ◌∷◌, [], length, All, IsTrue, None, OnOk};
+ghost use Rattle.std.specs.Prelude.{◌≡◌, ◌↔◌, ◌<◌, ◌≤◌, ◌^◌, ◌++◌, ◌∷◌, [], length, All, IsTrue, None, OnOk};
 ghost use Rattle.ring_journal.specs.Journals.{Adds, settled};
 ghost use Rattle.ring_table.specs.Accesses.{filing};
 ghost use Rattle.ring_table.specs.declared.entry.Entry.TheVariants as entry;
@@ -12,6 +12,7 @@ ghost use Rattle.ring_recovery.specs.JournalLines.{check_of, journal_lines};
 ghost use Rattle.ring_recovery.specs.Written.{LeavesFirst};
 
 use crate::alarm::{Alarm, Ending};
+use crate::life::Life;
 use ring_any::Any;
 use ring_change::{Change, Check, Line, change_of, change_of_filing, spell_line};
 use ring_events::{Command, Reply};
@@ -26,10 +27,15 @@ use std::sync::{Arc, Wait};
 /// How many bytes the longest line of a change takes with its LF.
 const LONGEST: usize = Line::LONGEST + 1;
 
+/// How many entries a life has at most, so that places of different lives differ.
+const ENTRIES: usize = (1 << 44) - 1;
+
 /// A recorder that writes the changes of its entries to a journal. An entry takes no memory.
 ///
+/// There are fewer than 2^44 entries: there is no room for one more then.
+///
 /// Contracts see its entries, for how many more there is room, how many of the first ones are kept for
-/// good, and its journal.
+/// good, its journal, and the number of the journal's life.
 #[derive(Drop)]
 pub struct Written<D: Medium + Drop> {
     entries: Unkept<Any>,
@@ -38,19 +44,20 @@ pub struct Written<D: Medium + Drop> {
     check: Check,
     // how many of the first entries are kept for good
     sure: usize,
+    life: Life,
     alarm: Arc<Alarm>,
 }
 
 impl<D: Medium + Drop> Model for Written<D> {
-    ghost use Rattle.std.specs.Prelude.{◌/◌, min};
+    ghost use Rattle.std.specs.Prelude.{◌-◌, ◌/◌, ◌^◌, length, min};
     ghost use Rattle.ring_recovery.specs.Written.{WrittenView};
     ghost use Rattle.ring_recovery.specs.private.Invariant.{IsWritten};
 
     ghost Value = { WrittenView };
 
-    ghost view = { λ a. record { items = a.entries.items; room = min a.entries.room (a.journal.room / 71); sure = a.sure; journal = a.journal } };
+    ghost view = { λ a. record { items = a.entries.items; room = min (2 ^ 44 - 1 - length a.entries.items) (min a.entries.room (a.journal.room / 71)); sure = a.sure; journal = a.journal; life = a.life } };
 
-    ghost invariant = { λ a. IsWritten a.entries.items a.journal a.check a.sure };
+    ghost invariant = { λ a. IsWritten a.life a.entries.items a.journal a.check a.sure };
 }
 
 // Adds the line of a change to a journal that has room for it.
@@ -71,22 +78,28 @@ impl<D: Medium + Drop> Written<D> {
         entries: Unkept<Any>,
         journal: Journal<D>,
         check: Check,
+        life: Life,
         alarm: Arc<Alarm>,
     ) -> Written<D>
-        requires lines { journal.lines ≡ journal_lines (changes_of entries.items) }
+        requires few { length entries.items < 2 ^ 44 }
+        requires lines { journal.lines ≡ journal_lines life (changes_of entries.items) }
         requires legal { All IsChange (changes_of entries.items) }
         requires check { check ≡ check_of first_check (changes_of entries.items) }
         requires settled { settled journal ≡ length journal.lines }
         ensures items { result.items ≡ entries.items }
         ensures sure { result.sure ≡ length entries.items }
         ensures journal { result.journal ≡ journal }
+        ensures life { result.life ≡ life }
     {
+        // the number of a life is legal, as this call says
+        let _counted = life.get();
         let sure = entries.count();
         Written {
             entries,
             journal,
             check,
             sure,
+            life,
             alarm,
         }
     }
@@ -95,7 +108,7 @@ impl<D: Medium + Drop> Written<D> {
     /// and what a restart finds if the crash comes now.
     pub fn journal(&self) -> &Journal<D>
         ensures value { result.now ≡ self.now.journal }
-        ensures lines { self.now.journal.lines ≡ journal_lines (changes_of self.now.items) }
+        ensures lines { self.now.journal.lines ≡ journal_lines self.now.life (changes_of self.now.items) }
         ensures any_moment { LeavesFirst self.now self.now }
     {
         // the law of this call says what a crash leaves
@@ -110,6 +123,7 @@ impl<D: Medium + Drop> Written<D> {
         ensures items { self.new.items ≡ self.old.items }
         ensures sure { self.old.sure ≤ self.new.sure }
         ensures ok { OnOk result (self.new.sure ≡ length self.new.items) }
+        ensures life { self.new.life ≡ self.old.life }
         ensures any_moment { LeavesFirst self.old self.new }
     {
         self.journal.settle()?;
@@ -122,6 +136,7 @@ impl<D: Medium + Drop> Written<D> {
         ensures items { self.new.items ≡ self.old.items }
         ensures room { OnOk result (71 ≤ self.new.journal.room) }
         ensures sure { self.old.sure ≤ self.new.sure }
+        ensures life { self.new.life ≡ self.old.life }
         ensures any_moment { LeavesFirst self.old self.new }
     {
         match self.journal.reserve(LONGEST) {
@@ -136,6 +151,7 @@ impl<D: Medium + Drop> Written<D> {
         ensures items { self.new.items ≡ self.old.items }
         ensures room { OnOk result (71 ≤ self.new.journal.room) }
         ensures sure { self.old.sure ≤ self.new.sure }
+        ensures life { self.new.life ≡ self.old.life }
         ensures any_moment { LeavesFirst self.old self.new }
     {
         let Ok(()) = self.try_settle() else {
@@ -149,7 +165,11 @@ impl<D: Medium + Drop> Written<D> {
 }
 
 impl<D: Medium + Drop> Recorder<Any> for Written<D> {
+    ghost use Rattle.std.specs.Prelude.{◌^◌};
+
     ghost entries = { λ a. a.items };
+
+    ghost most = { 2 ^ 44 };
 
     ghost room = { λ a. a.room };
 
@@ -161,14 +181,18 @@ impl<D: Medium + Drop> Recorder<Any> for Written<D> {
     }
 
     /// Finds room for one more entry and its line. If the batch of the journal is full, its lines are
-    /// written and synced first.
+    /// written and synced first. Returns `NoMemory` too if there are 2^44 - 1 entries.
     fn reserve(&mut self) -> Result<(), NoMemory>
         ensures items { self.new.items ≡ self.old.items }
         ensures room { OnOk result (0 < self.new.room) }
         ensures sure { self.old.sure ≤ self.new.sure }
+        ensures life { self.new.life ≡ self.old.life }
         ensures any_moment { LeavesFirst self.old self.new }
     {
         self.reserve_line()?;
+        if self.entries.count() >= ENTRIES {
+            return Err(NoMemory);
+        }
         self.entries.reserve()
     }
 
@@ -182,6 +206,7 @@ impl<D: Medium + Drop> Recorder<Any> for Written<D> {
         ensures sure { self.old.sure ≤ self.new.sure }
         ensures kept { change_by command reply.now ≡ None → self.old.sure ≡ length self.old.items → self.new.sure ≡ length self.new.items }
         ensures disk { self.new.journal.disk ≡ self.old.journal.disk }
+        ensures life { self.new.life ≡ self.old.life }
         ensures any_moment { LeavesFirst self.old self.new }
     {
         let was_settled = self.is_settled();
@@ -203,6 +228,7 @@ impl<D: Medium + Drop> Recorder<Any> for Written<D> {
         ensures sure { self.old.sure ≤ self.new.sure }
         ensures kept { change_in (filing report.now noting) ≡ None → self.old.sure ≡ length self.old.items → self.new.sure ≡ length self.new.items }
         ensures disk { self.new.journal.disk ≡ self.old.journal.disk }
+        ensures life { self.new.life ≡ self.old.life }
         ensures any_moment { LeavesFirst self.old self.new }
     {
         let was_settled = self.is_settled();
@@ -230,6 +256,7 @@ impl<D: Medium + Drop> Recorder<Any> for Written<D> {
         ensures items { self.new.items ≡ self.old.items }
         ensures sure { self.old.sure ≤ self.new.sure }
         ensures all { self.new.sure ≡ length self.new.items }
+        ensures life { self.new.life ≡ self.old.life }
         ensures any_moment { LeavesFirst self.old self.new }
     {
         if self.try_settle().is_ok() {

@@ -9,12 +9,23 @@ use std::process::Abort;
 /// The panic message of a test that ran out of memory twice.
 pub(crate) const TWICE: &str = "memory was refused twice";
 
-/// The first line of a journal.
-pub(crate) const HEADING: &[u8] = b"ringd journal 1";
+/// The first line of a journal in its first life, and in its second one.
+pub(crate) const HEADING: &[u8] = b"ringd journal 1 life 1 #ee26e62a";
+
+pub(crate) const SECOND: &[u8] = b"ringd journal 1 life 2 #772fb790";
 
 /// A journal of a group with two members, whose first term was started.
 pub(crate) const STARTED: [&[u8]; 5] = [
     HEADING,
+    b"create a chang #a1f44896",
+    b"join a 3/9 #e942ba10",
+    b"join a 4 #92f3399a",
+    b"start a #39e2a5a0",
+];
+
+/// The same journal in its second life.
+pub(crate) const AGAIN: [&[u8]; 5] = [
+    SECOND,
     b"create a chang #a1f44896",
     b"join a 3/9 #e942ba10",
     b"join a 4 #92f3399a",

@@ -2,6 +2,8 @@
 #![tactic(auto)]
 
 #[cfg(test)]
+mod compacting;
+#[cfg(test)]
 mod faults;
 #[cfg(test)]
 mod files;

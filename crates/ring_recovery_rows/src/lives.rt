@@ -1,7 +1,7 @@
 //! A table that goes on after a restart, and a journal that fails.
 ghost use Rattle.std.specs.Prelude.{◌≡◌};
 
-use crate::files::{STARTED, TWICE, file, recovered};
+use crate::files::{AGAIN, STARTED, TWICE, file, recovered};
 use ring_any::Any;
 use ring_events::{Command, Reply};
 use ring_grammar::{parse_command, print_reply};
@@ -122,7 +122,7 @@ fn a_table_goes_on_after_a_restart(rt: HostRuntime) {
     assert!(rt; table.is_settled());
     let (book, written) = table.into_parts();
     drop(book);
-    let lines = file(&rt, alloc, &STARTED, KNOWN);
+    let lines = file(&rt, alloc, &AGAIN, KNOWN);
     assert!(rt; written.journal().medium().text().starts_with(&lines));
     assert!(rt; written.journal().medium().text().ends_with(MORE));
     assert_eq!(rt; written.journal().medium().kept(), lines.len() + MORE.len());

@@ -8,8 +8,8 @@ use Rattle.ring_recovery.proofs.recovery.replay_lines.Goals.{In-Some}
 before : (c : In-Some) → IsRead c.args.found.now (c.in-Some.line.now ∷ c.next.new.self) c.loop-line.table c.loop-line.check c.loop-line.at
 before c = subst (λ (rest : List (List ℕ)). IsRead c.args.found.now rest c.loop-line.table c.loop-line.check c.loop-line.at) c.in-Some.ensures.steps c.loop-line.invariant.read
 
-pub overflow_add-at-in-Ok-2 : goal.overflow_add-at-in-Ok-2
-overflow_add-at-in-Ok-2 c = omega (arith, ends_within _ _ _ _ _ _ (before (goal.at.overflow_add-at-in-Ok-2 c).In-Some))
+pub overflow_add-at-in-Ok : goal.overflow_add-at-in-Ok
+overflow_add-at-in-Ok c = omega (arith, ends_within _ _ _ _ _ _ (before (goal.at.overflow_add-at-in-Ok c).In-Some))
 
 pub loop-line-preserved : goal.loop-line-preserved
 loop-line-preserved c = record {
@@ -21,4 +21,4 @@ loop-line-preserved c = record {
 pub returns-in-Err-Refused-clause-err : goal.returns-in-Err-Refused-clause-err
 returns-in-Err-Refused-clause-err c =
     let replays = c.follows_replays.ensures c.loop-line.table.history _ c.loop-line.table.book c.in-Err-Refused.ensures.legal in
-    inr (bad_line _ _ _ _ _ _ (before (goal.at.returns-in-Err-Refused-clause-err c).In-Some) replays (c.in-Err-Refused.ensures.refused (ap Err c.in-Err-Refused.field-0-is)))
+    inr (inr (bad_line _ _ _ _ _ _ (before (goal.at.returns-in-Err-Refused-clause-err c).In-Some) replays (c.in-Err-Refused.ensures.refused (ap Err c.in-Err-Refused.field-0-is))))

@@ -4,4 +4,4 @@ use Rattle.ring_recovery.proofs.written.Written.journal.Goals as goal
 
 pub returns-clause-any_moment : goal.returns-clause-any_moment
 returns-clause-any_moment g c =
-    rw (← c.self.view_is) (leaves_lines _ _ c.self.inside.journal _ _ c.self.invariant refl c.pending-pending.ensures.any_moment)
+    rw (← c.self.view_is) (leaves_lines _ _ _ c.self.inside.journal _ _ c.self.invariant refl c.pending-pending.ensures.any_moment)

@@ -4,8 +4,8 @@ use Rattle.ring_recovery.proofs.written.Written.reserve_line.Goals as goal
 
 pub returns-in-Ok-clause-any_moment : goal.returns-in-Ok-clause-any_moment
 returns-in-Ok-clause-any_moment g c =
-    rw (← c.self.view_is) (leaves_lines _ _ c.reserve.new.self _ _ c.self.invariant c.reserve.ensures.same.lines c.reserve.ensures.any_moment)
+    rw (← c.self.view_is) (leaves_lines _ _ _ c.reserve.new.self _ _ c.self.invariant c.reserve.ensures.same.lines c.reserve.ensures.any_moment)
 
 pub returns-in-Err-NoMemory-clause-any_moment : goal.returns-in-Err-NoMemory-clause-any_moment
 returns-in-Err-NoMemory-clause-any_moment g c =
-    rw (← c.self.view_is) (leaves_lines _ _ c.reserve.new.self _ _ c.self.invariant c.reserve.ensures.same.lines c.reserve.ensures.any_moment)
+    rw (← c.self.view_is) (leaves_lines _ _ _ c.reserve.new.self _ _ c.self.invariant c.reserve.ensures.same.lines c.reserve.ensures.any_moment)

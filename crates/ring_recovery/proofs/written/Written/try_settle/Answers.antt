@@ -5,11 +5,11 @@ use Rattle.ring_recovery.proofs.written.Written.try_settle.Goals as goal
 
 pub returns-in_err-settle-clause-any_moment : goal.returns-in_err-settle-clause-any_moment
 returns-in_err-settle-clause-any_moment g c =
-    rw (← c.self.view_is) (leaves_lines _ _ c.settle.new.self _ _ c.self.invariant c.settle.ensures.same c.settle.ensures.any_moment)
+    rw (← c.self.view_is) (leaves_lines _ _ _ c.settle.new.self _ _ c.self.invariant c.settle.ensures.same c.settle.ensures.any_moment)
 
 pub invariant_of-self-2 : goal.invariant_of-self-2
-invariant_of-self-2 g c = all_kept _ _ _ _ _ _ c.self.invariant c.settle.ensures.same c.in_ok-settle.ensures.ok c.count-self-inside.ensures
+invariant_of-self-2 g c = all_kept _ _ _ _ _ _ _ c.self.invariant c.settle.ensures.same c.in_ok-settle.ensures.ok c.count-self-inside.ensures.value
 
 pub returns-clause-any_moment : goal.returns-clause-any_moment
 returns-clause-any_moment g c =
-    rw (← c.self.view_is) (leaves_lines _ _ c.settle.new.self _ _ c.self.invariant c.settle.ensures.same c.settle.ensures.any_moment)
+    rw (← c.self.view_is) (leaves_lines _ _ _ c.settle.new.self _ _ c.self.invariant c.settle.ensures.same c.settle.ensures.any_moment)

@@ -1,0 +1,6 @@
+use Rattle.std.proofs.Common.{◌∙◌, ap, sym}
+use Rattle.ring_recovery.specs.private.Reading.{first_of}
+use Rattle.ring_recovery.proofs.heading.next_life.Goals as goal
+
+pub fault_of-requires-clause-other : goal.fault_of-requires-clause-other
+fault_of-requires-clause-other c = λ life lines counted is. c.in_default.ensures.none life counted (ap first_of (sym c.requires.1 ∙ is))

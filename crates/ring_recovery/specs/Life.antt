@@ -1,0 +1,10 @@
+-- How the lives of a journal are counted, and how many places each has.
+use Rattle.std.specs.Prelude.{◌<◌, ◌≤◌, ◌-◌, ◌*◌, ◌^◌, ℕ}
+
+-- the number of a life: from 1 to 1048576
+abbrev pub IsLife : ℕ → Type 0
+IsLife life = (0 < life) × (life ≤ 2 ^ 20)
+
+-- The number that is added to each place of a life. A life has fewer than 2^44 places.
+abbrev pub base_of : ℕ → ℕ
+base_of life = (life - 1) * 2 ^ 44

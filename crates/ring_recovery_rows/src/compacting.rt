@@ -1,0 +1,242 @@
+//! Journals that are compacted at a start.
+
+use crate::files::{HEADING, SECOND, TWICE};
+use ring_change::{Check, parse_change, spell_line};
+use ring_recovery::{RecoverFault, Recovered, recover};
+use std::alloc::Global;
+use std::process::Abort;
+
+// Changes, and the fewer ones that lead to the same groups. What was undone before a start is left out.
+const SHORT: [(&[&[u8]], &[&[u8]]); 6] = [
+    // members that joined and left
+    (
+        &[
+            b"create a chang",
+            b"join a 1",
+            b"leave a 1",
+            b"join a 1/7",
+            b"join a 2",
+            b"leave a 1",
+        ],
+        &[b"create a chang", b"join a 2"],
+    ),
+    // groups without members
+    (
+        &[
+            b"create b peterson",
+            b"join b 1",
+            b"leave b 1",
+            b"create a lelann",
+            b"join a 1",
+            b"leave a 1",
+        ],
+        &[b"create b peterson", b"create a lelann"],
+    ),
+    // members who moved to the end
+    (
+        &[
+            b"create a chang",
+            b"join a 1",
+            b"join a 2",
+            b"join a 3",
+            b"leave a 2",
+            b"join a 2/9",
+            b"leave a 1",
+            b"join a 1",
+        ],
+        &[b"create a chang", b"join a 3", b"join a 2/9", b"join a 1"],
+    ),
+    // a term, after which everybody leaves and comes back in another order
+    (
+        &[
+            b"create a hirschberg",
+            b"join a 1",
+            b"join a 2",
+            b"start a",
+            b"know a 1 2 2",
+            b"leave a 1",
+            b"join a 1",
+            b"leave a 2",
+            b"join a 2",
+            b"leave a 1",
+            b"join a 1",
+            b"join a 3",
+            b"leave a 3",
+            b"join a 3",
+            b"leave a 3",
+            b"join a 3",
+            b"leave a 3",
+        ],
+        &[
+            b"create a hirschberg",
+            b"join a 1",
+            b"join a 2",
+            b"start a",
+            b"know a 1 2 2",
+            b"leave a 1",
+            b"join a 1",
+        ],
+    ),
+    // two terms, of which the second has a smaller ring
+    (
+        &[
+            b"create a chang",
+            b"join a 1",
+            b"join a 2",
+            b"join a 3",
+            b"start a",
+            b"know a 1 3 3",
+            b"know a 1 1 3",
+            b"leave a 2",
+            b"join a 2",
+            b"leave a 2",
+            b"join a 5",
+            b"leave a 5",
+            b"join a 6",
+            b"leave a 6",
+            b"leave a 3",
+            b"start a",
+            b"know a 2 1 1",
+            b"join a 7",
+            b"leave a 7",
+            b"join a 7",
+            b"leave a 7",
+            b"join a 7",
+            b"leave a 7",
+            b"join a 7",
+            b"leave a 7",
+            b"join a 7",
+            b"leave a 7",
+        ],
+        &[
+            b"create a chang",
+            b"join a 1",
+            b"join a 2",
+            b"join a 3",
+            b"start a",
+            b"know a 1 1 3",
+            b"know a 1 3 3",
+            b"leave a 2",
+            b"leave a 3",
+            b"start a",
+            b"know a 2 1 1",
+        ],
+    ),
+    // two groups in turn
+    (
+        &[
+            b"create a chang",
+            b"create b peterson",
+            b"join b 4",
+            b"join a 4",
+            b"start b",
+            b"leave b 4",
+            b"join b 4",
+            b"leave b 4",
+            b"join b 5",
+            b"leave a 4",
+            b"join a 4",
+            b"leave a 4",
+            b"join a 4",
+            b"leave a 4",
+            b"know b 1 4 4",
+            b"join a 4",
+            b"leave a 4",
+            b"join a 4",
+            b"leave a 4",
+        ],
+        &[
+            b"create a chang",
+            b"create b peterson",
+            b"join b 4",
+            b"start b",
+            b"know b 1 4 4",
+            b"leave b 4",
+            b"join b 5",
+        ],
+    ),
+];
+
+// Changes that are left as they are: fewer lead to the same groups, but more than half as many.
+const KEPT: [&[&[u8]]; 3] = [
+    &[],
+    &[
+        b"create a chang",
+        b"join a 1",
+        b"join a 2",
+        b"join a 3",
+        b"leave a 3",
+    ],
+    &[
+        b"create a chang",
+        b"join a 1",
+        b"join a 2",
+        b"start a",
+        b"know a 1 2 2",
+        b"know a 1 1 2",
+        b"join a 3",
+        b"leave a 3",
+    ],
+];
+
+// The bytes of a journal with this first line and these changes. Fails only if an allocation fails.
+fn try_journal(alloc: Global, heading: &[u8], changes: &[&[u8]]) -> Option<Vec<u8>> {
+    let mut file = Vec::new(alloc);
+    file.extend_from_slice(heading).ok()?;
+    file.push(b'\n').ok()?;
+    let mut check = Check::new();
+    for line in changes {
+        let change = parse_change(line)?;
+        let spelled = spell_line(&change, &mut check);
+        file.extend_from_slice(spelled.as_slice()).ok()?;
+        file.push(b'\n').ok()?;
+    }
+    Some(file)
+}
+
+// The bytes of a journal with this first line and these changes.
+fn journal(rt: &impl Abort, alloc: Global, heading: &[u8], changes: &[&[u8]]) -> Vec<u8> {
+    match try_journal(alloc, heading, changes) {
+        Some(file) => file,
+        None => try_journal(alloc, heading, changes).expect(rt, TWICE),
+    }
+}
+
+// The table of a journal, compacted. Fails only if an allocation fails.
+fn try_compacted(rt: &impl Abort, alloc: Global, changes: &[&[u8]]) -> Option<Recovered> {
+    match recover(alloc, journal(rt, alloc, HEADING, changes)) {
+        Ok(recovered) => recovered.compacted(alloc).ok(),
+        Err(fault) => {
+            assert_eq!(rt; fault, RecoverFault::NoMemory);
+            None
+        }
+    }
+}
+
+// Whether a journal of the first changes is compacted to one of the others, in its second life.
+fn becomes(rt: &impl Abort, alloc: Global, found: &[&[u8]], left: &[&[u8]]) {
+    let compacted = match try_compacted(rt, alloc, found) {
+        Some(compacted) => compacted,
+        None => try_compacted(rt, alloc, found).expect(rt, TWICE),
+    };
+    let text = journal(rt, alloc, SECOND, left);
+    assert_eq!(rt; compacted.text().bytes(), text.as_slice());
+    assert_eq!(rt; compacted.count(), left.len());
+    drop(text);
+    drop(compacted);
+}
+
+#[test]
+fn changes_that_were_undone_before_a_start_are_left_out(rt: HostRuntime) {
+    for (found, short) in &SHORT {
+        becomes(&rt, rt.alloc(), found, short);
+        becomes(&rt, rt.alloc(), short, short);
+    }
+}
+
+#[test]
+fn changes_are_kept_if_more_than_half_of_them_are_needed(rt: HostRuntime) {
+    for kept in &KEPT {
+        becomes(&rt, rt.alloc(), kept, kept);
+    }
+}
