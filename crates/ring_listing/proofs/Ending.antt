@@ -1,7 +1,7 @@
 -- Where the text of a journal ends, and that a text of lines is whole.
-use Rattle.std.proofs.Common.{◌≡◌, ◌∙◌, ◌≤◌, ℕ, List, [], ◌∷◌, ◌++◌, length, take, ap, arith, refl, subst, sym}
+use Rattle.std.proofs.Common.{◌≡◌, ◌∙◌, ◌≤◌, ℕ, List, [], ◌∷◌, length, take, ap, arith, refl, subst, sym}
 use Rattle.ring_journal.specs.Journals.{HasAll}
-use Rattle.ring_journal.specs.Lines.{front, lines_in, text_of, whole_lines_of}
+use Rattle.ring_journal.specs.Lines.{lines_in, text_of, whole_lines_of}
 use Rattle.ring_journal.specs.Moments.{MayFind}
 use Rattle.ring_journal.specs.Whole.{IsWhole}
 use Rattle.ring_journal.proofs.Finding.{HasNoZero, front_of, no_zero_text}

@@ -1,5 +1,5 @@
 -- The lines that say what a journal holds.
-use Rattle.std.specs.Prelude.{◌≡◌, ◌≢◌, ◌⊎◌, ◌≤◌, ◌<◌, ℕ, ◌+◌, ◌-◌, List, [], ◌∷◌, ◌++◌, Option, Some, None, codes, length, slice_index}
+use Rattle.std.specs.Prelude.{◌≡◌, ◌≢◌, ◌⊎◌, ◌≤◌, ◌<◌, ℕ, ◌-◌, List, [], ◌∷◌, ◌++◌, Option, Some, None, codes, length, slice_index}
 use Rattle.std.specs.Fmt.{decimal}
 use Rattle.ring_any.specs.Any.{word_of}
 use Rattle.ring_any.specs.declared.any.Any.{Any}
@@ -37,11 +37,14 @@ abbrev pub groups_text : Object Any → List (Change Any) → List ℕ
 groups_text groups [] = []
 groups_text groups (change ∷ changes) = change_text groups change ++ groups_text groups changes
 
--- the last line: how many changes there are, at which byte their text ends, and how many bytes of a torn
--- tail follow it
-abbrev pub end_line : ℕ → ℕ → ℕ → List ℕ
-end_line changes end torn =
-    codes "whole: " ++ decimal changes ++ codes " changes end at byte " ++ decimal end ++ codes ", " ++ decimal torn ++ codes " bytes of a torn tail are dropped\n"
+-- the beginning of the last line: the number of the life
+abbrev pub life_text : ℕ → List ℕ
+life_text life = codes "whole: life " ++ decimal life ++ codes ", "
+
+-- the rest of the last line: how many changes there are, at which byte their text ends, and how many bytes
+-- of a torn tail follow it
+abbrev pub end_text : ℕ → ℕ → ℕ → List ℕ
+end_text changes end torn = decimal changes ++ codes " changes end at byte " ++ decimal end ++ codes ", " ++ decimal torn ++ codes " bytes of a torn tail are dropped\n"
 
 -- So many bytes are in use: zeros alone follow them, and the last of them is no zero.
 pub record IsUsed (found : List ℕ) (used : ℕ) : Type 0 where
@@ -49,10 +52,11 @@ pub record IsUsed (found : List ℕ) (used : ℕ) : Type 0 where
   pub zeros : (k : ℕ) → used ≤ k → k < length found → slice_index found k ≡ 0
   pub last : (used ≡ 0) ⊎ (slice_index found (used - 1) ≢ 0)
 
--- The text says what a table that is recovered from these bytes holds.
+-- The text says what a table that is recovered from these bytes holds, and in which life they were
+-- written. It is 0 if the file has no line.
 pub record Lists (found text : List ℕ) : Type 0 where
   pub recovered : RecoveredView
   pub recovers : Recovers found recovered
   pub used : ℕ
   pub in_use : IsUsed found used
-  pub lines : text ≡ groups_text recovered.book (changes_of recovered.history) ++ end_line (length recovered.history) (length (text_of (lines_in found))) (used - length (text_of (lines_in found)))
+  pub lines : text ≡ groups_text recovered.book (changes_of recovered.history) ++ life_text (recovered.life - 1) ++ end_text (length recovered.history) (length (text_of (lines_in found))) (used - length (text_of (lines_in found)))

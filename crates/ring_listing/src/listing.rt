@@ -1,7 +1,7 @@
-ghost use Rattle.std.specs.Prelude.{◌≡◌, ◌++◌, length, All, IfErr, IfOk, OnOk};
+ghost use Rattle.std.specs.Prelude.{◌≡◌, ◌-◌, ◌++◌, length, All, IfErr, IfOk, OnOk};
 ghost use Rattle.ring_change.specs.Spelling.{IsChange};
 ghost use Rattle.ring_lives.specs.Changes.{changes_of};
-ghost use Rattle.ring_listing.specs.Listing.{IsUsed, Lists, end_line, groups_text};
+ghost use Rattle.ring_listing.specs.Listing.{IsUsed, Lists, end_text, groups_text, life_text};
 ghost use Rattle.ring_recovery.specs.Damage.{IsFaultOf};
 
 use crate::groups::put_groups;
@@ -13,9 +13,9 @@ use std::alloc::Global;
 /// Returns the lines that say what the journal with these bytes holds.
 ///
 /// For each group, in order of creation, there are three lines: its name and its algorithm, its members
-/// as `members` replies them, and the leaders of its terms as `terms` does. The last line says how many
-/// changes there are and at which byte their text ends. It also says how many bytes of a torn tail follow
-/// the text, which a restart drops.
+/// as `members` replies them, and the leaders of its terms as `terms` does. The last line says the number
+/// of the journal's life, how many changes there are and at which byte their text ends. It also says how
+/// many bytes of a torn tail follow the text, which a restart drops.
 ///
 /// Refuses the bytes that `recover` refuses, for the same reason.
 pub fn list_journal(alloc: Global, found: Vec<u8>) -> Result<Vec<u8>, RecoverFault>
@@ -52,15 +52,25 @@ fn used_len(found: &[u8]) -> usize
 // The lines of a recovered table, and the line about its text.
 fn list(alloc: Global, recovered: &Recovered, end: usize, torn: usize) -> Result<Vec<u8>, NoMemory>
     requires { All IsChange (changes_of recovered.now.history) }
-    ensures { IfOk result (λ text. text.items ≡ groups_text recovered.now.book (changes_of recovered.now.history) ++ end_line (length recovered.now.history) end torn) }
+    ensures { IfOk result (λ text. text.items ≡ groups_text recovered.now.book (changes_of recovered.now.history) ++ life_text (recovered.now.life - 1) ++ end_text (length recovered.now.history) end torn) }
 {
     let mut text = Vec::new(alloc);
     put_groups(alloc, recovered, &mut text)?;
+    put_life(alloc, recovered.life().get() - 1, &mut text)?;
     put_end(alloc, recovered.count(), end, torn, &mut text)?;
     Ok(text)
 }
 
-// Adds the line about the text.
+// Begins the last line, with the number of the life.
+fn put_life(alloc: Global, life: u32, text: &mut Vec<u8>) -> Result<(), NoMemory>
+    ensures { OnOk result (text.new.items ≡ text.old.items ++ life_text life) }
+{
+    let line = format!(in alloc; "whole: life {life}, ")?;
+    text.extend_from_slice(line.as_bytes())?;
+    Ok(())
+}
+
+// Adds the rest of the last line, about the text of the changes.
 fn put_end(
     alloc: Global,
     changes: usize,
@@ -68,10 +78,10 @@ fn put_end(
     torn: usize,
     text: &mut Vec<u8>,
 ) -> Result<(), NoMemory>
-    ensures { OnOk result (text.new.items ≡ text.old.items ++ end_line changes end torn) }
+    ensures { OnOk result (text.new.items ≡ text.old.items ++ end_text changes end torn) }
 {
     let line = format!(in alloc;
-        "whole: {changes} changes end at byte {end}, {torn} bytes of a torn tail are dropped\n"
+        "{changes} changes end at byte {end}, {torn} bytes of a torn tail are dropped\n"
     )?;
     text.extend_from_slice(line.as_bytes())?;
     Ok(())

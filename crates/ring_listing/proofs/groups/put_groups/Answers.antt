@@ -22,5 +22,5 @@ returns c =
     let text = c.text.ensures.lines in
     let bytes = ap lines_in (c.bytes.ensures ∙ c.text.ensures.value) in
     let lines = c.in-Ok.ensures.lines ∙ bytes ∙ finds_lines c.args.recovered.now.text text.whole ∙ text.lines in
-    let left = without_first heading (marked_lines first_check changes) c.in-Ok.lines c.next-heading.new.self c.next-heading.result lines c.next-heading.ensures.steps in
+    let left = without_first (heading c.args.recovered.now.life) (marked_lines first_check changes) c.in-Ok.lines c.next-heading.new.self c.next-heading.result lines c.next-heading.ensures.steps in
     subst (λ book. OnOk c.put_lines.result (c.put_lines.new.text.items ≡ c.args.text.now.items ++ groups_text book changes)) c.book.ensures (c.put_lines.ensures changes left c.requires)

@@ -1,4 +1,4 @@
-use Rattle.std.proofs.Common.{◌≡◌, ◌∙◌, ap, subst, sym}
+use Rattle.std.proofs.Common.{◌∙◌, ap, subst, sym}
 use Rattle.ring_listing.proofs.Behind.{IsBehind, all_behind, none_behind, one_behind}
 use Rattle.ring_recovery.specs.JournalLines.{marked_lines}
 use Rattle.ring_listing.proofs.groups.put_lines.Goals as goal
