@@ -1,4 +1,4 @@
-ghost use Rattle.std.specs.Prelude.{◌≡◌, ◌≤◌, [], length, map, ◌↔◌, IsTrue};
+ghost use Rattle.std.specs.Prelude.{◌≡◌, ◌<◌, ◌≤◌, [], length, map, ◌↔◌, IsTrue};
 ghost use Rattle.ring_events.specs.declared.event.Command.TheVariants as command;
 ghost use Rattle.ring_table.specs.Histories.{IsLegal};
 ghost use Rattle.ring_table.specs.Tables.{Calls, Files, GivesCharters, plain};
@@ -89,6 +89,7 @@ impl<E: RingElection, H: Recorder<E> + Drop> Recorded<E, H> {
     /// Returns the number of entries. Does not allocate. The history is legal for the book.
     pub fn count(&self) -> usize
         ensures value { result ≡ length self.now.history }
+        ensures within { length self.now.history < H.most }
         ensures legal { IsLegal E.is_two_way E.is_greatest self.now.history self.now.book }
     {
         self.recorder.count()

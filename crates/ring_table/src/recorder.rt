@@ -23,6 +23,9 @@ pub trait Recorder<E: RingElection> {
     // the entries that were recorded, in order
     ghost entries: { Self → List (Entry E) };
 
+    // there are always fewer entries than this
+    ghost most: { ℕ };
+
     // for how many more entries there is room
     ghost room: { Self → ℕ };
 
@@ -31,9 +34,11 @@ pub trait Recorder<E: RingElection> {
 
     /// Returns the number of entries. Does not allocate.
     fn count(&self) -> usize
-        ensures { result ≡ length (entries self.now) };
+        ensures value { result ≡ length (entries self.now) }
+        ensures within { length (entries self.now) < most };
 
-    /// Finds room for one more entry. The entries stay as they were. Fails only if an allocation fails.
+    /// Finds room for one more entry. The entries stay as they were. Fails only if an allocation
+    /// fails, or if there are as many entries as there may be.
     fn reserve(&mut self) -> Result<(), NoMemory>
         ensures items { entries self.new ≡ entries self.old }
         ensures room { OnOk result (0 < room self.new) }
@@ -94,9 +99,11 @@ impl<E> Unkept<E> {
 }
 
 impl<E: RingElection> Recorder<E> for Unkept<E> {
-    ghost use Rattle.std.specs.Prelude.{length};
+    ghost use Rattle.std.specs.Prelude.{◌^◌, length};
 
     ghost entries = { λ a. a.items };
+
+    ghost most = { 2 ^ 64 };
 
     ghost room = { λ a. a.room };
 

@@ -1,4 +1,4 @@
-ghost use Rattle.std.specs.Prelude.{◌≡◌, ◌≤◌, length, map, ◌↔◌, IsTrue};
+ghost use Rattle.std.specs.Prelude.{◌≡◌, ◌<◌, ◌≤◌, length, map, ◌↔◌, IsTrue};
 ghost use Rattle.ring_events.specs.declared.event.Command.TheVariants as command;
 ghost use Rattle.ring_table.specs.Histories.{IsLegal};
 ghost use Rattle.ring_table.specs.Tables.{Calls, Files, GivesCharters, plain};
@@ -22,6 +22,9 @@ pub trait Tabled<E: RingElection> {
 
     // the book and the history
     ghost shows: { Self → TableView E };
+
+    // the history always has fewer entries than this
+    ghost most: { ℕ };
 
     // how many of the first entries are kept for good
     ghost sure: { Self → ℕ };
@@ -60,13 +63,16 @@ pub trait Tabled<E: RingElection> {
     /// Returns the number of entries. Does not allocate. The history is legal for the book.
     fn count(&self) -> usize
         ensures value { result ≡ length (shows self.now).history }
+        ensures within { length (shows self.now).history < most }
         ensures legal { IsLegal E.is_two_way E.is_greatest (shows self.now).history (shows self.now).book };
 }
 
 impl<E: RingElection> Tabled<E> for Table<E> {
-    ghost use Rattle.std.specs.Prelude.{length};
+    ghost use Rattle.std.specs.Prelude.{◌^◌, length};
 
     ghost shows = { λ table. table };
+
+    ghost most = { 2 ^ 64 };
 
     // a history in memory has nothing to settle: each entry counts as kept for good
     ghost sure = { λ table. length table.history };
@@ -113,6 +119,8 @@ impl<E: RingElection, H: Recorder<E> + Drop> Tabled<E> for Recorded<E, H> {
     ghost use Rattle.ring_table.specs.Tables.{plain};
 
     ghost shows = { plain };
+
+    ghost most = { H.most };
 
     ghost sure = { λ table. table.sure };
 

@@ -39,10 +39,13 @@ the_table = table.the_row any.the_row message.the_row state.the_row election.gho
 pub table_send : IsSend the_table
 table_send = table_crosses.the_send any.the_row message.the_row state.the_row election.ghosts same.ghosts same_message.ghosts any_crosses.the_send any_crosses.the_sync
 
+-- what contracts see of such a table
+abbrev kept_shows : tabled.Ghosts the_table.Denot any.the_row.Denot message.the_row.Denot state.the_row.Denot
+kept_shows = table_tabled.ghosts any.the_row message.the_row state.the_row election.ghosts table_tabled.no_dict (copy.ghosts any.the_row) table_tabled.no_dict (record {}) table_tabled.no_dict same.ghosts table_tabled.no_dict (copy.ghosts message.the_row) table_tabled.no_dict (record {}) table_tabled.no_dict same_message.ghosts table_tabled.no_dict table_tabled.no_dict
+
 -- a lock over a table that keeps its history
-pub table_sync : IsSync (over the_table
-    (table_tabled.ghosts any.the_row message.the_row state.the_row election.ghosts table_tabled.no_dict (copy.ghosts any.the_row) table_tabled.no_dict (record {}) table_tabled.no_dict same.ghosts table_tabled.no_dict (copy.ghosts message.the_row) table_tabled.no_dict (record {}) table_tabled.no_dict same_message.ghosts table_tabled.no_dict table_tabled.no_dict))
-table_sync = any_sync the_table _ table_send
+pub table_sync : IsSync (over the_table kept_shows)
+table_sync = any_sync the_table kept_shows table_send
 
 abbrev no_history : RattleType
 no_history = unkept.the_row any.the_row
@@ -63,7 +66,10 @@ the_recorded = recorded.the_row any.the_row no_history message.the_row state.the
 pub unkept_table_send : IsSend the_recorded
 unkept_table_send = recorded_crosses.the_send any.the_row no_history message.the_row state.the_row election.ghosts same.ghosts same_message.ghosts records any_crosses.the_send unkept_send any_crosses.the_sync
 
+-- what contracts see of such a table
+abbrev unkept_shows : tabled.Ghosts the_recorded.Denot any.the_row.Denot message.the_row.Denot state.the_row.Denot
+unkept_shows = recorded_tabled.ghosts any.the_row no_history message.the_row state.the_row election.ghosts recorded_tabled.no_dict (copy.ghosts any.the_row) recorded_tabled.no_dict (record {}) recorded_tabled.no_dict same.ghosts recorded_tabled.no_dict (copy.ghosts message.the_row) recorded_tabled.no_dict (record {}) recorded_tabled.no_dict same_message.ghosts recorded_tabled.no_dict records recorded_tabled.no_dict recorded_tabled.no_dict recorded_tabled.no_dict
+
 -- a lock over a table that keeps none
-pub unkept_table_sync : IsSync (over the_recorded
-    (recorded_tabled.ghosts any.the_row no_history message.the_row state.the_row election.ghosts recorded_tabled.no_dict (copy.ghosts any.the_row) recorded_tabled.no_dict (record {}) recorded_tabled.no_dict same.ghosts recorded_tabled.no_dict (copy.ghosts message.the_row) recorded_tabled.no_dict (record {}) recorded_tabled.no_dict same_message.ghosts recorded_tabled.no_dict records recorded_tabled.no_dict recorded_tabled.no_dict recorded_tabled.no_dict))
-unkept_table_sync = any_sync the_recorded _ unkept_table_send
+pub unkept_table_sync : IsSync (over the_recorded unkept_shows)
+unkept_table_sync = any_sync the_recorded unkept_shows unkept_table_send

@@ -5,6 +5,7 @@ ghost use Rattle.ring_turn.specs.Seats.{HasAllSeats, fresh_seats};
 ghost use Rattle.ring_turn.specs.private.Seats.{IsOpened};
 
 use crate::held::HeldTable;
+use crate::queue::Queue;
 use crate::rule::{Board, DESK, Joins, Makes, Place, Start};
 use crate::seat::Seat;
 use crate::turn::put_back;
@@ -14,7 +15,6 @@ use ring_table::{Table, Tabled};
 use std::alloc::Global;
 use std::marker::{Model, PhantomData};
 use std::snapshot::Snapshot;
-use std::sync::Mutex;
 
 /// A table that many threads call in turns.
 ///
@@ -29,7 +29,7 @@ pub struct TurnLock<E: RingElection, T: Tabled<E> + Drop = Table<E>> {
     pub(crate) alloc: Global,
     pub(crate) board: Board<E, T>,
     pub(crate) maker: Place<E, T>,
-    pub(crate) door: Mutex<()>,
+    pub(crate) queue: Queue,
 }
 
 impl<E: RingElection, T: Tabled<E> + Drop> Model for TurnLock<E, T> {
@@ -71,7 +71,7 @@ impl<E: RingElection, T: Tabled<E> + Drop> TurnLock<E, T> {
             all.push_reserved(Seat {
                 place,
                 left: turns,
-                is_settled: true,
+                owes: 0,
                 keeps: false,
                 hand: None,
             });
@@ -80,7 +80,7 @@ impl<E: RingElection, T: Tabled<E> + Drop> TurnLock<E, T> {
             alloc,
             board,
             maker,
-            door: Mutex::new(()),
+            queue: Queue::new(),
         };
         Ok((lock, all))
     }
@@ -100,14 +100,14 @@ impl<E: RingElection, T: Tabled<E> + Drop> TurnLock<E, T> {
             alloc: _,
             board,
             mut maker,
-            door: _,
+            queue: _,
         } = self;
         let mut rest = seats;
         while let Some(seat) = rest.pop() {
             let Seat {
                 mut place,
                 left: _,
-                is_settled: _,
+                owes: _,
                 keeps: _,
                 hand,
             } = seat;
@@ -148,7 +148,7 @@ fn open<E: RingElection, T: Tabled<E> + Drop>(
         return Err(NoMemory);
     };
     desks.push_reserved(Some(table));
-    let made = Board::new(alloc, &[0, 0], desks, &start);
+    let made = Board::new(alloc, &[0, 0, 0], desks, &start);
     drop(start);
     match made {
         Ok(made) => Ok(made),

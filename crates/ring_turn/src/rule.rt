@@ -9,10 +9,13 @@ use std::alloc::Global;
 use std::marker::PhantomData;
 use std::snapshot::Snapshot;
 
-// The words: tickets drawn, tickets served. And the one slot.
+// The words: tickets drawn, tickets served, and how many of the first entries are told to be kept for good. And
+// the one slot.
 pub(crate) const DRAWN: usize = 0;
 
 pub(crate) const SERVED: usize = 1;
+
+pub(crate) const KEPT: usize = 2;
 
 pub(crate) const DESK: usize = 0;
 
@@ -75,6 +78,24 @@ impl<E: RingElection, T: Tabled<E> + Drop> Play<Option<HeldTable<E, T>>, Doing<E
     ghost use Rattle.ring_turn.specs.private.Steps.{Serves as IsService};
 
     ghost then = { IsService };
+}
+
+// A seat tells how many entries it knows to be kept for good.
+pub struct Tells;
+
+impl<E: RingElection, T: Tabled<E> + Drop> Play<Option<HeldTable<E, T>>, Doing<E>> for Tells {
+    ghost use Rattle.ring_turn.specs.private.Steps.{Tells as IsTelling};
+
+    ghost then = { IsTelling };
+}
+
+// A seat looks how many entries are told to be.
+pub struct Learns;
+
+impl<E: RingElection, T: Tabled<E> + Drop> Play<Option<HeldTable<E, T>>, Doing<E>> for Learns {
+    ghost use Rattle.ring_turn.specs.private.Steps.{Learns as IsLearning};
+
+    ghost then = { IsLearning };
 }
 
 // The maker makes a seat.

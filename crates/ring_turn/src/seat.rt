@@ -11,15 +11,15 @@ use std::marker::Model;
 ///
 /// Contracts see its lock, its number there, how many turns it has left, the history that the lock was
 /// opened with, the turns that it has seen, its own entries, in order, and how many entries it knows to be
-/// kept for good. At run time a seat has a count of turns, two flags, and the table while it keeps it. The
-/// rest is for proofs alone.
+/// kept for good. At run time a seat has two counts, a flag, and the table while it keeps it. The rest is for
+/// proofs alone.
 #[derive(Drop)]
 pub struct Seat<E: RingElection, T: Tabled<E> + Drop = Table<E>> {
     pub(crate) place: Place<E, T>,
     pub(crate) left: u64,
-    // whether it knows that all entries which it has seen are kept for good; a call stores it, for `settle` to
-    // take no turn if there is nothing to keep
-    pub(crate) is_settled: bool,
+    // how many entries it has seen, or 0 if it knows that all of them are kept for good; a call stores it, for
+    // `settle` to do nothing if there is nothing to keep
+    pub(crate) owes: usize,
     // whether the seat keeps the table over its calls
     pub(crate) keeps: bool,
     // the table, while a turn is open between two calls
@@ -34,7 +34,7 @@ impl<E: RingElection, T: Tabled<E> + Drop> Model for Seat<E, T> {
 
     ghost view = { λ seat. seat_of seat.place.table_id seat.left (with_hand seat.hand seat.place.me.0) };
 
-    ghost invariant = { λ seat. IsSeated seat.left seat.is_settled seat.hand seat.place.me };
+    ghost invariant = { λ seat. IsSeated seat.left seat.owes seat.hand seat.place.me };
 }
 
 impl<E: RingElection, T: Tabled<E> + Drop> Seat<E, T> {

@@ -1,6 +1,7 @@
 //! The turn lock as an access to its table.
 ghost use Rattle.std.specs.Prelude.{◌≡◌, map};
 ghost use Rattle.ring_table.specs.Accesses.{AnswersAtSeat, BeginsAtSeat, Reports};
+ghost use Rattle.ring_table.specs.Places.{HasPlaceBelow};
 ghost use Rattle.ring_turn.specs.Seats.{Settled};
 
 use crate::lock::TurnLock;
@@ -21,6 +22,8 @@ impl<E: RingElection, T: Tabled<E> + Drop> Access<E> for TurnLock<E, T> {
     ghost has_seat = { λ lock seat. seat.lock ≡ lock.id };
 
     ghost mine = { λ seat. seat.mine };
+
+    ghost most = { T.most };
 
     ghost is_settled = { Settled };
 
@@ -53,6 +56,7 @@ impl<E: RingElection, T: Tabled<E> + Drop> Access<E> for TurnLock<E, T> {
         requires { seat.old.lock ≡ self.now.id }
         ensures seat { seat.new.lock ≡ self.now.id }
         ensures entry { AnswersAtSeat E.is_two_way E.is_greatest session command seat.old.mine result seat.new.mine }
+        ensures place { HasPlaceBelow T.most result }
     {
         TurnLock::call(self, rt, seat, session, command)
     }
@@ -68,6 +72,7 @@ impl<E: RingElection, T: Tabled<E> + Drop> Access<E> for TurnLock<E, T> {
         requires { seat.old.lock ≡ self.now.id }
         ensures seat { seat.new.lock ≡ self.now.id }
         ensures entry { BeginsAtSeat E.is_two_way E.is_greatest session group copies seat.old.mine result.0 (map (λ charter. charter.value) result.1.items) seat.new.mine }
+        ensures place { HasPlaceBelow T.most result.0 }
     {
         TurnLock::begin(self, rt, seat, session, group, copies)
     }
@@ -80,6 +85,7 @@ impl<E: RingElection, T: Tabled<E> + Drop> Access<E> for TurnLock<E, T> {
         TurnLock::report(self, rt, seat, report)
     }
 
+    #[inline(always)]
     fn settle<R: Wait>(&self, rt: &R, seat: &mut Seat<E, T>)
         requires { seat.old.lock ≡ self.now.id }
         ensures seat { seat.new.lock ≡ self.now.id }

@@ -104,7 +104,7 @@ pub(crate) fn put_back<E: RingElection, T: Tabled<E> + Drop>(
     place: &mut Place<E, T>,
     hand: Option<HeldTable<E, T>>,
 )
-    requires words { board.now.shared.table_id.words ≡ 2 }
+    requires words { board.now.shared.table_id.words ≡ 3 }
     requires here { place.old.table_id ≡ board.now.shared.table_id }
     requires seat { IsHanded hand place.old.me }
     ensures here { place.new.table_id ≡ place.old.table_id }
@@ -123,7 +123,7 @@ fn leave<E: RingElection, T: Tabled<E> + Drop>(
     place: &mut Place<E, T>,
     table: HeldTable<E, T>,
 )
-    requires words { board.now.shared.table_id.words ≡ 2 }
+    requires words { board.now.shared.table_id.words ≡ 3 }
     requires here { place.old.table_id ≡ board.now.shared.table_id }
     requires ready { IsOpen table place.old.me }
     ensures here { place.new.table_id ≡ place.old.table_id }
