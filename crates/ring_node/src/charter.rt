@@ -8,7 +8,8 @@ use std::sync::Arc;
 
 /// What a term is about: its group, its number, the algorithm that decides it, and its ring.
 ///
-/// All nodes, envelopes and reports of a term share its charter.
+/// All nodes, envelopes and reports of a term share its charter in memory. Contracts compare charters
+/// by value.
 #[derive(Debug, Drop)]
 pub struct Charter<E> {
     group: GroupName,
@@ -40,8 +41,8 @@ impl<E: RingElection> Charter<E> {
         Ok(shared)
     }
 
-    /// The charter of the same term, which this algorithm decides; both share the ring. Refused for want of
-    /// memory alone.
+    /// The charter of the same term, which this algorithm decides. It shares the ring in memory. Refused
+    /// for want of memory alone.
     pub fn under<F: RingElection>(
         &self,
         alloc: Global,

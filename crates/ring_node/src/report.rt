@@ -10,7 +10,7 @@ use std::sync::Arc;
 /// The news that a member knows the leader of its term.
 ///
 /// Its type keeps that the member is in the ring of the charter, and that the leader is the winner
-/// of that ring.
+/// of that ring. That the member's node knows the leader is said by the calls that give a report.
 #[derive(Drop)]
 pub struct Report<E: RingElection> {
     charter: Arc<Charter<E>>,

@@ -12,13 +12,9 @@ use Rattle.ring_workers.specs.declared.handed.Why.{Why}
 use Rattle.ring_workers.specs.declared.handed.Why.TheVariants.{Stopped, Closed, Halted, Starved, Spent}
 use Rattle.ring_workers.specs.declared.item.Item.{Item}
 use Rattle.ring_workers.specs.declared.item.Item.TheVariants.{Begin, Packet, Stop}
-use Rattle.ring_workers.specs.declared.seats.Fate.{Fate}
-use Rattle.ring_workers.specs.declared.seats.Fate.TheVariants.{Done, Older, Strange}
-use Rattle.ring_workers.specs.private.Fates.{IsBegun, IsDelivered, IsEnvelopeFate, IsFate}
-use Rattle.ring_workers.specs.Goings.{HasReceived}
 use Rattle.ring_workers.specs.Handed.{Ended, Hands}
-use Rattle.ring_workers.specs.Holdings.{AllOwned, AllSeated, Holding, NoTwoAlike, charters_of, nodes_of}
-use Rattle.ring_workers.specs.private.Holdings.{IsOlder, Steps}
+use Rattle.ring_workers.specs.Holdings.{AllOwned, Holding, NoTwoAlike, nodes_of}
+use Rattle.ring_workers.specs.private.Holdings.{Steps}
 use Rattle.ring_workers.specs.Runs.{IsEnd, Ran}
 use Rattle.ring_workers.specs.private.Runs.{Turns}
 use Rattle.ring_workers.specs.private.Sends.{Sends}
@@ -39,43 +35,9 @@ steps_none t charter holding waiting = record {
 -- the item is in hand still
 pub turns_held : {E S M : Type 0} (t : E → Table S M) (item : Item E M S) (holding : Holding E M) (waiting : List (Sent E M)) (dropped : ℕ)
     → Turns t item holding holding waiting waiting dropped dropped (Some item)
-turns_held t (Begin b) holding waiting dropped = record { steps = steps_none t b.value holding waiting; grows = omega arith; end = inl refl }
-turns_held t (Packet e) holding waiting dropped = record { steps = steps_none t e.charter holding waiting; grows = omega arith; end = inl refl }
-turns_held t Stop holding waiting dropped = record { steps = (refl, refl); grows = omega arith; end = inl refl }
-
--- a charter has begun: so it is said of the item
-pub begun_handled : {E M : Type 0} (old new : Holding E M) (dropped : ℕ) (charter : Charter E) → IsBegun old new dropped charter
-    → dropped ≡ 0 → (c : Charter E) → Some charter ≡ Some c → IsOlder (charters_of old) c ⊎ AllSeated new.number new.workers (nodes_of new) charter
-begun_handled old new dropped charter begun none c is =
-    let same : charter ≡ c = cc in
-    elim (begun none) [
-      | inl older ↦ inl (subst (λ (d : Charter _). IsOlder (charters_of old) d) same older)
-      | inr seated ↦ inr seated
-    ]
-
--- an envelope was delivered: so it is said of the item
-pub delivered_handled : {E M : Type 0} (old new : Holding E M) (dropped : ℕ) (envelope : Sent E M) → IsDelivered old new dropped envelope
-    → dropped ≡ 0 → (c : Charter E) → Some envelope.charter ≡ Some c → IsOlder (charters_of old) c ⊎ HasReceived (nodes_of new) envelope
-delivered_handled old new dropped envelope delivered none c is =
-    let same : envelope.charter ≡ c = cc in
-    elim (delivered none) [
-      | inl older ↦ inl (subst (λ (d : Charter _). IsOlder (charters_of old) d) same older)
-      | inr received ↦ inr received
-    ]
-
--- what became of an envelope, where one that is for no node here or not the next of its link is counted
-pub delivered_by : {E M : Type 0} (old new : Holding E M) (dropped : ℕ) (envelope : Sent E M) (fate : Fate) → IsEnvelopeFate old new envelope fate → (dropped ≡ 0 → fate ≡ Strange → ⊥)
-    → IsDelivered old new dropped envelope
-delivered_by old new dropped envelope Done is counted = λ none. inr is
-delivered_by old new dropped envelope Older is counted = λ none. inl is
-delivered_by old new dropped envelope Strange is counted = λ none. absurd (counted none refl)
-
--- and of a charter
-pub begun_by : {E M : Type 0} (old new : Holding E M) (dropped : ℕ) (charter : Charter E) (fate : Fate) → IsFate old new charter fate → (dropped ≡ 0 → fate ≡ Strange → ⊥)
-    → IsBegun old new dropped charter
-begun_by old new dropped charter Done is counted = λ none. inr is
-begun_by old new dropped charter Older is counted = λ none. inl is
-begun_by old new dropped charter Strange is counted = λ none. absurd (counted none refl)
+turns_held t (Begin b) holding waiting dropped = record { steps = steps_none t b.value holding waiting; grows = omega arith; end = inl (refl, refl) }
+turns_held t (Packet e) holding waiting dropped = record { steps = steps_none t e.charter holding waiting; grows = omega arith; end = inl (refl, refl) }
+turns_held t Stop holding waiting dropped = record { steps = (refl, refl); grows = omega arith; end = inl (refl, refl) }
 
 -- what holds of a result that is no refusal
 pub room_found : {A F : Type 0} (result : Result A F) (P : Type 0) → OnOk result P → false ≡ is_err result → P

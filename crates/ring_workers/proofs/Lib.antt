@@ -1,4 +1,6 @@
 mod Among
+mod Dropping
+mod Fates
 mod Goings
 mod Groups
 mod Growing

@@ -194,7 +194,7 @@ module _ {E S M : Type 0} (t : E → Table S M) where
 module _ {E S M : Type 0} (t : E → Table S M) (places : List (Option (Seated E M))) (place : ℕ) (old new : Seated E M) (there : slice_get places place ≡ Some (Some old))
     (envelope : Sent E M) (u w : List (Sent E M)) where
   -- what was written back changes nothing
-  written_back : new ≡ old → set places place (Some new) ≡ places
+  pub written_back : new ≡ old → set places place (Some new) ≡ places
   written_back same =
       let s = split_at places place (Some old) there in
       ap (λ n. set places place (Some n)) same ∙ s.written (Some old) ∙ sym s.whole

@@ -18,6 +18,7 @@ use Rattle.ring_workers.specs.private.Sends.{Sends}
 use Rattle.ring_workers.specs.Goings.{IsSent}
 use Rattle.ring_workers.specs.Seatings.{HasNodeAt}
 use Rattle.ring_workers.proofs.Among.{among_append, among_last, among_left, among_none, among_one, among_right}
+use Rattle.ring_workers.proofs.Fates.{handled_well}
 use Rattle.ring_workers.proofs.Growing.{received_later, seated_later}
 use Rattle.ring_workers.proofs.Running.{stored_none, stored_on}
 
@@ -153,18 +154,18 @@ module _ {E S M : Type 0} (t : E → Table S M) (number workers : ℕ) (from to 
       (ran.done.each zero_before x c there own earlier)
 
   -- the item is done
-  done_now : IsHandled old new dropped item → dropped ≡ 0 → (c : Charter E) → charter_of item ≡ Some c → OneTerm items c → IsDone number workers (nodes_of new) item
+  done_now : IsHandled old new before dropped item → dropped ≡ 0 → (c : Charter E) → charter_of item ≡ Some c → OneTerm items c → IsDone number workers (nodes_of new) item
   unfolding items
   done_now handled none c own one =
       let all : OneTerm (items_in ran.taken ++ item ∷ []) c = rw (items_more ran.taken sender item) at one in
-      elim (handled none c own) [
+      elim (handled_well old new before dropped item handled none c own) [
         | inl older ↦ absurd (not_older (items_in ran.taken) (charters_of old) c ran.source (one_term_before (items_in ran.taken) (item ∷ []) c all) older)
         | inr done ↦
             subst (λ (n : ℕ). IsDone n workers (nodes_of new) item) (steps.number_is ∙ ran.number_is)
             (subst (λ (w : ℕ). IsDone new.number w (nodes_of new) item) (steps.workers_is ∙ ran.workers_is) done)
       ]
 
-  done_after : (handled : IsHandled old new dropped item) → AllDone number workers (nodes_of new) dropped items (ran.handled ++ item ∷ [])
+  done_after : (handled : IsHandled old new before dropped item) → AllDone number workers (nodes_of new) dropped items (ran.handled ++ item ∷ [])
   done_after handled = record {
     each = λ none x c there own one. elim (among_append ran.handled (item ∷ []) x there) [
       | inl earlier ↦ done_before none x c earlier own one
@@ -193,7 +194,7 @@ module _ {E S M : Type 0} (t : E → Table S M) (number workers : ℕ) (from to 
   }
 
   -- handled, nothing is held
-  pub ran_handled : IsHandled old new dropped item → Ran t number workers from next passes sent new after dropped None
+  pub ran_handled : IsHandled old new before dropped item → Ran t number workers from next passes sent new after dropped None
   unfolding items
   ran_handled handled = record {
     number_is = steps.number_is ∙ ran.number_is;
@@ -262,18 +263,18 @@ pub ran_turn : {E S M : Type 0} (t : E → Table S M) (number workers : ℕ) (fr
     → Ran t number workers from next passes sent new after dropped held
 ran_turn t number workers from to next passes sent old new outbox after before dropped sender (Begin b) held ran comes turn =
     elim turn.end [
-      | inl is ↦ rw is (ran_held t number workers from to next passes sent old new outbox after before dropped sender (Begin b) b.value ran comes refl turn.steps turn.grows)
+      | inl is ↦ rw is.0 (ran_held t number workers from to next passes sent old new outbox after before dropped sender (Begin b) b.value ran comes refl turn.steps turn.grows)
       | inr is ↦ rw is.0 (ran_handled t number workers from to next passes sent old new outbox after before dropped sender (Begin b) b.value ran comes refl turn.steps turn.grows is.1)
     ]
 ran_turn t number workers from to next passes sent old new outbox after before dropped sender (Packet e) held ran comes turn =
     elim turn.end [
-      | inl is ↦ rw is (ran_held t number workers from to next passes sent old new outbox after before dropped sender (Packet e) e.charter ran comes refl turn.steps turn.grows)
+      | inl is ↦ rw is.0 (ran_held t number workers from to next passes sent old new outbox after before dropped sender (Packet e) e.charter ran comes refl turn.steps turn.grows)
       | inr is ↦ rw is.0 (ran_handled t number workers from to next passes sent old new outbox after before dropped sender (Packet e) e.charter ran comes refl turn.steps turn.grows is.1)
     ]
 ran_turn {E} {S} {M} t number workers from to next passes sent old new outbox after before dropped sender Stop held ran comes turn =
     rw (turn.steps.0, turn.steps.1)
     (elim turn.end [
-      | inl is ↦ rw is
+      | inl is ↦ rw is.0
           (ran_stop t number workers from to next passes sent old outbox before dropped sender Stop (Some Stop) ran.handled ran comes refl turn.grows refl (λ x c there own. there))
       | inr is ↦ rw is.0
           (ran_stop t number workers from to next passes sent old outbox before dropped sender Stop None (ran.handled ++ Stop ∷ []) ran comes refl turn.grows (sym (append-nil (ran.handled ++ Stop ∷ [])))

@@ -1,5 +1,5 @@
-ghost use Rattle.std.specs.Prelude.{◌≡◌, ◌<◌, ◌≤◌, [], vec_capacity, vec_len, IfErr, IfOk, IfSome, OnOk};
-ghost use Rattle.ring_workers.specs.private.Fates.{IsBegun, IsDelivered};
+ghost use Rattle.std.specs.Prelude.{◌≡◌, ◌<◌, ◌≤◌, [], vec_capacity, vec_len, IfErr, IfOk, IfSome, OnErr, OnOk};
+ghost use Rattle.ring_workers.specs.private.Fates.{IsBegun, IsDelivered, dropped_by};
 ghost use Rattle.ring_workers.specs.Holdings.{AllOwned, NoTwoAlike, nodes_of};
 ghost use Rattle.ring_workers.specs.private.Holdings.{Steps};
 ghost use Rattle.ring_workers.specs.private.Runs.{EndsAt, Turns, held_of};
@@ -74,7 +74,8 @@ impl<E: RingElection> Bench<E> {
     fn begin(&mut self, charter: &Arc<Charter<E>>) -> Result<(), NoMemory>
         ensures steps { Steps E.table charter.now.value self.old.nodes self.new.nodes self.old.outbox.items self.new.outbox.items }
         ensures grows { self.old.dropped ≤ self.new.dropped }
-        ensures begun { OnOk result (IsBegun self.old.nodes self.new.nodes self.new.dropped charter.now.value) }
+        ensures begun { OnOk result (IsBegun self.old.nodes self.new.nodes self.old.dropped self.new.dropped charter.now.value) }
+        ensures uncounted { OnErr result (self.new.dropped ≡ self.old.dropped) }
     {
         let fate = self.nodes.begin(self.alloc, charter, &mut self.outbox)?;
         self.dropped = dropped_after(self.dropped, fate);
@@ -91,7 +92,8 @@ impl<E: RingElection> Bench<E> {
     ) -> Result<Option<Why>, Envelope<E>>
         ensures steps { Steps E.table envelope.charter self.old.nodes self.new.nodes self.old.outbox.items self.new.outbox.items }
         ensures grows { self.old.dropped ≤ self.new.dropped }
-        ensures delivered { OnOk result (IsDelivered self.old.nodes self.new.nodes self.new.dropped envelope) }
+        ensures delivered { OnOk result (IsDelivered self.old.nodes self.new.nodes self.old.dropped self.new.dropped envelope) }
+        ensures uncounted { OnErr result (self.new.dropped ≡ self.old.dropped) }
         ensures back { IfErr result (λ back. back ≡ envelope) }
         ensures why { IfOk result (λ end. IfSome end (λ why. why ≡ Why.Spent)) }
     {
@@ -151,7 +153,7 @@ impl<E: RingElection> Bench<E> {
 /// next packet of its link.
 fn dropped_after(dropped: u64, fate: Fate) -> u64
     ensures grows { dropped ≤ result }
-    ensures counted { result ≡ 0 → fate ≡ Fate.Strange → ⊥ }
+    ensures counted { result ≡ dropped_by fate dropped }
 {
     match fate {
         Fate::Done | Fate::Older => dropped,

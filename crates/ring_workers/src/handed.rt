@@ -39,7 +39,7 @@ pub struct Handed<E: RingElection> {
     /// Reports that the desk refused.
     pub unfiled: Vec<Report<E>>,
     /// How many items were for no node here, or not the next packet of their link. It stays at the
-    /// greatest number that a u64 holds.
+    /// greatest number that a u64 holds. No other item is counted.
     pub dropped: u64,
     /// Why it ended.
     pub why: Why,
@@ -65,8 +65,9 @@ pub struct Rest<E: RingElection> {
 }
 
 impl<E: RingElection> Handed<E> {
-    /// Moves all nodes behind a list, and gives the rest. Refused for want of memory alone: then it gives
-    /// itself back, and nothing changes.
+    /// Moves all nodes to the end of a list, and gives the rest. Fails only if an allocation fails, or if there
+    /// are more nodes than a `usize` counts, for which no memory is large enough. Then it gives itself back,
+    /// and nothing changes.
     pub fn append_to(self, nodes: &mut Vec<Node<E>>) -> Result<Rest<E>, Handed<E>>
         ensures moved { OnOk result (nodes.new.items ≡ nodes.old.items ++ nodes_of self.nodes) }
         ensures rest { IfOk result (λ rest. rest ≡ rest_of self) }

@@ -1,9 +1,9 @@
-ghost use Rattle.std.specs.Prelude.{◌≡◌, ◌+◌, ◌≤◌, ◌++◌, [], length, None, vec_capacity, vec_len, IfErr, IfOk, IfSome, IsTrue, MatchOption, OnOk};
+ghost use Rattle.std.specs.Prelude.{◌≡◌, ◌+◌, ◌≤◌, ◌++◌, [], false, length, None, vec_capacity, vec_len, IfErr, IfOk, IfSome, IsTrue, MatchOption, OnOk};
 ghost use Rattle.ring_workers.specs.Holdings.{AllOwned, AllSeated, NoTwoAlike, charters_of, nodes_of};
 ghost use Rattle.ring_workers.specs.private.Holdings.{HasGroupAt, HasOlderAt, IsOlder, Steps};
 ghost use Rattle.std.specs.Map.{lookup};
 ghost use Rattle.std.specs.Str.{bytes_eq};
-ghost use Rattle.ring_workers.specs.private.Fates.{IsEnvelopeFate, IsFate};
+ghost use Rattle.ring_workers.specs.private.Fates.{HasOther, IsEnvelopeFate, IsFate, IsStranger};
 ghost use Rattle.ring_workers.specs.Goings.{HasReceived};
 ghost use Rattle.ring_workers.specs.Owners.{owner_of, receiver_of};
 
@@ -18,7 +18,8 @@ use std::collections::VecDeque;
 use std::marker::Model;
 use std::sync::Arc;
 
-/// The nodes that a worker holds: of each group those of one term, the newest that it saw.
+/// The nodes that a worker holds: of each group those of one term. That it is the newest term that the
+/// worker saw is tested, not proved.
 ///
 /// Contracts see the worker's number, how many workers there are, and the seats of each group. No two
 /// nodes have one charter and one position, and the worker owns each.
@@ -118,6 +119,7 @@ impl<E: RingElection> Nodes<E> {
         requires { HasGroupAt self.old.groups place charter.now.value }
         ensures steps { Steps E.table charter.now.value self.old self.new outbox.old.items outbox.new.items }
         ensures seated { IfOk result (λ own. IsTrue own → AllSeated self.new.number self.new.workers (nodes_of self.new) charter.now.value) }
+        ensures strange { IfOk result (λ own. own ≡ false → HasOther self.new charter.now.value) }
     {
         let Some(seats) = self.groups.get_index_mut(place) else {
             unreachable!()
@@ -137,6 +139,7 @@ impl<E: RingElection> Nodes<E> {
         requires owned { owner_of self.old.workers (receiver_of envelope) ≡ self.old.number }
         ensures steps { Steps E.table envelope.charter self.old self.new outbox.old.items outbox.new.items }
         ensures received { IfOk result (λ r. IsTrue r.0 → HasReceived (nodes_of self.new) envelope) }
+        ensures strange { IfOk result (λ r. r.0 ≡ false → IsStranger self.new envelope) }
         ensures back { IfErr result (λ back. back ≡ envelope) }
     {
         let Some(seats) = self.groups.get_index_mut(place) else {

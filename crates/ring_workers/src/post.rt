@@ -1,7 +1,7 @@
-ghost use Rattle.std.specs.Prelude.{◌≡◌, ◌+◌, ◌≤◌, ℕ, All, length, vec_len, OnOk};
+ghost use Rattle.std.specs.Prelude.{◌≡◌, ◌+◌, ◌≤◌, ℕ, All, length, vec_len, IfErr, OnOk};
 ghost use Rattle.std.specs.VecDeque.{deque_capacity, deque_len};
 ghost use Rattle.ring_id.specs.Sides.{other};
-ghost use Rattle.ring_node.specs.Nodes.{Gains, envelope_of, sent_of};
+ghost use Rattle.ring_node.specs.Nodes.{Gains, IsFault, envelope_of, sent_of};
 ghost use Rattle.ring_workers.specs.private.Goings.{HandsTo};
 ghost use Rattle.ring_workers.specs.private.Posts.{Posts};
 
@@ -75,6 +75,7 @@ pub(crate) fn hand_to<E: RingElection>(
     ensures copies { All (λ c. c.value ≡ node.old.charter) copies.new.items }
     ensures handed { HandsTo E.table node.old envelope result node.new outbox.old.items outbox.new.items }
     ensures gains { OnOk result (Gains E.table node.old (other envelope.side) envelope.packet node.new) }
+    ensures refused { IfErr result (λ r. IsFault node.old envelope r.0) }
 {
     let left = node.sent(Side::Left);
     let right = node.sent(Side::Right);

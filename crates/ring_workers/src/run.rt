@@ -37,9 +37,12 @@ enum Next<E: RingElection> {
 /// It ends when it takes the word to stop, or when the inbox is closed, the gate halts it, memory is
 /// refused, or its desk has used up its turns. That it returns isn't claimed.
 ///
-/// Where a packet cannot be stored it stays at the front of the outbox, and the worker goes on with its own
-/// inbox. With an empty outbox an idle worker waits in its inbox; else it looks again and again, and sleeps
-/// a millisecond between two looks after the first hundred.
+/// If a packet cannot be stored, it stays at the front of the outbox, and the worker goes on with its own
+/// inbox. With an empty outbox an idle worker waits in its inbox. Else it looks again and again, and sleeps
+/// a millisecond between two looks after the first hundred. How it waits is neither proved nor tested.
+///
+/// An envelope for which memory is refused is in hand at the end and is not counted as dropped: that is the
+/// contract of the inner function that handles an item. That the gate is told this worker's number is tested.
 pub fn run_worker<E: RingElection, G: Gate, D: Desk<E> + Drop, R: Wait + Clock>(
     rt: &R,
     worker: Worker<E>,

@@ -1,4 +1,5 @@
-ghost use Rattle.std.specs.Prelude.{◌≡◌, ◌+◌, ◌<◌, ◌≤◌, ◌++◌, ◌⊎◌, length, slice_get, slice_index, vec_capacity, vec_len, IfErr, IfOk, IsTrue, MatchBool, OnOk};
+ghost use Rattle.std.specs.Prelude.{◌≡◌, ◌+◌, ◌<◌, ◌≤◌, ◌++◌, ◌⊎◌, false, length, slice_get, slice_index, vec_capacity, vec_len, IfErr, IfOk, IsTrue, MatchBool, OnOk};
+ghost use Rattle.ring_workers.specs.private.Fates.{IsTurnedAway};
 ghost use Rattle.ring_workers.specs.private.Goings.{Goes};
 ghost use Rattle.ring_workers.specs.Goings.{HasReceived};
 ghost use Rattle.ring_workers.specs.Holdings.{AllSeated};
@@ -96,6 +97,7 @@ impl<E: RingElection> Seats<E> {
         ensures kept { IsSeating self.new.number self.new.workers self.new.charter self.new.places }
         ensures goes { Goes E.table (seated_in self.old.places) (seated_in self.new.places) outbox.old.items outbox.new.items }
         ensures seated { IfOk result (λ own. IsTrue own → AllSeated self.new.number self.new.workers (seated_in self.new.places) charter.now) }
+        ensures strange { IfOk result (λ own. own ≡ false → self.new.charter ≡ charter.now → ⊥) }
     {
         if !self.charter.same(charter) {
             return Ok(false);
@@ -126,6 +128,7 @@ impl<E: RingElection> Seats<E> {
         ensures kept { IsSeating self.new.number self.new.workers self.new.charter self.new.places }
         ensures goes { Goes E.table (seated_in self.old.places) (seated_in self.new.places) outbox.old.items outbox.new.items }
         ensures received { IfOk result (λ r. IsTrue r.0 → HasReceived (seated_in self.new.places) envelope) }
+        ensures away { IfOk result (λ r. r.0 ≡ false → IsTurnedAway (seated_in self.new.places) self.new.charter envelope) }
         ensures back { IfErr result (λ back. back ≡ envelope) }
     {
         let position = position(&envelope);
@@ -136,8 +139,10 @@ impl<E: RingElection> Seats<E> {
         }
         match self.take(position, envelope, outbox) {
             Ok(report) => Ok((true, report)),
-            Err((TakeFault::NoMemory, back)) => Err(back),
-            Err(_) => Ok((false, None)),
+            Err((fault, back)) => match fault {
+                TakeFault::NoMemory => Err(back),
+                _ => Ok((false, None)),
+            },
         }
     }
 
@@ -156,6 +161,7 @@ impl<E: RingElection> Seats<E> {
         ensures kept { IsSeating self.new.number self.new.workers self.new.charter self.new.places }
         ensures goes { Goes E.table (seated_in self.old.places) (seated_in self.new.places) outbox.old.items outbox.new.items }
         ensures seated { IfOk result (λ there. IsTrue there → HasNodeAt (seated_in self.new.places) self.new.charter position) }
+        ensures strange { IfOk result (λ there. there ≡ false → self.new.charter ≡ charter.now → ⊥) }
     {
         if self.is_seated(position) {
             return Ok(true);
@@ -223,11 +229,13 @@ impl<E: RingElection> Seats<E> {
         envelope: Envelope<E>,
         outbox: &mut VecDeque<Envelope<E>>,
     ) -> Result<Option<Report<E>>, (TakeFault, Envelope<E>)>
-        requires { HasNodeAt (seated_in self.old.places) self.old.charter position }
+        requires seated { HasNodeAt (seated_in self.old.places) self.old.charter position }
+        requires led { position ≡ position_of envelope }
         ensures term { KeepsTerm self.old self.new }
         ensures kept { IsSeating self.new.number self.new.workers self.new.charter self.new.places }
         ensures goes { Goes E.table (seated_in self.old.places) (seated_in self.new.places) outbox.old.items outbox.new.items }
         ensures received { OnOk result (HasReceived (seated_in self.new.places) envelope) }
+        ensures away { IfErr result (λ r. (r.0 ≡ TakeFault.NoMemory) ⊎ IsTurnedAway (seated_in self.new.places) self.new.charter envelope) }
         ensures back { IfErr result (λ r. r.1 ≡ envelope) }
     {
         if find_room(&self.charter, &mut self.copies, outbox, SENT_AT_RECEIPT).is_err() {

@@ -1,31 +1,71 @@
--- Fates: what became of an item, where memory was not refused.
-use Rattle.std.specs.Prelude.{◌≡◌, ◌⊎◌, ℕ}
+-- Fates: what became of an item, where memory was not refused, and how many items were dropped.
+use Rattle.std.specs.Prelude.{◌≡◌, ◌+◌, ◌-◌, ◌^◌, ◌⊎◌, ℕ, List, min}
+use Rattle.ring_id.specs.Sides.{other}
 use Rattle.ring_node.specs.declared.charter.Charter.{Charter}
 use Rattle.ring_node.specs.Envelopes.{Sent}
+use Rattle.ring_node.specs.Nodes.{IsForNode, IsNext, Seated, taken_of}
 use Rattle.ring_workers.specs.declared.seats.Fate.{Fate}
 use Rattle.ring_workers.specs.declared.seats.Fate.TheVariants.{Done, Older, Strange}
 use Rattle.ring_workers.specs.Goings.{HasReceived}
 use Rattle.ring_workers.specs.Holdings.{AllSeated, Holding, charters_of, nodes_of}
+use Rattle.ring_workers.specs.Lists.{IsOneOf}
+use Rattle.ring_workers.specs.Owners.{owner_of, receiver_of}
 use Rattle.ring_workers.specs.private.Holdings.{IsOlder}
 
--- what became of a charter that begins: each node that the worker owns is seated, or a newer term was held, or
--- nothing is known
+-- among these nodes is the one to which the envelope's link leads, and the packet is not the next of the link: it was
+-- taken before, or one before it was not
+pub record IsOutOfTurn {E M : Type 0} (nodes : List (Seated E M)) (envelope : Sent E M) : Type 0 where
+  pub node : Seated E M
+  pub there : IsOneOf nodes node
+  pub led : IsForNode node envelope
+  pub late : IsNext (taken_of node (other envelope.side)) envelope.index envelope.packet → ⊥
+
+-- these nodes, which are of this charter, do not take the envelope: it is of another charter, or out of turn
+abbrev pub IsTurnedAway : {E M : Type 0} → List (Seated E M) → Charter E → Sent E M → Type 0
+IsTurnedAway nodes charter envelope = (charter ≡ envelope.charter → ⊥) ⊎ IsOutOfTurn nodes envelope
+
+-- a charter of the envelope's group and term is held, whose nodes do not take the envelope
+pub record IsStranger {E M : Type 0} (holding : Holding E M) (envelope : Sent E M) : Type 0 where
+  pub held : Charter E
+  pub there : IsOneOf (charters_of holding) held
+  pub group : held.group ≡ envelope.charter.group
+  pub term : held.term ≡ envelope.charter.term
+  pub away : IsTurnedAway (nodes_of holding) held envelope
+
+-- another charter of the same group and term is held
+pub record HasOther {E M : Type 0} (holding : Holding E M) (charter : Charter E) : Type 0 where
+  pub held : Charter E
+  pub there : IsOneOf (charters_of holding) held
+  pub group : held.group ≡ charter.group
+  pub term : held.term ≡ charter.term
+  pub differs : held ≡ charter → ⊥
+
+-- what became of a charter that begins: each node that the worker owns is seated, or a newer term was held, or another
+-- charter of its term is
 abbrev pub IsFate : {E M : Type 0} → Holding E M → Holding E M → Charter E → Fate → Type 0
 IsFate old new charter Done = AllSeated new.number new.workers (nodes_of new) charter
 IsFate old new charter Older = IsOlder (charters_of old) charter
-IsFate old new charter Strange = Unit {0}
+IsFate old new charter Strange = HasOther new charter
 
--- what became of an envelope: it is a receipt, or a newer term was held, or nothing is known
+-- what became of an envelope: it is a receipt, or a newer term was held, or the nodes of its term do not take it
 abbrev pub IsEnvelopeFate : {E M : Type 0} → Holding E M → Holding E M → Sent E M → Fate → Type 0
 IsEnvelopeFate old new envelope Done = HasReceived (nodes_of new) envelope
 IsEnvelopeFate old new envelope Older = IsOlder (charters_of old) envelope.charter
-IsEnvelopeFate old new envelope Strange = Unit {0}
+IsEnvelopeFate old new envelope Strange = IsStranger new envelope
 
--- where nothing was ever dropped and counted, the charter was of an older term, or each of its nodes that the worker
--- owns is seated
-abbrev pub IsBegun : {E M : Type 0} → Holding E M → Holding E M → ℕ → Charter E → Type 0
-IsBegun old new dropped charter = dropped ≡ 0 → IsOlder (charters_of old) charter ⊎ AllSeated new.number new.workers (nodes_of new) charter
+-- how many items were dropped after one of this fate, up to the greatest number that a u64 holds
+abbrev pub dropped_by : Fate → ℕ → ℕ
+dropped_by Done dropped = dropped
+dropped_by Older dropped = dropped
+dropped_by Strange dropped = min (dropped + 1) (2 ^ 64 - 1)
 
--- where nothing was ever dropped and counted, the envelope was of an older term, or it is a receipt
-abbrev pub IsDelivered : {E M : Type 0} → Holding E M → Holding E M → ℕ → Sent E M → Type 0
-IsDelivered old new dropped envelope = dropped ≡ 0 → IsOlder (charters_of old) envelope.charter ⊎ HasReceived (nodes_of new) envelope
+-- a charter has one of these fates, and is counted if it is strange
+abbrev pub IsBegun : {E M : Type 0} → Holding E M → Holding E M → ℕ → ℕ → Charter E → Type 0
+IsBegun old new before dropped charter = (fate : Fate) × IsFate old new charter fate × (dropped ≡ dropped_by fate before)
+
+-- an envelope has one of these fates, or is for a node of another worker; it is counted if it is strange or for such a
+-- node
+abbrev pub IsDelivered : {E M : Type 0} → Holding E M → Holding E M → ℕ → ℕ → Sent E M → Type 0
+IsDelivered old new before dropped envelope =
+    ((fate : Fate) × IsEnvelopeFate old new envelope fate × (dropped ≡ dropped_by fate before))
+    ⊎ ((owner_of new.workers (receiver_of envelope) ≡ new.number → ⊥) × (dropped ≡ dropped_by Strange before))

@@ -9,9 +9,10 @@ use Rattle.ring_workers.specs.declared.item.Item.{Item}
 use Rattle.ring_workers.specs.declared.item.Item.TheVariants.{Begin, Packet, Stop}
 use Rattle.ring_workers.specs.declared.run.Next.{Next}
 use Rattle.ring_workers.specs.declared.run.Next.TheVariants as next
-use Rattle.ring_workers.specs.Holdings.{Holding, charters_of, nodes_of}
-use Rattle.ring_workers.specs.private.Holdings.{IsOlder, Steps}
-use Rattle.ring_workers.specs.Runs.{charter_of, IsDone, IsEnd}
+use Rattle.ring_workers.specs.Holdings.{Holding}
+use Rattle.ring_workers.specs.private.Fates.{IsBegun, IsDelivered}
+use Rattle.ring_workers.specs.private.Holdings.{Steps}
+use Rattle.ring_workers.specs.Runs.{IsEnd}
 
 module _ {E M S : Type 0} where
   -- an item that comes is taken; else nothing changes
@@ -30,9 +31,11 @@ module _ {E M S : Type 0} where
   EndsAt item None = item ≡ Stop → ⊥
   EndsAt item (Some end) = IsEnd end.0 item end.1
 
-  -- where nothing was dropped, the item was of an older term, or it is done
-  abbrev pub IsHandled : Holding E M → Holding E M → ℕ → Item E M S → Type 0
-  IsHandled old new dropped item = dropped ≡ 0 → (c : Charter E) → charter_of item ≡ Some c → IsOlder (charters_of old) c ⊎ IsDone new.number new.workers (nodes_of new) item
+  -- what became of the item, and whether it was counted as dropped
+  abbrev pub IsHandled : Holding E M → Holding E M → ℕ → ℕ → Item E M S → Type 0
+  IsHandled old new before dropped (Begin c) = IsBegun old new before dropped c.value
+  IsHandled old new before dropped (Packet e) = IsDelivered old new before dropped e
+  IsHandled old new before dropped Stop = dropped ≡ before
 
   module _ (t : E → Table S M) where
     -- what an item does to the nodes and the outbox
@@ -41,9 +44,9 @@ module _ {E M S : Type 0} where
     StepsFor (Packet e) old new waiting after = Steps t e.charter old new waiting after
     StepsFor Stop old new waiting after = (new ≡ old) × (after ≡ waiting)
 
-    -- one turn of a worker: the item does what it does, what was dropped is counted, and the item is in hand still, or
-    -- it was handled
+    -- one turn of a worker: the item does what it does, and it is in hand still and not counted as dropped, or it was
+    -- handled
     pub record Turns (item : Item E M S) (old new : Holding E M) (waiting after : List (Sent E M)) (before dropped : ℕ) (held : Option (Item E M S)) : Type 0 where
       pub steps : StepsFor item old new waiting after
       pub grows : before ≤ dropped
-      pub end : (held ≡ Some item) ⊎ ((held ≡ None) × IsHandled old new dropped item)
+      pub end : ((held ≡ Some item) × (dropped ≡ before)) ⊎ ((held ≡ None) × IsHandled old new before dropped item)

@@ -42,6 +42,7 @@ returns g c =
         right = subst (λ (n : ℕ). Posts (envelope_of g.E.RingElection.table c.take.new.self Right) n c.post.new.outbox.items c.post-2.new.outbox.items) c.sent-right.ensures c.post-2.ensures.posts;
       };
       gains = c.in_ok-report.ensures.gains;
+      refused = tt;
     }
 
 pub returns-in_err-report : goal.returns-in_err-report
@@ -52,4 +53,5 @@ returns-in_err-report g c =
       copies = c.requires.copies;
       handed = (c.in_err-report.ensures.takes.back_is, c.in_err-report.ensures.takes.unchanged, refl);
       gains = tt;
+      refused = c.in_err-report.ensures.takes.why;
     })

@@ -1,9 +1,9 @@
-use Rattle.ring_workers.proofs.Handling.{begun_by}
 use Rattle.ring_workers.proofs.bench.Bench.begin.Goals as goal
 
 pub returns : goal.returns
 returns g c = record {
   steps = c.begin.ensures.steps;
   grows = c.dropped_after-self.ensures.grows;
-  begun = begun_by c.args.self.now.nodes c.begin.new.self c.dropped_after-self.result c.args.charter.now.value c.in_ok-fate.fate c.in_ok-fate.ensures.fate c.dropped_after-self.ensures.counted;
+  begun = (c.in_ok-fate.fate, c.in_ok-fate.ensures.fate, c.dropped_after-self.ensures.counted);
+  uncounted = tt;
 }

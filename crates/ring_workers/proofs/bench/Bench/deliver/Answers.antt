@@ -1,14 +1,18 @@
-use Rattle.std.proofs.Common.{◌+◌, ◌≤◌, sym, ap, ◌∙◌, arith, vec_len, vec_capacity}
+use Rattle.std.proofs.Common.{◌+◌, ◌≤◌, refl, sym, ap, ◌∙◌, inl, inr, arith, vec_len, vec_capacity}
 use Rattle.std.proofs.lemmas.Result.{err_from_is_err_and}
 use Rattle.ring_workers.specs.Owners.{owner_of}
-use Rattle.ring_workers.proofs.Handling.{delivered_by, room_found, steps_none}
+use Rattle.ring_workers.proofs.Handling.{room_found, steps_none}
 use Rattle.ring_workers.proofs.bench.Bench.deliver.Goals as goal
 
 pub returns-then-of-owner-clause-steps : goal.returns-then-of-owner-clause-steps
 returns-then-of-owner-clause-steps g c = steps_none g.E.RingElection.table c.args.envelope.charter c.args.self.now.nodes c.args.self.now.outbox.items
 
 pub returns-then-of-owner-clause-delivered : goal.returns-then-of-owner-clause-delivered
-returns-then-of-owner-clause-delivered g c = λ none. absurd (omega arith)
+returns-then-of-owner-clause-delivered g c = inr (
+  λ own. c.if-of-owner.true (c.of.ensures.value ∙ ap (λ w. owner_of w c.receiver.result) c.owner-owner.ensures.workers ∙ ap (owner_of c.args.self.now.nodes.workers) c.receiver.ensures
+      ∙ own ∙ sym c.owner-owner.ensures.number),
+  c.saturating_add-self.ensures,
+)
 
 pub returns-then-is_err-clause-steps : goal.returns-then-is_err-clause-steps
 returns-then-is_err-clause-steps g c = steps_none g.E.RingElection.table c.args.envelope.charter c.args.self.now.nodes c.args.self.now.outbox.items
@@ -16,7 +20,7 @@ returns-then-is_err-clause-steps g c = steps_none g.E.RingElection.table c.args.
 pub returns-in_err-fate : goal.returns-in_err-fate
 returns-in_err-fate g c =
     let p = err_from_is_err_and c.from_residual.result c.from_residual.ensures.1 in
-    rw (p.1, p.2) (record { steps = c.hand_over.ensures.steps; grows = omega arith; delivered = tt; back = c.in_err-fate.ensures.back; why = tt })
+    rw (p.1, p.2) (record { steps = c.hand_over.ensures.steps; grows = omega arith; delivered = tt; uncounted = refl; back = c.in_err-fate.ensures.back; why = tt })
 
 pub file-requires : goal.file-requires
 file-requires g c =
@@ -32,7 +36,8 @@ pub returns-in-Some : goal.returns-in-Some
 returns-in-Some g c = record {
   steps = c.hand_over.ensures.steps;
   grows = c.dropped_after-self.ensures.grows;
-  delivered = delivered_by c.args.self.now.nodes c.hand_over.new.self c.dropped_after-self.result c.args.envelope c.in_ok-fate.fate c.in_ok-fate.ensures.fate c.dropped_after-self.ensures.counted;
+  delivered = inl (c.in_ok-fate.fate, c.in_ok-fate.ensures.fate, c.dropped_after-self.ensures.counted);
+  uncounted = tt;
   back = tt;
   why = c.file.ensures;
 }
@@ -41,7 +46,8 @@ pub returns-in-None : goal.returns-in-None
 returns-in-None g c = record {
   steps = c.hand_over.ensures.steps;
   grows = c.dropped_after-self.ensures.grows;
-  delivered = delivered_by c.args.self.now.nodes c.hand_over.new.self c.dropped_after-self.result c.args.envelope c.in_ok-fate.fate c.in_ok-fate.ensures.fate c.dropped_after-self.ensures.counted;
+  delivered = inl (c.in_ok-fate.fate, c.in_ok-fate.ensures.fate, c.dropped_after-self.ensures.counted);
+  uncounted = tt;
   back = tt;
   why = tt;
 }

@@ -34,3 +34,6 @@ returns-in_default-clause-steps g c = steps_before g.E.RingElection.table c.args
 
 pub returns-in_err-place-clause-steps : goal.returns-in_err-place-clause-steps
 returns-in_err-place-clause-steps g c = steps_before g.E.RingElection.table c.args.charter.now.value c.args.self.now c.turn_to.new.self c.args.outbox.now.items c.turn_to.ensures.steps
+
+pub returns-in-false-clause-fate : goal.returns-in-false-clause-fate
+returns-in-false-clause-fate g c = c.in_ok-begin_at.ensures.strange c.in-false.is

@@ -1,5 +1,5 @@
 -- An envelope is handed over after the turn to its term.
-use Rattle.std.proofs.Common.{◌≡◌, true, [], refl, subst}
+use Rattle.std.proofs.Common.{◌≡◌, true, false, [], refl, subst}
 use Rattle.std.proofs.lemmas.Result.{err_from_is_err_and}
 use Rattle.ring_node.specs.declared.charter.Charter.{Charter}
 use Rattle.ring_workers.specs.Holdings.{charters_of}
@@ -53,6 +53,7 @@ returns-in-false-default g c = record {
       (steps_before g.E.RingElection.table c.args.envelope.charter c.args.self.now c.turn_to.new.self c.args.outbox.now.items
       (subst (λ (d : Charter _). Steps g.E.RingElection.table d c.args.self.now c.turn_to.new.self [] []) c.charter.ensures c.turn_to.ensures.steps))
       c.hand_over_at.ensures.steps;
-  fate = tt;
+  fate = let no : c.in_ok-report.field-0.0 ≡ false = cc in
+      c.in_ok-report.ensures.strange no;
   back = tt;
 }

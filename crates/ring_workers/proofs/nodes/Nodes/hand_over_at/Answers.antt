@@ -7,6 +7,7 @@ use Rattle.ring_workers.specs.private.Holdings.{Steps}
 use Rattle.ring_workers.specs.Owners.{owner_of, receiver_of}
 use Rattle.ring_workers.specs.private.Seatings.{KeepsTerm}
 use Rattle.ring_workers.specs.Seatings.{seated_in}
+use Rattle.ring_workers.proofs.Dropping.{stranger_held_if}
 use Rattle.ring_workers.proofs.Groups.{get_set_value-same, group_kept, holding_set, received_held_if, steps_in, value_there}
 use Rattle.ring_workers.proofs.nodes.Nodes.hand_over_at.Goals as goal
 
@@ -52,3 +53,11 @@ returns-clause-received g c =
     let keeps = subst (λ s. KeepsTerm s c.hand_over.new.self) found c.hand_over.ensures.term in
     received_held_if c.self.inside.owner.number c.self.inside.owner.workers (set_value_at c.self.inside.groups.entries c.args.place c.hand_over.new.self) c.args.place c.requires.group.name c.hand_over.new.self (get_set_value-same c.self.inside.groups.entries c.args.place c.requires.group.name c.requires.group.seats c.hand_over.new.self there)
     (keeps.number_is ∙ group.number_is) (keeps.workers_is ∙ group.workers_is) c.args.envelope c.hand_over.result c.hand_over.ensures.received
+
+pub returns-clause-strange : goal.returns-clause-strange
+returns-clause-strange g c =
+    let there = ap (λ h. slice_get h.groups c.args.place) c.self.view_is ∙ c.requires.group.there in
+    let found = value_there c.self.inside.groups.entries c.args.place c.requires.group.name c.requires.group.seats c.in-Some.seats.now there c.in-Some.ensures.value in
+    let keeps = subst (λ s. KeepsTerm s c.hand_over.new.self) found c.hand_over.ensures.term in
+    stranger_held_if c.self.inside.owner.number c.self.inside.owner.workers (set_value_at c.self.inside.groups.entries c.args.place c.hand_over.new.self) c.args.place c.requires.group.name c.hand_over.new.self (get_set_value-same c.self.inside.groups.entries c.args.place c.requires.group.name c.requires.group.seats c.hand_over.new.self there)
+    c.args.envelope c.hand_over.result (ap (λ ch. ch.group) keeps.charter_is ∙ c.requires.group.group) (ap (λ ch. ch.term) keeps.charter_is ∙ c.requires.group.term) c.hand_over.ensures.away

@@ -15,6 +15,7 @@ returns-then-not-same g c = record {
   kept = subst (λ s. IsSeating s.number s.workers s.charter s.places) c.self.view_is c.self.invariant.0;
   goes = goes_none g.E.RingElection.table (seated_in c.args.self.now.places) c.args.outbox.now.items;
   seated = λ own. absurd (true≢false (sym own));
+  strange = λ _ same. true≢false (sym (c.same.ensures.1 (c.deref.ensures ∙ ap (λ s. s.charter) c.self.view_is ∙ same)) ∙ c.if-not-same.true);
 }
 
 pub find_room-requires : goal.find_room-requires
@@ -65,6 +66,7 @@ returns-in_err-find_room g c =
       kept = c.self.invariant.0;
       goes = goes_still g.E.RingElection.table _ _ _ _ (ap (λ s. seated_in s.places) c.self.view_is) c.find_room.ensures.outbox;
       seated = tt;
+      strange = tt;
     })
 
 pub returns-in_err-seat : goal.returns-in_err-seat
@@ -76,4 +78,5 @@ returns-in_err-seat g c =
       kept = c.seat.ensures.kept;
       goes = goes_on g.E.RingElection.table _ _ _ _ _ _ c.loop-position.invariant.goes c.seat.ensures.goes;
       seated = tt;
+      strange = tt;
     })

@@ -15,6 +15,7 @@ returns-then-is_seated g c = record {
   kept = subst (λ s. IsSeating s.number s.workers s.charter s.places) c.self.view_is c.self.invariant.0;
   goes = goes_none g.E.RingElection.table (seated_in c.args.self.now.places) c.args.outbox.now.items;
   seated = λ _. c.if-is_seated.ensures;
+  strange = λ no. absurd (true≢false no);
 }
 
 pub returns-then-not-same : goal.returns-then-not-same
@@ -23,6 +24,7 @@ returns-then-not-same g c = record {
   kept = subst (λ s. IsSeating s.number s.workers s.charter s.places) c.self.view_is c.self.invariant.0;
   goes = goes_none g.E.RingElection.table (seated_in c.args.self.now.places) c.args.outbox.now.items;
   seated = λ there. absurd (true≢false (sym there));
+  strange = λ _ same. true≢false (sym (c.same.ensures.1 (c.deref.ensures ∙ ap (λ s. s.charter) c.self.view_is ∙ same)) ∙ c.if-not-same.true);
 }
 
 pub seat_for_receipt-requires-clause-inside : goal.seat_for_receipt-requires-clause-inside
@@ -48,4 +50,5 @@ returns g c = record {
   kept = c.seat_for_receipt.ensures.kept;
   goes = c.seat_for_receipt.ensures.goes;
   seated = λ _. c.in_ok-seat_for_receipt.ensures.seated;
+  strange = λ no. absurd (true≢false no);
 }
