@@ -48,10 +48,10 @@ impl<L: OpenListener<Stream = TcpStream>> Door<L> {
         }
     }
 
-    /// Lets the next client in and numbers its session; nobody where the door is shut.
+    /// Lets the next client in and numbers its session. If the door is shut, it lets nobody in.
     pub fn admit<R: Wait + Eprint + Clock>(&mut self, rt: &R) -> Option<(u32, TcpStream)>
         ensures guest { MatchOption result (self.old.is_open ≡ false) (λ guest.
-            (guest.0 ≡ next_number self.old.last) × (self.new.last ≡ guest.0) × (self.new.is_open ≡ self.old.is_open)) }
+            (self.old.is_open ≡ true) × (guest.0 ≡ next_number self.old.last) × (self.new.last ≡ guest.0) × (self.new.is_open ≡ self.old.is_open)) }
         ensures told { self.old.has_told ≡ true → self.new.has_told ≡ true }
     {
         if !self.is_open {

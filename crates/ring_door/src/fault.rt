@@ -34,6 +34,46 @@ pub enum ProgramFault {
     /// A thread could not be started.
     #[error("ringd: thread failed")]
     Thread,
+    /// The journal cannot be used.
+    #[error(transparent)]
+    Journal(JournalFault),
+}
+
+/// Why a journal cannot be used.
+#[derive(Clone, Copy, Debug, PartialEq, Eq, Error)]
+pub enum JournalFault {
+    /// Another process has it.
+    #[error("ringd: journal in use")]
+    InUse,
+    /// Its file could not be read, or its lock file could not be opened.
+    #[error("ringd: journal unreadable")]
+    Unreadable,
+    /// Its name is the name of a folder, a link, a pipe or a device.
+    #[error("ringd: journal not a file")]
+    NotAFile,
+    /// Its file is damaged. `at` is the place of a byte, counted from 0.
+    #[error("ringd: journal bad at byte {at}")]
+    Bad { at: usize },
+    /// Its file does not begin with the heading of this version.
+    #[error("ringd: journal of another version")]
+    Version,
+    /// A write, a sync or a rename failed.
+    #[error("ringd: journal failed")]
+    Failed,
+    /// It has had all its lives: it was begun anew as often as it can be.
+    #[error("ringd: journal has no life left")]
+    Lives,
+}
+
+impl From<JournalFault> for ProgramFault {
+    ghost use Rattle.std.specs.Prelude.{◌≡◌};
+    ghost use Rattle.ring_door.specs.declared.fault.ProgramFault.TheVariants.{Journal};
+
+    ghost from_gives = { λ fault told. told ≡ Journal fault };
+
+    fn from(fault: JournalFault) -> ProgramFault {
+        ProgramFault::Journal(fault)
+    }
 }
 
 impl From<LineFault> for ProgramFault {

@@ -12,6 +12,6 @@ mod serving;
 mod telling;
 
 pub use door::{Door, Limits, attend_all};
-pub use fault::ProgramFault;
+pub use fault::{JournalFault, ProgramFault};
 pub use serving::{Serving, accept_all};
 pub use telling::{say_closed, say_listening, tell};

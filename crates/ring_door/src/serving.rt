@@ -1,5 +1,5 @@
 //! What serves clients, one session in a thread of its own for each.
-ghost use Rattle.std.specs.Prelude.{◌≡◌, IfErr};
+ghost use Rattle.std.specs.Prelude.{◌≡◌, MatchResult, vec_len};
 ghost use Rattle.ring_door.specs.Numbers.{next_number};
 ghost use Rattle.ring_door.specs.Serving.{IsOfConnections};
 
@@ -24,23 +24,25 @@ pub trait Serving: Drop {
     fn serve<R: Wait>(&mut self, rt: &R, session: u32, stream: &TcpStream, places: bool);
 }
 
-/// Accepts a connection for each guest, and waits for their sessions.
+/// Accepts a connection for each guest, and waits for their sessions. The answer is how many were accepted,
+/// which is one for each guest.
 ///
-/// Each session is in a thread of its own, and they are numbered from 1 in the order of their accepts. Where an
-/// accept fails or a thread could not be started, no further connection is accepted.
-pub fn accept_all<R, L, G>(rt: &R, listener: L, guests: Vec<G>) -> Result<(), ProgramFault>
+/// Each session is in a thread of its own, and they are numbered from 1 in the order of their accepts. If an
+/// accept fails or a thread cannot be started, no further connection is accepted.
+pub fn accept_all<R, L, G>(rt: &R, listener: L, guests: Vec<G>) -> Result<usize, ProgramFault>
 where
     R: Threads + Wait + Sync,
     L: OpenListener<Stream = TcpStream> + Drop,
     G: Serving + Send,
-    ensures { IfErr result IsOfConnections }
+    ensures { MatchResult result (λ accepted. accepted ≡ vec_len guests) IsOfConnections }
 {
     thread::scope(
         thread::scope_env(),
         rt,
-        move |scope| -> Result<(), ProgramFault>
-            ensures { IfErr result IsOfConnections }
+        move |scope| -> Result<usize, ProgramFault>
+            ensures { MatchResult result (λ accepted. accepted ≡ vec_len guests) IsOfConnections }
         {
+            let mut accepted = 0;
             let mut last = 0;
             for mut guest in guests {
                 let session = number_after(last);
@@ -50,9 +52,10 @@ where
                 let Ok(_) = scope.spawn(move || guest.serve(rt, session, &stream, false)) else {
                     return Err(ProgramFault::Thread);
                 };
+                accepted += 1;
                 last = session;
             }
-            Ok(())
+            Ok(accepted)
         },
     )
 }

@@ -9,6 +9,7 @@ use Rattle.std.proofs.lemmas.Bool.{cases_eq, ne_eqb}
 use Rattle.ring_any.specs.declared.any.Any.{Any}
 use Rattle.ring_inbox.specs.Values.{SenderLog}
 use Rattle.ring_node.specs.declared.charter.Charter.{Charter}
+use Rattle.ring_service.specs.private.Telling.{TellsAll}
 use Rattle.ring_service.specs.private.Posts.{MakeUp, StoresBegins, Tries, begins_to, says, term_begins}
 use Rattle.ring_service.specs.declared.posts.Waiting.{Waiting}
 use Rattle.ring_workers.specs.declared.item.Item.{Item}
@@ -25,6 +26,11 @@ make_up_others : {A : Type 0} (xs some others : List A) (x : A) → MakeUp xs so
 make_up_others [] some others x m = inr ([], rw m.1 refl, (m.0, refl))
 make_up_others (y ∷ ys) some others x (inl m) = inl (m.0, m.1, make_up_others ys m.0 others x m.2)
 make_up_others (y ∷ ys) some others x (inr m) = inr (m.0 ++ x ∷ [], rw m.1 refl, make_up_others ys some m.0 x m.2)
+
+-- a list is made up of nothing and itself
+make_up_none : (waiting : List Waiting) → MakeUp waiting [] waiting
+make_up_none [] = (refl, refl)
+make_up_none (b ∷ waiting) = inr (waiting, refl, make_up_none waiting)
 
 -- what a list has at a place after a write there
 get-set_same : {A : Type 0} (xs : List A) (place : ℕ) (x y : A) → slice_get xs place ≡ Some x → slice_get (set xs place y) place ≡ Some y
@@ -143,6 +149,19 @@ module _ {M S : Type 0} where
     tries = record {
       stored = [];
       whole = (refl, refl);
+      passes = record { count = refl; each = λ v pass there. there ∙ ap (λ (l : List (Item Any M S)). Some (record pass { stored = l })) (sym (append-nil pass.stored)) };
+    };
+  }
+
+  -- nothing is added, and nothing tried
+  pub tells_none : (waiting after : List Waiting) (old new : List (SenderLog (Item Any M S))) → Tries waiting after old new → TellsAll [] waiting after old new
+  tells_none waiting after old new tries = record {
+    mid = after;
+    between = new;
+    first = tries;
+    last = record {
+      stored = [];
+      whole = subst (λ (l : List Waiting). MakeUp l [] after) (sym (append-nil after)) (make_up_none after);
       passes = record { count = refl; each = λ v pass there. there ∙ ap (λ (l : List (Item Any M S)). Some (record pass { stored = l })) (sym (append-nil pass.stored)) };
     };
   }

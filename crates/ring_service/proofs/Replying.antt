@@ -1,5 +1,5 @@
 -- What an answer of an access says of the line that asked for it.
-use Rattle.std.proofs.Common.{ℕ, List, [], ◌∷◌, refl, sym, ◌∙◌, append-nil, inl, inr}
+use Rattle.std.proofs.Common.{ℕ, List, [], ◌∷◌, map, refl, sym, ◌∙◌, append-nil, inl, inr}
 use Rattle.ring_id.specs.declared.refusal.Refusal.TheVariants.{BadLine}
 use Rattle.ring_any.specs.Any.{any_greatest, any_two_way}
 use Rattle.ring_any.specs.declared.any.Any.{Any}
@@ -7,14 +7,18 @@ use Rattle.ring_events.specs.declared.event.Command.{Command}
 use Rattle.ring_events.specs.declared.event.Command.TheVariants.{Start}
 use Rattle.ring_events.specs.declared.event.Event.TheVariants.{Client}
 use Rattle.ring_events.specs.declared.reply.Reply.TheVariants.{Refused}
+use Rattle.ring_inbox.specs.Values.{SenderLog}
 use Rattle.ring_node.specs.declared.charter.Charter.{Charter}
 use Rattle.ring_grammar.specs.Spelling.{Spells}
 use Rattle.ring_table.specs.Accesses.{AnswersAtSeat, BeginsAtSeat, reply_of}
 use Rattle.ring_service.specs.Sessions.{AnswersIn}
+use Rattle.ring_service.specs.declared.posts.Waiting.{Waiting}
+use Rattle.ring_service.specs.private.Telling.{Begins}
 use Rattle.ring_table.specs.declared.access.Answer.{Answer}
 use Rattle.ring_table.specs.declared.access.Answer.TheVariants.{Placed, Unplaced}
 use Rattle.ring_table.specs.declared.entry.Entry.{Entry}
 use Rattle.ring_table.specs.declared.entry.Entry.TheVariants.{Call}
+use Rattle.ring_workers.specs.declared.item.Item.{Item}
 use Rattle.ring_service.proofs.Speaking.{step_not}
 
 -- a start, as a call
@@ -22,6 +26,13 @@ pub begins_answers : (session : ℕ) (group : List ℕ) (copies : ℕ) (mine : L
     BeginsAtSeat any_two_way any_greatest session group copies mine answer charters now → AnswersAtSeat any_two_way any_greatest session (Start group) mine answer now
 begins_answers session group copies mine (Placed reply place) charters now b = (record { old = b.0.old; new = b.0.new; call = b.0.call }, b.1)
 begins_answers session group copies mine (Unplaced refusal) charters now b = (b.0, b.2)
+
+-- so a start of which the workers were told
+pub told_answers : {M S : Type 0} (session : ℕ) (group : List ℕ) (workers : ℕ) (mine : List (Entry Any)) (answer : Answer) (now : List (Entry Any)) (waiting after : List Waiting)
+    (old new : List (SenderLog (Item Any M S))) → Begins any_two_way any_greatest session group workers mine answer now waiting after old new
+    → AnswersAtSeat any_two_way any_greatest session (Start group) mine answer now
+told_answers session group workers mine answer now waiting after old new begins =
+    begins_answers session group workers mine answer (map (λ charter. charter.value) begins.charters) now begins.gives
 
 -- a line that spells a command is answered by what the access answers to it
 pub answers_line : (session : ℕ) (line : List ℕ) (command : Command Any) (mine : List (Entry Any)) (answer : Answer) (now : List (Entry Any)) →

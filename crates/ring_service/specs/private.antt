@@ -1,2 +1,4 @@
 pub mod Asking
+pub mod Placing
 pub mod Posts
+pub mod Telling

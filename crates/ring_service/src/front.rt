@@ -1,9 +1,11 @@
-ghost use Rattle.std.specs.Prelude.{◌≡◌, ◌⊎◌};
+ghost use Rattle.std.specs.Prelude.{◌≡◌, ◌⊎◌, ◌≤◌, ◌+◌, ◌^◌, vec_len};
 ghost use Rattle.ring_any.specs.Any.{any_greatest, any_two_way};
 ghost use Rattle.ring_events.specs.declared.event.Command.TheVariants as command;
 ghost use Rattle.ring_table.specs.Accesses.{AnswersAtSeat};
+ghost use Rattle.ring_table.specs.Places.{HasPlaceBelow};
 ghost use Rattle.ring_service.specs.Places.{ServesPlaced};
 ghost use Rattle.ring_service.specs.Sessions.{Serves};
+ghost use Rattle.ring_service.specs.private.Telling.{Begins};
 
 use crate::placed::PlacedSession;
 use crate::posts::Posts;
@@ -100,19 +102,21 @@ impl<A: Access<Any> + Drop> Front<A> {
     }
 
     /// The same session, where each reply is told with its place: before the reply stands the place of its
-    /// call and a space, or `-` and a space where the seat gained no entry by the line.
+    /// call, counted from `base`, and a space, or `-` and a space where the seat gained no entry by the line.
     pub fn serve_placed<R: Wait, I: Intake, O: Outlet>(
         &self,
         rt: &R,
         seat: &mut A::Seat,
+        base: usize,
         session: u32,
         reader: &mut I,
         writer: &mut O,
         reads: u32,
     ) -> Result<u64, LineFault>
-        requires { A.has_seat self.now seat.old }
+        requires seat { A.has_seat self.now seat.old }
+        requires base { base + A.most ≤ 2 ^ 64 }
         ensures seat { A.has_seat self.now seat.new }
-        ensures served { ServesPlaced I.read_gives O.write_gives A.mine session seat.old reader.old writer.old reads result seat.new reader.new writer.new }
+        ensures served { ServesPlaced I.read_gives O.write_gives A.mine base A.most session seat.old reader.old writer.old reads result seat.new reader.new writer.new }
         ensures told { (seat.new ≡ seat.old) ⊎ A.is_settled seat.new }
     {
         let session = PlacedSession {
@@ -121,6 +125,7 @@ impl<A: Access<Any> + Drop> Front<A> {
                 rt,
                 number: session,
             },
+            base,
         };
         answer_lines(self.alloc, &session, seat, reader, writer, reads)
     }
@@ -148,6 +153,7 @@ impl<A: Access<Any> + Drop> Front<A> {
 
     /// Has all that the seat's answers were given from kept for good. It may wait, and does not return if
     /// that cannot be kept.
+    #[inline(always)]
     pub(crate) fn settle<R: Wait>(&self, rt: &R, seat: &mut A::Seat)
         requires { A.has_seat self.now seat.old }
         ensures seat { A.has_seat self.now seat.new }
@@ -169,6 +175,7 @@ impl<A: Access<Any> + Drop> Front<A> {
         requires { A.has_seat self.now seat.old }
         ensures seat { A.has_seat self.now seat.new }
         ensures entry { AnswersAtSeat any_two_way any_greatest session command (A.mine seat.old) result (A.mine seat.new) }
+        ensures place { HasPlaceBelow A.most result }
     {
         match command {
             Command::Start(group) => self.begin(rt, seat, session, group),
@@ -181,13 +188,35 @@ impl<A: Access<Any> + Drop> Front<A> {
 
     // A start, of which each worker is told. The room for that is found before the command, and no other
     // session tells the workers anything until it is done.
-    #[tactic(auto, using(crate::proofs::Replying::begins_answers))]
+    #[tactic(auto, using(crate::proofs::Replying::told_answers))]
     fn begin<R: Wait>(&self, rt: &R, seat: &mut A::Seat, session: u32, group: GroupName) -> Answer
         requires { A.has_seat self.now seat.old }
         ensures seat { A.has_seat self.now seat.new }
         ensures entry { AnswersAtSeat any_two_way any_greatest session (command.Start group) (A.mine seat.old) result (A.mine seat.new) }
+        ensures place { HasPlaceBelow A.most result }
     {
         let mut posts = self.posts.lock(rt);
+        let answer = self.begin_by(rt, &mut posts, seat, session, group);
+        self.waits.store(!posts.is_idle(), Ordering::SeqCst);
+        answer
+    }
+
+    // The same start, by the passes that the lock guards. If it begins a term, a begin for each worker is
+    // stored by the pass to that worker, or waits.
+    fn begin_by<R: Wait>(
+        &self,
+        rt: &R,
+        posts: &mut Posts,
+        seat: &mut A::Seat,
+        session: u32,
+        group: GroupName,
+    ) -> Answer
+        requires { A.has_seat self.now seat.old }
+        ensures seat { A.has_seat self.now seat.new }
+        ensures place { HasPlaceBelow A.most result }
+        ensures begins { Begins any_two_way any_greatest session group (vec_len posts.old.passes) (A.mine seat.old) result (A.mine seat.new)
+            posts.old.waiting.items posts.new.waiting.items posts.old.passes.items posts.new.passes.items }
+    {
         posts.try_waiting(rt);
         let Ok(()) = posts.find_room() else {
             return Answer::Unplaced(Refusal::NoMemory);
@@ -195,7 +224,6 @@ impl<A: Access<Any> + Drop> Front<A> {
         let (answer, charters) = self.access.begin(rt, seat, session, group, posts.workers());
         posts.add(charters);
         posts.try_waiting(rt);
-        self.waits.store(!posts.is_idle(), Ordering::SeqCst);
         answer
     }
 

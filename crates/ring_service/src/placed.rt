@@ -1,3 +1,7 @@
+ghost use Rattle.std.specs.Prelude.{◌≡◌, ◌≤◌, ◌+◌, ◌^◌, ℕ};
+ghost use Rattle.ring_table.specs.Places.{HasPlaceBelow};
+ghost use Rattle.ring_service.specs.private.Placing.{told_from};
+
 use crate::session::Session;
 use ring_any::Any;
 use ring_events::Command;
@@ -11,10 +15,12 @@ use std::sync::Wait;
 #[derive(Drop)]
 pub(crate) struct PlacedSession<'a, A: Drop, R> {
     pub(crate) session: Session<'a, A, R>,
+    // what is added to each place
+    pub(crate) base: usize,
 }
 
 impl<A: Access<Any> + Drop, R: Wait> Answerer for PlacedSession<'_, A, R> {
-    ghost use Rattle.std.specs.Prelude.{◌≡◌};
+    ghost use Rattle.std.specs.Prelude.{◌≡◌, ◌≤◌, ◌+◌, ◌^◌};
     ghost use Rattle.ring_lines.specs.laws.Settling.{stays_settled};
     ghost use Rattle.ring_service.specs.Places.{PlacesIn};
     ghost use Rattle.ring_service.specs.private.Asking.{AsksCommand};
@@ -25,11 +31,11 @@ impl<A: Access<Any> + Drop, R: Wait> Answerer for PlacedSession<'_, A, R> {
 
     type Answer = Answer;
 
-    ghost holds = { λ placed seat. A.has_seat placed.session.front.now seat };
+    ghost holds = { λ placed seat. A.has_seat placed.session.front.now seat × (placed.base + A.most ≤ 2 ^ 64) };
 
     ghost asks = { AsksCommand };
 
-    ghost answers = { λ placed line seat answer now. PlacesIn placed.session.number line (A.mine seat) answer (A.mine now) };
+    ghost answers = { λ placed line seat answer now. PlacesIn placed.base A.most placed.session.number line (A.mine seat) answer (A.mine now) };
 
     ghost settles = { λ _ seat now. A.mine now ≡ A.mine seat };
 
@@ -55,7 +61,7 @@ impl<A: Access<Any> + Drop, R: Wait> Answerer for PlacedSession<'_, A, R> {
         match asked {
             Some(command) => {
                 self.session.queue(state, queued);
-                front.answer(*rt, state, *number, command)
+                told(front.answer(*rt, state, *number, command), self.base)
             }
             None => Answer::Unplaced(Refusal::BadLine),
         }
@@ -65,9 +71,24 @@ impl<A: Access<Any> + Drop, R: Wait> Answerer for PlacedSession<'_, A, R> {
         self.session.rest(state);
     }
 
+    #[inline(always)]
     fn settle(&self, state: &mut A::Seat) {
         self.session.settle(state);
     }
 
-    ghost settles_behind = { λ placed. stays_settled A.mine (PlacesIn placed.session.number) };
+    ghost settles_behind = { λ placed. stays_settled A.mine (PlacesIn placed.base A.most placed.session.number) };
+}
+
+// An answer as it is told, its place counted from this base.
+fn told(answer: Answer, base: usize) -> Answer
+    requires { (most : ℕ) × HasPlaceBelow most answer × (base + most ≤ 2 ^ 64) }
+    ensures { result ≡ told_from base answer }
+{
+    match answer {
+        Answer::Placed { reply, place } => Answer::Placed {
+            reply,
+            place: base + place,
+        },
+        Answer::Unplaced(refusal) => Answer::Unplaced(refusal),
+    }
 }

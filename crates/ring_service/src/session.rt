@@ -83,6 +83,7 @@ impl<A: Access<Any> + Drop, R: Wait> Answerer for Session<'_, A, R> {
         self.front.rest(state);
     }
 
+    #[inline(always)]
     fn settle(&self, state: &mut A::Seat) {
         self.front.settle(self.rt, state);
     }
