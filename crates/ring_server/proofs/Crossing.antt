@@ -1,6 +1,10 @@
 -- What a guest of a table takes along to a thread: its seat, and what all sessions share.
 use denote.RattleType.{RattleType}
-use denote.Param.Send.{IsSend, IsSync}
+use denote.Param.Send.{AllSend, IsSend, IsSync, recorded_send, sendable, struct_send}
+use denote.Struct.Declared.{Declared, shape}
+use denote.Struct.Struct.{Struct}
+use Rattle.std.proofs.Crossing.{crosses}
+use denote.Ref.{NamedLft}
 use Rattle.std.below.core.specs.contracts.clone.Clone+copy.TheImpl as copy
 use Rattle.ring_any.specs.contracts.any.Any as any
 use Rattle.ring_any.specs.contracts.any.AnyMsg as message
@@ -9,6 +13,7 @@ use Rattle.ring_any.specs.contracts.any.AnyRingElection.TheImpl as election
 use Rattle.ring_any.specs.contracts.any.AnyPartialEq.TheImpl as same
 use Rattle.ring_any.specs.contracts.any.AnyMsgPartialEq.TheImpl as same_message
 use Rattle.ring_table.specs.declared.tabled.Tabled as tabled
+use Rattle.ring_server.specs.contracts.sessions.Guest as guest
 use Rattle.ring_turn.specs.contracts.seat.Seat as seat
 use Rattle.ring_turn.specs.contracts.lock.TurnLock as lock
 use Rattle.ring_turn.proofs.lock.TurnLock.TheSendSync as lock_crosses
@@ -28,3 +33,12 @@ module _ (T : RattleType) (shows : tabled.Ghosts T.Denot any.the_row.Denot messa
   front_sync send =
       let lock_send : IsSend the_lock = lock_crosses.the_send any.the_row T message.the_row state.the_row election.ghosts (copy.ghosts any.the_row) (record {}) same.ghosts (copy.ghosts message.the_row) (record {}) same_message.ghosts shows send in
       front_crosses.the_sync the_lock lock_send (any_sync T shows send)
+
+  -- a guest may go to a thread
+  pub guest_send : (a : NamedLft) → IsSend T → IsSend (guest.the_row a T shows)
+  guest_send a send =
+      let fronts = front_sync send in
+      let seats = seat_send send in
+      let D : Declared = guest.the_type a T shows in
+      let fields : AllSend (shape D).fields = search (crosses, sendable, fronts, seats) depth 20 in
+      recorded_send (Struct (shape D)) D.D D.to D.to_one (struct_send (shape D) fields)

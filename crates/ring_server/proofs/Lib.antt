@@ -1,4 +1,7 @@
 mod Telling
 mod Crossing
+mod Lasting
+mod Logging
+mod Ending
 mod Gaining
 mod Turned

@@ -1,5 +1,6 @@
 pub mod Faults
 pub mod Listening
+pub mod Resuming
 pub mod Running
 pub mod Sessions
 pub mod private

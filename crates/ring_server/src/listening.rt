@@ -1,12 +1,12 @@
 //! Accepts clients, as many as were asked for, each with a session in a thread of its own.
-ghost use Rattle.std.specs.Prelude.{◌≡◌, ◌++◌, All, MatchResult};
+ghost use Rattle.std.specs.Prelude.{◌≡◌, ◌++◌, All, MatchResult, vec_len};
 ghost use Rattle.ring_lines.specs.Ends.{Wrote};
 ghost use Rattle.ring_door.specs.Telling.{closed_line, listening_line};
 ghost use Rattle.ring_server.specs.Listening.{BothAt};
 ghost use Rattle.ring_server.specs.private.Listening.{FirstAt};
 
 use crate::sessions;
-use crate::sessions::{Front, Seat, guests};
+use crate::sessions::{Front, Seat, limited_guests};
 use ring_config::Config;
 use ring_door::{ProgramFault, accept_all, say_closed, say_listening, tell};
 use ring_lines::Outlet;
@@ -16,13 +16,16 @@ use std::sync::Wait;
 use std::thread::Threads;
 use std::time::Clock;
 
+// How many read calls a session makes at most.
+const READS: u32 = 1_000_000_000;
+
 /// Makes the service, says that it listens, accepts so many connections, waits for their sessions to end,
 /// closes the service and says that it closed.
 ///
 /// Each connection is a session in a thread of its own, numbered from 1 in the order of their accepts. A
-/// session's fault ends that session alone. After a failed accept, a thread that could not be started
-/// or a failed write, the sessions that run are waited for and the service is closed before the fault is
-/// answered. The listener is let go after the last accept, so that later clients are refused.
+/// session makes at most 1000000000 read calls. A session's fault ends that session alone. After a failed
+/// accept, a thread that could not be started or a failed write, the sessions that run are waited for and
+/// the service is closed before the fault is answered. The listener is let go after the last accept, so that later clients are refused.
 pub fn accept_loop<R, L, O>(
     rt: &R,
     listener: L,
@@ -52,12 +55,12 @@ where
     );
     let _ = sessions::close(rt, service);
     match served {
-        Ok(()) => tell(out, closed.as_str()),
+        Ok(_) => tell(out, closed.as_str()),
         Err(fault) => Err(fault),
     }
 }
 
-// Says that it listens, and serves all connections.
+// Says that it listens, and serves all connections. The answer is how many there were: one for each seat.
 fn serve_all<R, L, O>(
     rt: &R,
     front: &Front,
@@ -65,17 +68,17 @@ fn serve_all<R, L, O>(
     listening: &str,
     seats: Vec<Seat>,
     out: &mut O,
-) -> Result<(), ProgramFault>
+) -> Result<usize, ProgramFault>
 where
     R: Threads + Wait + AllocGlobal + Sync,
     L: OpenListener<Stream = TcpStream> + Drop,
     O: Outlet,
     requires { All (λ seat. seat.lock ≡ front.now.id) seats.items }
     ensures { MatchResult result
-        (λ _. Wrote O.write_gives out.old listening.now out.new)
+        (λ accepted. (accepted ≡ vec_len seats) × Wrote O.write_gives out.old listening.now out.new)
         (λ fault. FirstAt O.write_gives out.old listening.now fault out.new) }
 {
-    let guests = guests(rt.alloc(), front, seats)?;
+    let guests = limited_guests(rt.alloc(), front, seats, 0, READS)?;
     tell(out, listening)?;
     accept_all(rt, listener, guests)
 }

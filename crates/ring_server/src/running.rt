@@ -10,7 +10,7 @@ use ring_any::Any;
 use ring_config::Config;
 use ring_door::{Door, Limits, ProgramFault, attend_all, say_listening, tell};
 use ring_lines::Outlet;
-use ring_table::{Recorded, Unkept};
+use ring_table::{Recorded, Tabled, Unkept};
 use std::net::{OpenListener, TcpStream};
 use std::sync::{Mutex, Wait};
 use std::thread::Threads;
@@ -20,7 +20,7 @@ use std::time::Clock;
 type Forgetful = Recorded<Any, Unkept<Any>>;
 
 // How many seats there are for each session that may run.
-const SEATS_EACH: u32 = 16;
+pub(crate) const SEATS_EACH: u32 = 16;
 
 /// Makes the service, says that it listens, and serves clients until the process is ended.
 ///
@@ -90,7 +90,7 @@ where
         (λ _. Wrote O.write_gives out.old listening.now out.new)
         (λ fault. FirstOrNone O.write_gives out.old listening.now fault out.new) }
 {
-    let mut guests = guests(rt.alloc(), front, seats)?;
+    let mut guests = guests(rt.alloc(), front, seats, 0)?;
     let spare = guests.split_off(guests.len() / SEATS_EACH as usize)?;
     tell(out, listening)?;
     let door = Mutex::new(Door::new(listener));
@@ -98,17 +98,18 @@ where
     seat_all(rt, &door, &spare, guests, limits)
 }
 
-// Has guests of the table serve.
-fn seat_all<'a, R, L>(
+/// Has guests of a table serve.
+pub(crate) fn seat_all<'a, R, L, T>(
     rt: &R,
     door: &Mutex<Door<L>>,
-    spare: &Mutex<Vec<Guest<'a, Forgetful>>>,
-    guests: Vec<Guest<'a, Forgetful>>,
+    spare: &Mutex<Vec<Guest<'a, T>>>,
+    guests: Vec<Guest<'a, T>>,
     limits: Limits,
 ) -> Result<(), ProgramFault>
 where
     R: Threads + Wait + Eprint + Clock + Sync,
     L: OpenListener<Stream = TcpStream> + Send + Drop,
+    T: Tabled<Any> + Send + Sync + Drop,
     ensures { IfErr result (λ fault. fault ≡ ProgramFault.Thread) }
 {
     attend_all(rt, door, spare, guests, limits)

@@ -1,13 +1,14 @@
 //! The service that the program runs, and its sessions over sockets.
-ghost use Rattle.std.specs.Prelude.{◌≡◌, ◌⊎◌, ◌<◌, ◌≤◌, ◌*◌, ◌+◌, ◌-◌, ◌/◌, ◌^◌, ◌↔◌, All, IfErr, IfOk, IsTrue, MatchBool, vec_len};
+ghost use Rattle.std.specs.Prelude.{◌≡◌, ◌⊎◌, ◌<◌, ◌≤◌, ◌*◌, ◌+◌, ◌-◌, ◌/◌, ◌^◌, ◌↔◌, All, IfErr, IfOk, IfSome, IsTrue, ℕ, MatchOption, vec_len};
 ghost use Rattle.ring_service.specs.Places.{ServesPlaced};
 ghost use Rattle.ring_service.specs.Sessions.{Serves};
 ghost use Rattle.ring_turn.specs.Seats.{Settled};
 ghost use Rattle.ring_server.specs.Faults.{IsOfStart};
 ghost use Rattle.ring_server.specs.private.Faults.{start_told_as};
-ghost use Rattle.ring_server.specs.Sessions.{GainsCalls};
+ghost use Rattle.ring_server.specs.Sessions.{GainsCalls, HasServed, base_if};
 ghost use Rattle.ring_door.specs.declared.fault.ProgramFault.TheVariants.{NoMemory};
 
+use crate::base::Base;
 use ring_any::Any;
 use ring_config::Config;
 use ring_door::{ProgramFault, Serving};
@@ -17,12 +18,13 @@ use ring_table::{Table, Tabled};
 use ring_turn::TurnLock;
 use ring_workers::{Gate, OpenGate};
 use std::alloc::Global;
+use std::marker::PhantomData;
 use std::net::TcpStream;
 use std::sync::{Arc, Wait};
 use std::thread::Threads;
 use std::time::Clock;
 
-// How many read calls a session makes at most.
+// How many read calls a guest makes at most in one session, unless it was made with another limit.
 const READS: u32 = u32::MAX;
 
 /// How the sessions and workers of a program share its table.
@@ -40,11 +42,13 @@ pub type Service<T = Table<Any>> = ring_service::Service<Access<T>>;
 /// What the service leaves when it is closed.
 pub type Closing<T = Table<Any>> = ring_service::Closing<Access<T>>;
 
-/// A seat of the table, for one session after another.
+/// A seat of the table, for one session after another, and how many read calls a session makes at most.
 #[derive(Drop)]
 pub struct Guest<'a, T: Tabled<Any> + Drop = Table<Any>> {
     front: &'a Front<T>,
     seat: Seat<T>,
+    base: Base<T>,
+    reads: u32,
     ghost of_front: { seat.lock ≡ front.now.id },
 }
 
@@ -137,14 +141,36 @@ pub fn close<R: Threads + Wait, T: Tabled<Any> + Send + Sync + Drop + 'static>(
     service.close(rt)
 }
 
-/// A guest for each seat, from the last one down to the first. Refused for want of memory alone.
+/// A guest for each seat, whose sessions make at most 4294967295 read calls each and tell places from
+/// `base`. Fails only if an allocation fails.
 pub fn guests<T: Tabled<Any> + Drop>(
     alloc: Global,
     front: &Front<T>,
     seats: Vec<Seat<T>>,
+    base: usize,
 ) -> Result<Vec<Guest<'_, T>>, ProgramFault>
-    requires { All (λ seat. seat.lock ≡ front.now.id) seats.items }
+    requires base { base + T.most ≤ 2 ^ 64 }
+    requires seats { All (λ seat. seat.lock ≡ front.now.id) seats.items }
     ensures guests { IfOk result (λ guests. vec_len guests ≡ vec_len seats) }
+    ensures reads { IfOk result (λ guests. All (λ guest. guest.reads ≡ 4294967295) guests.items) }
+    ensures fault { IfErr result (λ fault. fault ≡ NoMemory) }
+{
+    limited_guests(alloc, front, seats, base, READS)
+}
+
+/// A guest for each seat, whose sessions make at most `reads` read calls each and tell places from `base`.
+/// Fails only if an allocation fails.
+pub fn limited_guests<T: Tabled<Any> + Drop>(
+    alloc: Global,
+    front: &Front<T>,
+    seats: Vec<Seat<T>>,
+    base: usize,
+    reads: u32,
+) -> Result<Vec<Guest<'_, T>>, ProgramFault>
+    requires base { base + T.most ≤ 2 ^ 64 }
+    requires seats { All (λ seat. seat.lock ≡ front.now.id) seats.items }
+    ensures guests { IfOk result (λ guests. vec_len guests ≡ vec_len seats) }
+    ensures reads { IfOk result (λ guests. All (λ guest. guest.reads ≡ reads) guests.items) }
     ensures fault { IfErr result (λ fault. fault ≡ NoMemory) }
 {
     let mut rest = seats;
@@ -152,7 +178,15 @@ pub fn guests<T: Tabled<Any> + Drop>(
         return Err(ProgramFault::NoMemory);
     };
     while let Some(seat) = rest.pop() {
-        guests.push_reserved(Guest { front, seat });
+        guests.push_reserved(Guest {
+            front,
+            seat,
+            base: Base {
+                number: base,
+                of: PhantomData,
+            },
+            reads,
+        });
     }
     Ok(guests)
 }
@@ -165,37 +199,57 @@ impl<T: Tabled<Any> + Drop> Serving for Guest<'_, T> {
     }
 
     fn serve<R: Wait>(&mut self, rt: &R, session: u32, stream: &TcpStream, places: bool)
+        ensures served { HasServed (base_if places self.old.base.number) T.most session self.old.reads self.old.seat self.new.seat }
         ensures gained { GainsCalls session self.old.seat.mine self.new.seat.mine }
         ensures told { (self.new.seat ≡ self.old.seat) ⊎ Settled self.new.seat }
     {
         let _ = stream.set_nodelay(true);
         let (mut reader, mut writer) = (FromRead(stream), ToWrite(stream));
-        let (front, seat) = (self.front, &mut self.seat);
-        let _ = answer(rt, front, seat, session, places, &mut reader, &mut writer);
+        let (front, reads, seat) = (self.front, self.reads, &mut self.seat);
+        let base = told_base(places, self.base.number);
+        let _ = answer(
+            rt,
+            front,
+            seat,
+            session,
+            base,
+            reads,
+            &mut reader,
+            &mut writer,
+        );
     }
 }
 
-// One session by a seat, told with places where they are asked for.
+// The base of the places that a session tells, if it tells them.
+fn told_base(places: bool, base: usize) -> Option<usize>
+    ensures value { result ≡ base_if places base }
+    ensures within { (most : ℕ) → base + most ≤ 2 ^ 64 → IfSome result (λ base. base + most ≤ 2 ^ 64) }
+{
+    if places { Some(base) } else { None }
+}
+
+// One session by a seat. If there is a base, replies are told with their places, counted from it.
 fn answer<R: Wait, I: Intake, O: Outlet, T: Tabled<Any> + Drop>(
     rt: &R,
     front: &Front<T>,
     seat: &mut Seat<T>,
     session: u32,
-    places: bool,
+    base: Option<usize>,
+    reads: u32,
     reader: &mut I,
     writer: &mut O,
 ) -> Result<u64, LineFault>
-    requires { seat.old.lock ≡ front.now.id }
+    requires seat { seat.old.lock ≡ front.now.id }
+    requires base { IfSome base (λ base. base + T.most ≤ 2 ^ 64) }
     ensures seat { seat.new.lock ≡ front.now.id }
     ensures gained { GainsCalls session seat.old.mine seat.new.mine }
     ensures told { (seat.new ≡ seat.old) ⊎ Settled seat.new }
-    ensures served { MatchBool places
-        (ServesPlaced I.read_gives O.write_gives (λ seat. seat.mine) session seat.old reader.old writer.old 4294967295 result seat.new reader.new writer.new)
-        (Serves I.read_gives O.write_gives (λ seat. seat.mine) session seat.old reader.old writer.old 4294967295 result seat.new reader.new writer.new) }
+    ensures served { MatchOption base
+        (Serves I.read_gives O.write_gives (λ seat. seat.mine) session seat.old reader.old writer.old reads result seat.new reader.new writer.new)
+        (λ base. ServesPlaced I.read_gives O.write_gives (λ seat. seat.mine) base T.most session seat.old reader.old writer.old reads result seat.new reader.new writer.new) }
 {
-    if places {
-        front.serve_placed(rt, seat, session, reader, writer, READS)
-    } else {
-        front.serve(rt, seat, session, reader, writer, READS)
+    match base {
+        Some(base) => front.serve_placed(rt, seat, base, session, reader, writer, reads),
+        None => front.serve(rt, seat, session, reader, writer, reads),
     }
 }

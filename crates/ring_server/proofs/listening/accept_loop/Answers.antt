@@ -7,7 +7,7 @@ pub returns-in-Ok : goal.returns-in-Ok
 returns-in-Ok g c =
     let first : c.as_str.result.now ≡ listening_line c.args.config.now.port = c.as_str.ensures.value ∙ c.in_ok-listening.ensures in
     let last : c.as_str-in-Ok.result.now ≡ closed_line c.args.connections = c.as_str-in-Ok.ensures.value ∙ c.in_ok-closed.ensures in
-    both_told _ _ _ (listening_line c.args.config.now.port) (closed_line c.args.connections) _ c.tell.result (rw first at c.in-Ok.ensures) (rw last at c.tell.ensures)
+    both_told _ _ _ (listening_line c.args.config.now.port) (closed_line c.args.connections) _ c.tell.result (rw first at c.in-Ok.ensures.1) (rw last at c.tell.ensures)
 
 pub returns : goal.returns
 returns g c =

@@ -1,8 +1,9 @@
-use denote.Param.Send.{sendable}
+use denote.Param.Send.{param_send}
+use mir.Syntax.{named}
 use Rattle.ring_turn.proofs.Sharing.{table_send}
-use Rattle.ring_server.proofs.Crossing.{front_sync, seat_send}
+use Rattle.ring_server.proofs.Crossing.{guest_send}
 use Rattle.ring_server.proofs.listening.serve_all.Goals as goal
 
 -- guests may go to threads
 pub accept_all-requires-send-G : goal.accept_all-requires-send-G
-accept_all-requires-send-G g c κs within = search (sendable, front_sync, seat_send, table_send) depth 20
+accept_all-requires-send-G g c κs within = let send = param_send 2 _ (guest_send _ _ (record { mir = named 3; lft = κs.1.1.1.0 }) table_send) in record { owned = send.owned; leaving = send.leaving }

@@ -14,7 +14,7 @@ split_off-requires g c =
 
 -- the table may be shared among threads
 pub gated-requires-sync-A : goal.gated-requires-sync-A
-gated-requires-sync-A g c κs within = record { shared = (any_sync _ _ c.type_bounds.send-T).shared }
+gated-requires-sync-A g c κs within = record { shared = (any_sync _ g.T.Tabled c.type_bounds.send-T).shared }
 
 -- the first seats are the workers', and all are of the lock
 pub gated-requires-clause-seats : goal.gated-requires-clause-seats

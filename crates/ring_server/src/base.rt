@@ -1,0 +1,14 @@
+//! What is added to the places that a session tells.
+ghost use Rattle.std.specs.Prelude.{◌≤◌, ◌+◌, ◌^◌};
+
+use ring_any::Any;
+use ring_table::Tabled;
+use std::marker::PhantomData;
+
+/// A number that is added to each place of a table. The sums are u64s.
+#[derive(Drop)]
+pub(crate) struct Base<T: Tabled<Any> + Drop> {
+    pub(crate) number: usize,
+    pub(crate) of: PhantomData<T>,
+    ghost fits: { number + T.most ≤ 2 ^ 64 },
+}

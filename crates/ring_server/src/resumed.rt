@@ -1,0 +1,25 @@
+//! A table that goes on after a restart.
+ghost use Rattle.std.specs.Prelude.{◌≡◌, ◌≤◌, length, map};
+ghost use Rattle.ring_recovery.specs.Charters.{running_charters};
+
+use ring_any::Any;
+use ring_journal::Medium;
+use ring_node::Charter;
+use ring_recovery::{Alarm, Life, Written};
+use ring_table::Recorded;
+use std::sync::Arc;
+
+/// A table over its journal, and what has to be done before it is asked again.
+#[derive(Drop)]
+pub struct Resumed<D: Medium + Drop> {
+    /// The table. All its entries are kept for good.
+    pub table: Recorded<Any, Written<D>>,
+    /// The charters of the terms that run, which are begun again.
+    pub charters: Vec<Arc<Charter<Any>>>,
+    /// The alarm that is rung if the journal fails.
+    pub alarm: Arc<Alarm>,
+    /// The life of the journal. Places are told from its base.
+    pub life: Life,
+    ghost kept: { length table.history ≤ table.sure },
+    ghost running: { map (λ charter. charter.value) charters.items ≡ running_charters table.book },
+}

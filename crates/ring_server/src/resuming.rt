@@ -1,0 +1,156 @@
+//! Serves clients by a table that goes on after a restart, until its journal fails.
+ghost use Rattle.std.specs.Prelude.{◌≡◌, All, IfErr, IfOk, MatchResult};
+ghost use Rattle.ring_lines.specs.Ends.{Wrote};
+ghost use Rattle.ring_door.specs.Telling.{listening_line};
+ghost use Rattle.ring_server.specs.Faults.{IsOfStart};
+ghost use Rattle.ring_server.specs.Resuming.{ResumedAt};
+ghost use Rattle.ring_server.specs.Running.{FirstOrNone};
+ghost use Rattle.ring_server.specs.private.Faults.{start_told_as};
+ghost use Rattle.ring_server.specs.private.Resuming.{IsOfEnd};
+
+use crate::handshake::Handshake;
+use crate::resumed::Resumed;
+use crate::server::Server;
+use ring_any::Any;
+use ring_config::Config;
+use ring_door::{JournalFault, Limits, ProgramFault, say_listening, tell};
+use ring_journal::Medium;
+use ring_lines::Outlet;
+use ring_recovery::{Alarm, Ending};
+use ring_service::StartFault;
+use ring_table::Tabled;
+use std::alloc::Global;
+use std::net::{OpenListener, TcpStream};
+use std::sync::{Arc, Wait};
+use std::thread;
+use std::thread::{JoinHandle, Threads};
+use std::time::Clock;
+
+/// Makes the service over a table that was recovered, begins its running terms again, says that it
+/// listens, and serves clients as `run_loop` does, until the process is ended or the journal fails.
+///
+/// If the journal fails, no reply goes out any more, and the fault is returned at once. The threads are
+/// not joined then, and end with the process. If the service could not begin, the fault is that of
+/// `run_loop`.
+pub fn resume_loop<R, L, D, O>(
+    rt: &R,
+    listener: L,
+    config: &Config,
+    limits: Limits,
+    resumed: Resumed<D>,
+    out: &mut O,
+) -> Result<(), ProgramFault>
+where
+    R: Threads + Wait + AllocGlobal + Eprint + Clock + Copy + Send + Sync + Drop + 'static,
+    L: OpenListener<Stream = TcpStream> + Send + Drop + 'static,
+    D: Medium + Send + Sync + Drop + 'static,
+    O: Outlet,
+    ensures { MatchResult result
+        (λ _. Wrote O.write_gives out.old (listening_line config.now.port) out.new)
+        (λ fault. ResumedAt O.write_gives out.old (listening_line config.now.port) fault out.new) }
+{
+    let alloc = rt.alloc();
+    let listening = say_listening(alloc, config.port)?;
+    let bell = Arc::try_clone(&resumed.alarm)?;
+    let (handshake, theirs) = handshakes(alloc)?;
+    let Resumed {
+        table,
+        charters,
+        alarm,
+        life,
+    } = resumed;
+    let server = Server {
+        listener,
+        config: *config,
+        limits,
+        table,
+        charters,
+        base: life.base(),
+        handshake: theirs,
+        bell,
+    };
+    let thread = start(rt, server)?;
+    match begin(rt, &handshake, listening.as_str(), out) {
+        Ok(()) => wait_for_end(rt, &alarm, thread),
+        Err(fault) => {
+            thread.join(rt);
+            Err(fault)
+        }
+    }
+}
+
+// A handshake, for the one who waits and the one who serves.
+fn handshakes(alloc: Global) -> Result<(Arc<Handshake>, Arc<Handshake>), ProgramFault>
+    ensures { IfErr result (λ fault. fault ≡ ProgramFault.NoMemory) }
+{
+    let Ok(handshake) = Arc::new(alloc, Handshake::new()) else {
+        return Err(ProgramFault::NoMemory);
+    };
+    let theirs = Arc::try_clone(&handshake)?;
+    Ok((handshake, theirs))
+}
+
+// Starts the thread that serves. It returns whether all its own threads were started.
+fn start<R, L, T>(rt: &R, server: Server<L, T>) -> Result<JoinHandle<bool>, ProgramFault>
+where
+    R: Threads + Wait + AllocGlobal + Eprint + Clock + Copy + Send + Sync + Drop + 'static,
+    L: OpenListener<Stream = TcpStream> + Send + Drop + 'static,
+    T: Tabled<Any> + Send + Sync + Drop + 'static,
+    ensures { IfErr result (λ fault. fault ≡ ProgramFault.Thread) }
+{
+    let rt = *rt;
+    match thread::spawn(&rt, move || server.run(&rt)) {
+        Ok(thread) => Ok(thread),
+        Err(refused) => {
+            drop(refused);
+            Err(ProgramFault::Thread)
+        }
+    }
+}
+
+// Waits until the service is open, says that it listens, and has it serve.
+fn begin<R: Wait, O: Outlet>(
+    rt: &R,
+    handshake: &Handshake,
+    listening: &str,
+    out: &mut O,
+) -> Result<(), ProgramFault>
+    ensures { MatchResult result
+        (λ _. Wrote O.write_gives out.old listening.now out.new)
+        (λ fault. FirstOrNone O.write_gives out.old listening.now fault out.new) }
+{
+    match handshake.wait_open(rt) {
+        Ok(()) => {
+            let told = tell(out, listening);
+            handshake.answer(rt, told.is_ok());
+            told
+        }
+        Err(StartFault::NoMemory) => Err(ProgramFault::NoMemory),
+        Err(StartFault::Thread) => Err(ProgramFault::Thread),
+    }
+}
+
+// Waits until the alarm is rung, and says why it was.
+fn wait_for_end<R: Threads + Wait>(
+    rt: &R,
+    alarm: &Alarm,
+    thread: JoinHandle<bool>,
+) -> Result<(), ProgramFault>
+    ensures { IfErr result IsOfEnd }
+{
+    match alarm.wait(rt) {
+        Ending::Failed => Err(ProgramFault::Journal(JournalFault::Failed)),
+        Ending::Stopped => joined(rt, thread),
+    }
+}
+
+// Waits for the thread that served, and says how it ended.
+fn joined<R: Threads>(rt: &R, thread: JoinHandle<bool>) -> Result<(), ProgramFault>
+    ensures { IfErr result (λ fault. fault ≡ ProgramFault.Thread) }
+{
+    if thread.join(rt) {
+        Ok(())
+    } else {
+        Err(ProgramFault::Thread)
+    }
+}

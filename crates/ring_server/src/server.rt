@@ -1,0 +1,128 @@
+//! What the thread that serves has, and what it does.
+ghost use Rattle.std.specs.Prelude.{◌≡◌, ◌≤◌, ◌+◌, ◌^◌, All, IfErr, IfOk};
+ghost use Rattle.ring_server.specs.Faults.{IsOfStart};
+
+use crate::handshake::Handshake;
+use crate::running::{SEATS_EACH, seat_all};
+use crate::sessions;
+use crate::sessions::{Front, Seat, Service, guests};
+use ring_any::Any;
+use ring_config::Config;
+use ring_door::{Door, Limits, ProgramFault};
+use ring_node::Charter;
+use ring_recovery::{Alarm, Ending};
+use ring_table::Tabled;
+use std::net::{OpenListener, TcpStream};
+use std::sync::{Arc, Mutex, Wait};
+use std::thread::Threads;
+use std::time::Clock;
+
+/// What the thread that serves takes along.
+#[derive(Drop)]
+pub(crate) struct Server<L: Drop, T: Tabled<Any> + Drop> {
+    pub(crate) listener: L,
+    pub(crate) config: Config,
+    pub(crate) limits: Limits,
+    pub(crate) table: T,
+    // the terms that run
+    pub(crate) charters: Vec<Arc<Charter<Any>>>,
+    // what is added to each place that is told
+    pub(crate) base: usize,
+    pub(crate) handshake: Arc<Handshake>,
+    // it is rung when nobody is served any more
+    pub(crate) bell: Arc<Alarm>,
+    ghost fits: { base + T.most ≤ 2 ^ 64 },
+}
+
+impl<L, T> Server<L, T>
+where
+    L: OpenListener<Stream = TcpStream> + Send + Drop,
+    T: Tabled<Any> + Send + Sync + Drop + 'static,
+{
+    /// Opens the service, and serves once the handshake says so. Returns whether all its threads could be started.
+    pub(crate) fn run<R>(self, rt: &R) -> bool
+    where
+        R: Threads + Wait + AllocGlobal + Eprint + Clock + Copy + Send + Sync + Drop + 'static,
+    {
+        let Server {
+            listener,
+            config,
+            limits,
+            table,
+            charters,
+            base,
+            handshake,
+            bell,
+        } = self;
+        let sessions = limits.sessions.saturating_mul(SEATS_EACH);
+        let served = match open(rt, &config, sessions, table, charters) {
+            Ok((service, seats)) => {
+                let front = sessions::front(&service);
+                let served = serve(rt, front, listener, seats, base, limits, &handshake);
+                let _ = sessions::close(rt, service);
+                served
+            }
+            Err(fault) => {
+                drop(listener);
+                Err(fault)
+            }
+        };
+        if let Err(fault) = served {
+            handshake.refuse(rt, fault);
+        }
+        bell.ring(rt, Ending::Stopped);
+        served.is_ok()
+    }
+}
+
+// Opens the service over the table, and begins the terms of these charters.
+fn open<R, T>(
+    rt: &R,
+    config: &Config,
+    sessions: u32,
+    table: T,
+    charters: Vec<Arc<Charter<Any>>>,
+) -> Result<(Service<T>, Vec<Seat<T>>), ProgramFault>
+where
+    R: Threads + Wait + AllocGlobal + Clock + Copy + Send + Drop + 'static,
+    T: Tabled<Any> + Send + Sync + Drop + 'static,
+    ensures theirs { IfOk result (λ opened. All (λ seat. seat.lock ≡ opened.0.id) opened.1.items) }
+    ensures opening { IfOk result (λ opened. opened.0.opening ≡ (T.shows table).history) }
+    ensures fault { IfErr result IsOfStart }
+{
+    let (service, seats) = sessions::open(rt, config, sessions, table)?;
+    if service.resume(rt, charters).is_err() {
+        drop(seats);
+        let _ = sessions::close(rt, service);
+        return Err(ProgramFault::NoMemory);
+    }
+    Ok((service, seats))
+}
+
+// Says that the service is open, and has guests of its table serve once they may.
+fn serve<R, L, T>(
+    rt: &R,
+    front: &Front<T>,
+    listener: L,
+    seats: Vec<Seat<T>>,
+    base: usize,
+    limits: Limits,
+    handshake: &Handshake,
+) -> Result<(), ProgramFault>
+where
+    R: Threads + Wait + AllocGlobal + Eprint + Clock + Sync,
+    L: OpenListener<Stream = TcpStream> + Send + Drop,
+    T: Tabled<Any> + Send + Sync + Drop + 'static,
+    requires seats { All (λ seat. seat.lock ≡ front.now.id) seats.items }
+    requires base { base + T.most ≤ 2 ^ 64 }
+    ensures fault { IfErr result IsOfStart }
+{
+    let mut guests = guests(rt.alloc(), front, seats, base)?;
+    let spare = guests.split_off(guests.len() / SEATS_EACH as usize)?;
+    if !handshake.open(rt) {
+        return Ok(());
+    }
+    let door = Mutex::new(Door::new(listener));
+    let spare = Mutex::new(spare);
+    seat_all(rt, &door, &spare, guests, limits)
+}
