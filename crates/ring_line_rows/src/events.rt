@@ -1,9 +1,10 @@
-use crate::memory::{add, text};
+use crate::memory::{add, tells_of_memory, text};
 use ring_any::Any;
 use ring_any_traffic::AnyTraffic;
 use ring_grammar::{
     SinkFailed, parse_event, print_groups, print_members, print_reply, print_terms,
 };
+use ring_id::NoMemory;
 use ring_mux::{Event, Mux, Reply};
 use std::alloc::Global;
 use std::process::Abort;
@@ -62,8 +63,8 @@ fn lines_of(rt: &impl Abort, alloc: Global, replies: &[Reply]) -> Vec<u8> {
     lines
 }
 
-// Whether a mux answers these events in one list by the replies. It may not where memory is refused.
-fn are_answered(rt: &impl Abort, alloc: Global, events: &[Event<Any>]) -> bool {
+// Whether a mux answers these events in one list by the replies. None where it doesn't and was refused memory.
+fn are_answered(rt: &impl Abort, alloc: Global, events: &[Event<Any>]) -> Option<bool> {
     let mut mux: Mux<Any, AnyTraffic> = Mux::new(alloc).expect(rt, "no mux");
     let answered = mux.run(alloc, events);
     drop(mux);
@@ -71,9 +72,16 @@ fn are_answered(rt: &impl Abort, alloc: Global, events: &[Event<Any>]) -> bool {
         Ok(replies) => {
             let lines = lines_of(rt, alloc, &replies);
             drop(replies);
-            lines.as_slice() == REPLIES
+            let are_told = lines.as_slice() == REPLIES;
+            let refused = tells_of_memory(&lines);
+            drop(lines);
+            if refused && !are_told {
+                None
+            } else {
+                Some(are_told)
+            }
         }
-        Err(_) => false,
+        Err(NoMemory) => None,
     }
 }
 
@@ -81,6 +89,10 @@ fn are_answered(rt: &impl Abort, alloc: Global, events: &[Event<Any>]) -> bool {
 fn a_list_of_events_is_answered_as_its_lines_are(rt: HostRuntime) {
     let alloc = rt.alloc();
     let events = events(&rt, alloc);
-    assert!(rt; are_answered(&rt, alloc, &events) || are_answered(&rt, alloc, &events));
+    let mut answered = are_answered(&rt, alloc, &events);
+    if answered.is_none() {
+        answered = are_answered(&rt, alloc, &events);
+    }
+    assert!(rt; answered == Some(true));
     drop(events);
 }

@@ -1,4 +1,4 @@
-use crate::memory::drip_out;
+use crate::memory::{drip_out, tells_of_memory};
 use ring_lines::{DripIn, FromRead, LineFault, ToWrite};
 use ring_schedule::replay;
 use std::alloc::Global;
@@ -29,38 +29,45 @@ fn whole(input: &[u8]) -> Given<'_> {
 }
 
 // Whether a replay comes to this answer and writes these bytes; the same where its ends are a reader and a writer of std.
-// It may not where memory is refused.
+// None where it doesn't and was refused memory.
 fn comes(
     rt: &impl Abort,
     alloc: Global,
     given: Given,
     answer: Result<u64, LineFault>,
     written: &[u8],
-) -> bool {
+) -> Option<bool> {
     let mut reader = DripIn::new(given.input, given.read_fault);
     let mut writer = drip_out(rt, alloc, 100, given.write_fault);
     let first = replay(alloc, &mut reader, &mut writer, given.reads);
     let mut reader = FromRead(DripIn::new(given.input, given.read_fault));
     let mut by_std = ToWrite(drip_out(rt, alloc, 100, given.write_fault));
     let second = replay(alloc, &mut reader, &mut by_std, given.reads);
-    let answers = first == answer && second == answer;
-    let comes = answers && writer.taken() == written && by_std.0.taken() == written;
+    let by_ends = (first, writer.taken()) == (answer, written);
+    let comes = by_ends && (second, by_std.0.taken()) == (answer, written);
+    let refused = is_refused(first, writer.taken()) || is_refused(second, by_std.0.taken());
     drop(writer);
     drop(by_std);
-    comes
+    if refused && !comes { None } else { Some(comes) }
 }
 
-// The same, replayed again where memory is refused.
+// Whether a replay that was answered so and wrote this was refused memory.
+fn is_refused(answer: Result<u64, LineFault>, written: &[u8]) -> bool {
+    answer == Err(LineFault::NoMemory) || tells_of_memory(written)
+}
+
+// The same, replayed again where memory was refused.
 fn assert_comes(
     rt: &(impl Abort + AllocGlobal),
     given: Given,
     answer: Result<u64, LineFault>,
     written: &[u8],
 ) {
-    let alloc = rt.alloc();
-    assert!(rt;
-        comes(rt, alloc, given, answer, written) || comes(rt, alloc, given, answer, written)
-    );
+    let mut come = comes(rt, rt.alloc(), given, answer, written);
+    if come.is_none() {
+        come = comes(rt, rt.alloc(), given, answer, written);
+    }
+    assert!(rt; come == Some(true));
 }
 
 // The first bytes of a text.

@@ -70,8 +70,8 @@ fn serve_names_a_file_and_a_number(rt: HostRuntime) {
 }
 
 // Whether a command line has clients served by the file `x`, so many at a time, each for so many silent seconds, and
-// with places where these are told.
-fn runs(alloc: Global, line: &str, at_a_time: u32, seconds: u32, tells: bool) -> bool {
+// with places if these are told. The journal is the file `kept`, and there is none if that is empty.
+fn runs(alloc: Global, line: &str, at_a_time: u32, seconds: u32, tells: bool, kept: &str) -> bool {
     let order = read_again(alloc, line);
     let runs = match &order {
         Ok(
@@ -80,9 +80,14 @@ fn runs(alloc: Global, line: &str, at_a_time: u32, seconds: u32, tells: bool) ->
                 sessions,
                 idle,
                 places,
+                journal,
             },
         ) => {
-            path.as_str() == "x" && *sessions == at_a_time && *idle == seconds && *places == tells
+            path.as_str() == "x"
+                && *sessions == at_a_time
+                && *idle == seconds
+                && *places == tells
+                && is_kept(journal, kept)
         }
         _ => false,
     };
@@ -90,15 +95,52 @@ fn runs(alloc: Global, line: &str, at_a_time: u32, seconds: u32, tells: bool) ->
     runs
 }
 
+// Whether the journal is this file, or none if that is empty.
+fn is_kept(journal: &Option<String>, kept: &str) -> bool {
+    match journal {
+        Some(file) => file.as_str() == kept,
+        None => kept.is_empty(),
+    }
+}
+
 #[test]
 fn run_has_its_usual_numbers(rt: HostRuntime) {
-    for (line, at_a_time, seconds, tells) in [
-        ("ringd run x", 16, 0, false),
-        ("ringd run --sessions 64 x", 64, 0, false),
-        ("ringd run x --idle=30 --places --sessions 1", 1, 30, true),
-        ("ringd run x --idle 86400", 16, 86400, false),
+    for (line, at_a_time, seconds, tells, kept) in [
+        ("ringd run x", 16, 0, false, ""),
+        ("ringd run --sessions 64 x", 64, 0, false, ""),
+        (
+            "ringd run x --idle=30 --places --sessions 1",
+            1,
+            30,
+            true,
+            "",
+        ),
+        ("ringd run x --idle 86400", 16, 86400, false, ""),
+        ("ringd run x --journal y", 16, 0, false, "y"),
+        ("ringd run --journal=y/z x --places", 16, 0, true, "y/z"),
     ] {
-        assert!(rt; runs(rt.alloc(), line, at_a_time, seconds, tells), "{line}");
+        assert!(rt;
+            runs(rt.alloc(), line, at_a_time, seconds, tells, kept),
+            "{line}"
+        );
+    }
+}
+
+// Whether a command line asks for what the journal `x` holds.
+fn shows(alloc: Global, line: &str) -> bool {
+    let order = read_again(alloc, line);
+    let shows = match &order {
+        Ok(Order::Journal { path }) => path.as_str() == "x",
+        _ => false,
+    };
+    drop(order);
+    shows
+}
+
+#[test]
+fn journal_names_a_file(rt: HostRuntime) {
+    for line in ["ringd journal x", "ringd journal -- x"] {
+        assert!(rt; shows(rt.alloc(), line), "{line}");
     }
 }
 
@@ -149,6 +191,14 @@ fn numbers_out_of_range_and_missing_words_are_refused(rt: HostRuntime) {
         "ringd run x --connections 2",
         "ringd run x --places --places",
         "ringd run x --places=true",
+        "ringd run x --journal",
+        "ringd run x --journal y --journal z",
+        "ringd run --journal y",
+        "ringd serve x --connections 2 --journal y",
+        "ringd replay --journal y",
+        "ringd journal",
+        "ringd journal x y",
+        "ringd journal x --places",
         "ringd serve --help",
     ] {
         assert!(rt; is_refused(rt.alloc(), line, "--help"), "{line}");

@@ -1,4 +1,4 @@
-use ring_server::ProgramFault;
+use ring_server::{JournalFault, ProgramFault};
 use std::alloc::Global;
 
 // Whether a fault has this line; asked for again where memory is refused.
@@ -27,5 +27,26 @@ fn each_fault_has_its_line(rt: HostRuntime) {
         (ProgramFault::Thread, "ringd: thread failed"),
     ] {
         assert!(rt; has_line(rt.alloc(), fault, line), "{line}");
+    }
+}
+
+#[test]
+fn each_fault_of_a_journal_has_its_line(rt: HostRuntime) {
+    for (fault, line) in [
+        (JournalFault::InUse, "ringd: journal in use"),
+        (JournalFault::Unreadable, "ringd: journal unreadable"),
+        (JournalFault::NotAFile, "ringd: journal not a file"),
+        (
+            JournalFault::Bad { at: 17 },
+            "ringd: journal bad at byte 17",
+        ),
+        (JournalFault::Version, "ringd: journal of another version"),
+        (JournalFault::Failed, "ringd: journal failed"),
+        (JournalFault::Lives, "ringd: journal has no life left"),
+    ] {
+        assert!(rt;
+            has_line(rt.alloc(), ProgramFault::from(fault), line),
+            "{line}"
+        );
     }
 }

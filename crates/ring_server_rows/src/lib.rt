@@ -1,11 +1,14 @@
 //! Worked rows of the server: the line of each fault, what is told where an accept or a write fails, the numbers that
-//! sessions have, who serves them, and how many items an inbox holds. Each has the values that it must come to.
+//! sessions have, who serves them, how many items an inbox holds, and how a run ends whose journal fails. Each has the
+//! values that it must come to.
 #![tactic(auto)]
 
 #[cfg(test)]
 mod fault;
 #[cfg(test)]
 mod listening;
+#[cfg(test)]
+mod resuming;
 #[cfg(test)]
 mod running;
 #[cfg(test)]

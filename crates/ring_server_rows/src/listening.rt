@@ -1,11 +1,13 @@
-use crate::trial::{NoClients, clients, is_numbered, listener, out_failing_at};
+use crate::trial::{NoClients, clients, is_numbered, listener, out_failing_at, replies_to};
 use ring_config::Config;
+use ring_lines::DripOut;
 use ring_server::{ProgramFault, Serving, accept_all, accept_loop};
 use std::alloc::Global;
-use std::net::{Net, TcpListener, TcpStream};
+use std::net::{Net, SocketAddr, TcpListener, TcpStream};
 use std::sync::{Mutex, Wait};
 use std::thread::Threads;
 use std::time::Clock;
+use std::{io, thread};
 
 // Whether so many accepts, which fail, end so, and this was told, where the write call of this number fails; asked for
 // again where memory is refused.
@@ -102,6 +104,70 @@ where
 
 #[test]
 fn sessions_have_the_numbers_of_their_clients(rt: HostRuntime) {
-    let first = numbered(&rt);
-    assert!(rt; first == Some(3) || numbered(&rt) == Some(3));
+    assert!(rt; numbered(&rt) == Some(3));
+}
+
+// Whether two clients, one after another, are told what they must: the second one finds what the first one left.
+fn are_told<R>(rt: &R, address: SocketAddr) -> io::Result<bool>
+where
+    R: AllocGlobal + Net<Stream = TcpStream, Listener = TcpListener>,
+{
+    let first = replies_to(rt, address, b"create a chang\njoin a 5\n")?;
+    let second = replies_to(rt, address, b"members a\n")?;
+    let are_told = first.as_slice() == b"ok\nok\n".as_slice()
+        && second.as_slice() == b"members 5\n".as_slice();
+    drop(first);
+    drop(second);
+    Ok(are_told)
+}
+
+// Accepts two clients, which come from another thread: what was answered, what was written, and whether the clients were
+// told what they must.
+fn accepts_two<R>(
+    rt: &R,
+    config: &Config,
+    listener: TcpListener,
+    address: SocketAddr,
+    out: DripOut,
+) -> (Result<(), ProgramFault>, DripOut, bool)
+where
+    R: AllocGlobal
+        + Threads
+        + Wait
+        + Clock
+        + Copy
+        + Send
+        + Sync
+        + Drop
+        + 'static
+        + Net<Stream = TcpStream, Listener = TcpListener>,
+{
+    let ((served, out), told) = thread::join(
+        rt,
+        || {
+            let mut out = out;
+            let served = accept_loop(rt, listener, config, 2, &mut out);
+            (served, out)
+        },
+        || matches!(are_told(rt, address), Ok(true)),
+    );
+    (served, out, told)
+}
+
+// Each client gets its replies to the end, both lines are written, and all ends well.
+#[test]
+fn two_clients_are_accepted_and_told(rt: HostRuntime) {
+    let config = Config {
+        workers: 2,
+        inbox: 1024,
+        port: 7400,
+    };
+    let (listener, address) = listener(&rt).expect(&rt, "no listener");
+    let out = out_failing_at(rt.alloc(), 0).expect(&rt, "no memory");
+    let (served, out, told) = accepts_two(&rt, &config, listener, address, out);
+    assert!(rt; told);
+    assert!(rt; served == Ok(()));
+    let both = b"listening 127.0.0.1:7400\nclosed 2\n".as_slice();
+    assert!(rt; out.taken() == both);
+    drop(out);
 }

@@ -1,11 +1,13 @@
-use crate::trial::{NoClients, clients, is_numbered, listener, out_failing_at};
+use crate::trial::{NoClients, client, clients, is_numbered, listener, out_failing_at};
 use ring_config::Config;
 use ring_server::{Door, Limits, ProgramFault, Serving, attend_all, run_loop};
+use std::io::Read;
 use std::net::{Net, SocketAddr, TcpListener, TcpStream};
 use std::sync::{Mutex, Wait};
 use std::test::Fail;
 use std::thread::Threads;
-use std::time::Clock;
+use std::time::{Clock, Duration};
+use std::{io, thread};
 
 // One session at a time, told with places.
 const ONE_SESSION: Limits = Limits {
@@ -172,6 +174,86 @@ where
 // has the number of its client, and is told places.
 #[test]
 fn a_spent_guest_gives_way_to_a_spare_one(rt: HostRuntime) {
-    let first = servers(&rt);
-    assert!(rt; first == Some(1122) || servers(&rt) == Some(1122));
+    assert!(rt; servers(&rt) == Some(1122));
+}
+
+// Two sessions at a time.
+const TWO_SESSIONS: Limits = Limits {
+    sessions: 2,
+    idle: 0,
+    places: false,
+};
+
+// Runs in a thread of its own, which lasts as long as the test. Returns whether there is one.
+fn has_run<R>(rt: &R, listener: TcpListener) -> bool
+where
+    R: AllocGlobal + Threads + Wait + Eprint + Clock + Copy + Send + Sync + Drop + 'static,
+{
+    let inner = *rt;
+    let run = move || {
+        let config = Config {
+            workers: 2,
+            inbox: 1024,
+            port: 80,
+        };
+        if let Ok(mut out) = out_failing_at(inner.alloc(), 0) {
+            let _ = run_loop(&inner, listener, &config, TWO_SESSIONS, &mut out);
+            drop(out);
+        }
+    };
+    match thread::spawn(rt, run) {
+        Ok(thread) => {
+            drop(thread);
+            true
+        }
+        Err(_) => false,
+    }
+}
+
+// A client that has sent a line, and whether it is told this within some seconds. Its session lasts as long as it does.
+fn asks<R: Net<Stream = TcpStream>>(
+    rt: &R,
+    address: SocketAddr,
+    line: &[u8],
+    told: &[u8],
+) -> io::Result<(TcpStream, bool)> {
+    let mut client = client(rt, address, line)?;
+    client.set_read_timeout(Some(Duration::from_secs(20)))?;
+    let mut reply = [0; 16];
+    let len = told.len().min(16);
+    client.read_exact(&mut reply[..len])?;
+    let is_told = reply[..len] == told[..len];
+    Ok((client, is_told))
+}
+
+// Whether a second client is told what it must while the session of the first one lasts.
+fn serves_two<R>(rt: &R) -> io::Result<bool>
+where
+    R: AllocGlobal
+        + Threads
+        + Wait
+        + Eprint
+        + Clock
+        + Copy
+        + Send
+        + Sync
+        + Drop
+        + 'static
+        + Net<Stream = TcpStream, Listener = TcpListener>,
+{
+    let (listener, address) = listener(rt)?;
+    if !has_run(rt, listener) {
+        return Ok(false);
+    }
+    let (one, first) = asks(rt, address, b"create a chang\n", b"ok\n")?;
+    let (other, second) = asks(rt, address, b"groups\n", b"groups a\n")?;
+    drop(one);
+    drop(other);
+    Ok(first && second)
+}
+
+// A run has a thread for each of two sessions.
+#[test]
+fn a_run_serves_two_clients_at_once(rt: HostRuntime) {
+    assert!(rt; matches!(serves_two(&rt), Ok(true)));
 }

@@ -3,7 +3,7 @@ use ring_lines::DripOut;
 use std::alloc::{AllocError, Global};
 use std::io;
 use std::io::{Read, Write};
-use std::net::{Ipv4Addr, Net, OpenListener, SocketAddr, TcpListener, TcpStream};
+use std::net::{Ipv4Addr, Net, OpenListener, Shutdown, SocketAddr, TcpListener, TcpStream};
 
 /// A listener whose accept fails.
 #[derive(Drop)]
@@ -44,6 +44,20 @@ pub fn client<R: Net<Stream = TcpStream>>(
     let mut stream = rt.connect(address)?;
     stream.write_all(bytes)?;
     Ok(stream)
+}
+
+/// All replies to a client that sends these lines and ends its sending.
+pub fn replies_to<R>(rt: &R, address: SocketAddr, lines: &[u8]) -> io::Result<Vec<u8>>
+where
+    R: AllocGlobal + Net<Stream = TcpStream>,
+{
+    let mut client = client(rt, address, lines)?;
+    client.shutdown(Shutdown::Write)?;
+    let mut replies = Vec::new(rt.alloc());
+    let read = client.read_to_end(&mut replies);
+    drop(client);
+    read?;
+    Ok(replies)
 }
 
 /// So many clients, one after another, of which each has sent its number.

@@ -4,7 +4,7 @@ ghost use Rattle.std.specs.Prelude.{◌≤◌, All};
 use crate::memory::shared;
 use crate::telling::tells;
 use ring_any::Any;
-use ring_service::{Closing, Service, Waiting};
+use ring_service::{Closing, Service, StartFault, Waiting};
 use ring_table::{Access, LockedSeat, LockedTable, Table};
 use ring_workers::{Gate, Handed};
 use std::alloc::Global;
@@ -34,8 +34,7 @@ impl<A: Access<Any> + Drop> Model for Opened<A> {
     ghost invariant = { λ opened. A.has_seat opened.service opened.one × A.has_seat opened.service opened.other };
 }
 
-/// The service at an access, the last two of whose seats are the callers' and the others the workers'. None where
-/// memory is refused or a thread cannot be made.
+/// The service at an access, the last two of whose seats are the callers' and the others the workers'.
 pub fn open<A, G, R>(
     rt: &R,
     alloc: Global,
@@ -43,7 +42,7 @@ pub fn open<A, G, R>(
     seats: Vec<A::Seat>,
     inbox: usize,
     gate: Arc<G>,
-) -> Option<Opened<A>>
+) -> Result<Opened<A>, StartFault>
 where
     A: Access<Any> + Send + Sync + Drop + 'static,
     A::Seat: Send + 'static,
@@ -59,12 +58,12 @@ where
     assert!(rt; workers >= 1 && workers <= 8);
     let access = shared(rt, alloc, access);
     match Service::gated(rt, alloc, access, seats, workers, inbox, gate) {
-        Ok(service) => Some(Opened {
+        Ok(service) => Ok(Opened {
             service,
             one,
             other,
         }),
-        Err(_) => None,
+        Err(fault) => Err(fault),
     }
 }
 
@@ -89,15 +88,14 @@ pub struct Ended {
 }
 
 impl Ground {
-    /// A service with `workers` workers over a table without groups. `None` if memory is refused or a thread
-    /// cannot be made.
+    /// A service with `workers` workers over a table without groups.
     pub fn open<G, R>(
         rt: &R,
         alloc: Global,
         workers: usize,
         inbox: usize,
         gate: Arc<G>,
-    ) -> Option<Ground>
+    ) -> Result<Ground, StartFault>
     where
         G: Gate + Send + Sync + Drop + 'static,
         R: Abort + Threads + Wait + Clock + Copy + Send + Drop + 'static,
@@ -115,7 +113,7 @@ impl Ground {
         workers: usize,
         inbox: usize,
         gate: Arc<G>,
-    ) -> Option<Ground>
+    ) -> Result<Ground, StartFault>
     where
         G: Gate + Send + Sync + Drop + 'static,
         R: Abort + Threads + Wait + Clock + Copy + Send + Drop + 'static,
@@ -123,10 +121,10 @@ impl Ground {
         requires inbox { (1 ≤ inbox) × (inbox ≤ 65536) }
     {
         let Ok((table, seats)) = LockedTable::new(alloc, table, workers + 2) else {
-            return None;
+            return Err(StartFault::NoMemory);
         };
         match open(rt, alloc, table, seats, inbox, gate) {
-            Some(
+            Ok(
                 Opened {
                     service,
                     one: seat,
@@ -134,9 +132,9 @@ impl Ground {
                 },
             ) => {
                 drop(other);
-                Some(Ground { service, seat })
+                Ok(Ground { service, seat })
             }
-            None => None,
+            Err(fault) => Err(fault),
         }
     }
 

@@ -5,6 +5,8 @@
 #![tactic(auto)]
 
 #[cfg(test)]
+mod closing_rows;
+#[cfg(test)]
 mod election_rows;
 #[cfg(test)]
 mod grounds;
@@ -22,6 +24,10 @@ mod seat_rows;
 mod service_rows;
 #[cfg(test)]
 mod session_rows;
+#[cfg(test)]
+mod sharing_rows;
+#[cfg(test)]
+mod starved_rows;
 #[cfg(test)]
 mod table_rows;
 #[cfg(test)]

@@ -29,3 +29,24 @@ pub fn shared<T>(rt: &impl Abort, alloc: Global, value: T) -> Arc<T>
         Err(AllocFailed { value }) => Arc::new(alloc, value).expect(rt, TWICE),
     }
 }
+
+// Whether two texts begin alike, as far as the shorter one goes, which is not empty.
+fn begin_alike(one: &[u8], other: &[u8]) -> bool {
+    let len = one.len().min(other.len());
+    len > 0 && one[..len] == other[..len]
+}
+
+/// Whether a text of replies says that memory was refused, or its last line is cut and may go on so.
+pub fn tells_of_memory(text: &[u8]) -> bool {
+    let mut start = 0usize;
+    for at in 0..text.len() {
+        if text[at..].starts_with(b"no-memory") {
+            return true;
+        }
+        if text[at] == b'\n' {
+            start = at.saturating_add(1);
+        }
+    }
+    let last = text.get(start..).unwrap_or(text);
+    begin_alike(last, b"no no-memory") || begin_alike(last, b"drained ")
+}

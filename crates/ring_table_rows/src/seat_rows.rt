@@ -1,5 +1,5 @@
-//! Rows of one seat, by a turn lock and by a locked table: which places its calls get, and how many turns it has. What
-//! is refused memory is asked for once more.
+//! Rows of one seat, by a turn lock and by a locked table: which places its calls get. What is refused memory is asked for
+//! once more.
 ghost use Rattle.std.specs.Prelude.{◌≡◌, ◌*◌, ◌^◌, ◌<◌};
 
 use crate::memory::TWICE;
@@ -56,20 +56,6 @@ impl<A: Access<Any> + Drop> Bench<A> {
         };
         assert!(rt; is_spelled(rt, alloc, &answer, told));
         drop(answer);
-    }
-
-    // Whether a line of session 1 is answered so, with its place, where it is asked once.
-    fn is_told<R: Wait + Abort>(
-        &mut self,
-        rt: &R,
-        alloc: Global,
-        line: &[u8],
-        told: &[u8],
-    ) -> bool {
-        let answer = self.ask(rt, 1, line);
-        let is_told = is_spelled(rt, alloc, &answer, told);
-        drop(answer);
-        is_told
     }
 
     // A start of the group `a` is answered so, with its place: the charters.
@@ -203,23 +189,4 @@ fn each_entry_has_its_place(rt: HostRuntime) {
     drop(seat);
     let (seat, _again) = row(&rt, alloc, under_lock(&rt, alloc));
     drop(seat);
-}
-
-// Whether a seat with two turns has them, of which each call uses one. It hasn't where a call was refused memory, which
-// uses one too.
-fn has_two_turns<R: Wait + Abort>(rt: &R, alloc: Global) -> bool {
-    let mut bench = in_turn(rt, alloc, 2);
-    let created = bench.is_told(rt, alloc, b"create a chang", b"1 ok\n");
-    let early = bench.seat.is_spent();
-    let joined = bench.is_told(rt, alloc, b"join a 5", b"2 ok\n");
-    let spent = bench.seat.is_spent();
-    let refused = bench.is_told(rt, alloc, b"members a", b"- no seat-spent\n");
-    drop(bench);
-    created & joined & refused & spent & !early
-}
-
-#[test]
-fn a_seat_has_as_many_turns_as_it_was_given(rt: HostRuntime) {
-    let alloc = rt.alloc();
-    assert!(rt; has_two_turns(&rt, alloc) || has_two_turns(&rt, alloc));
 }

@@ -1,8 +1,8 @@
-//! Rows of services: what they answer, and what they leave that end or cannot be started. Where memory is refused to what
-//! a row needs besides, the test ends.
+//! Rows of services: what they answer, and what they leave that end. Where memory is refused, the test ends.
 
 use crate::grounds::{Ended, Ground};
 use crate::memory::shared;
+use crate::telling::{FIRST, FIRST_TOLD, SECOND, SECOND_TOLD};
 use ring_any::Any;
 use ring_election::RingElection;
 use ring_service::Service;
@@ -10,14 +10,6 @@ use ring_table::{Entry, LockedTable, Table};
 use ring_workers::OpenGate;
 use std::process::Abort;
 use std::sync::Arc;
-
-const FIRST: &[u8] = b"create a chang\njoin a 5\nstart a\nmembers a\ndrain a 1\n";
-
-const FIRST_TOLD: &[u8] = b"ok\nok\nterm 1\nmembers 5\nno bad-line\n";
-
-const SECOND: &[u8] = b"join a 5\ncut a 5 left\ngroups";
-
-const SECOND_TOLD: &[u8] = b"no member\nno bad-line\ngroups a\n";
 
 // How many calls stand in a history.
 fn calls<E: RingElection>(table: &Table<E>) -> usize {
@@ -46,17 +38,16 @@ fn a_service_answers_each_line_and_hands_over(rt: HostRuntime) {
     drop(ended);
 }
 
-// Starts a service and closes it, or is told why it can't be started: nothing of it is left to share the table.
+// Starts a service and closes it: nothing of it is left to share the table.
 #[test]
-fn a_service_that_ends_or_cannot_start_leaves_nothing(rt: HostRuntime) {
+fn a_service_that_ends_leaves_nothing(rt: HostRuntime) {
     let alloc = rt.alloc();
     let made = LockedTable::new(alloc, Table::<Any>::new(alloc), 3);
     let (table, seats) = made.expect(&rt, "no table");
     assert!(rt; seats.len() == 3);
     let access = shared(&rt, alloc, table);
     let copy = Arc::try_clone(&access).expect(&rt, "no copy");
-    if let Ok(service) = Service::new(&rt, alloc, copy, seats, 3, 1) {
-        drop(service.close(&rt));
-    }
+    let service = Service::new(&rt, alloc, copy, seats, 3, 1);
+    drop(service.expect(&rt, "no service").close(&rt));
     drop(Arc::into_inner(access).expect(&rt, "something shares the table still"));
 }

@@ -1,9 +1,11 @@
-//! Rows of sessions: what each line is answered, at the end of the input and at a fault.
+//! Rows of sessions over ends of one byte for each call: what each line is answered, at the end of the input and at a
+//! fault. Each session runs twice, over these ends themselves and over them as a reader and a writer of std. One that is
+//! refused memory runs once more.
 
 use crate::grounds::Ground;
-use crate::memory::shared;
-use crate::telling::ShutGate;
-use ring_lines::{DripIn, DripOut, LineFault};
+use crate::memory::{TWICE, shared, tells_of_memory};
+use crate::telling::{FIRST, FIRST_TOLD, ShutGate};
+use ring_lines::{DripIn, DripOut, FromRead, Intake, LineFault, Outlet, ToWrite};
 use std::alloc::Global;
 use std::process::Abort;
 use std::sync::Wait;
@@ -12,60 +14,144 @@ use std::time::Clock;
 
 const LINES: &[u8] = b"create a chang\njoin a 5\nstart a\nwho a 5\n";
 
-/// A session over ends of one byte for each call: the calls of these numbers fail, and so many read calls are
-/// granted.
+/// The input of a session and the calls of its ends: those of these numbers fail, a read and a write, and so many read
+/// calls are granted.
 #[derive(Clone, Copy)]
-struct Drip {
+struct Drip<'a> {
+    lines: &'a [u8],
     faults: [u64; 2],
     reads: u32,
+}
+
+/// How a session came out.
+#[derive(Clone, Copy, PartialEq, Eq)]
+enum Came {
+    /// As it must.
+    Right,
+    /// It was refused memory, or may have been.
+    Refused,
+    /// Otherwise.
+    Wrong,
 }
 
 // A writer that fails at the call with this number. Asked for once more where memory was refused.
 fn writer(rt: &impl Abort, alloc: Global, fault_at: u64) -> DripOut {
     match DripOut::new(alloc, 100, fault_at) {
         Ok(writer) => writer,
-        Err(_) => DripOut::new(alloc, 100, fault_at).expect(rt, "memory was refused twice"),
+        Err(_) => DripOut::new(alloc, 100, fault_at).expect(rt, TWICE),
     }
 }
 
-// Whether such a session comes to this answer and these replies. The worker does nothing. It doesn't where memory is
-// refused.
+// What a session over these ends is answered, by a service of its own whose worker does nothing. Refused memory where
+// that service is.
+fn served<R, I: Intake, O: Outlet>(
+    rt: &R,
+    alloc: Global,
+    reader: &mut I,
+    writer: &mut O,
+    reads: u32,
+) -> Result<u64, LineFault>
+where
+    R: Abort + Threads + Wait + Clock + Copy + Send + Drop + 'static,
+{
+    let Ok(mut ground) = Ground::open(rt, alloc, 1, 64, shared(rt, alloc, ShutGate)) else {
+        return Err(LineFault::NoMemory);
+    };
+    let (front, seat) = (ground.service.front(), &mut ground.seat);
+    let served = front.serve(rt, seat, 1, reader, writer, reads);
+    drop(ground.end(rt));
+    served
+}
+
+// How a session came out that was answered so and told this.
+fn outcome(
+    answer: Result<u64, LineFault>,
+    told: &[u8],
+    wanted: Result<u64, LineFault>,
+    replies: &[u8],
+) -> Came {
+    if answer == wanted && told == replies {
+        return Came::Right;
+    }
+    if answer == Err(LineFault::NoMemory) || tells_of_memory(told) {
+        return Came::Refused;
+    }
+    Came::Wrong
+}
+
+// How such a session comes out by the ends themselves, and, where that is right, by a reader and a writer of std.
 fn comes<R>(
     rt: &R,
     alloc: Global,
     drip: Drip,
-    answer: Result<u64, LineFault>,
+    wanted: Result<u64, LineFault>,
     replies: &[u8],
-) -> bool
+) -> Came
 where
     R: Abort + Threads + Wait + Clock + Copy + Send + Drop + 'static,
 {
-    let Some(mut ground) = Ground::open(rt, alloc, 1, 64, shared(rt, alloc, ShutGate)) else {
-        return false;
-    };
-    let mut writer = writer(rt, alloc, drip.faults[1]);
-    let mut reader = DripIn::new(LINES, drip.faults[0]);
-    let (front, seat) = (ground.service.front(), &mut ground.seat);
-    let served = front.serve(rt, seat, 1, &mut reader, &mut writer, drip.reads);
-    drop(ground.end(rt));
-    let comes = served == answer && writer.taken() == replies;
-    drop(writer);
-    comes
+    let mut out = writer(rt, alloc, drip.faults[1]);
+    let mut reader = DripIn::new(drip.lines, drip.faults[0]);
+    let answer = served(rt, alloc, &mut reader, &mut out, drip.reads);
+    let first = outcome(answer, out.taken(), wanted, replies);
+    drop(out);
+    if first != Came::Right {
+        return first;
+    }
+    let mut out = ToWrite(writer(rt, alloc, drip.faults[1]));
+    let mut reader = FromRead(DripIn::new(drip.lines, drip.faults[0]));
+    let answer = served(rt, alloc, &mut reader, &mut out, drip.reads);
+    let second = outcome(answer, out.0.taken(), wanted, replies);
+    drop(out);
+    second
 }
 
-// The same, tried again where memory is refused.
-fn assert_comes<R>(rt: &R, drip: Drip, answer: Result<u64, LineFault>, replies: &[u8])
+// Such a session is answered so and told this.
+fn assert_comes<R>(rt: &R, drip: Drip, wanted: Result<u64, LineFault>, replies: &[u8])
 where
     R: Abort + AllocGlobal + Threads + Wait + Clock + Copy + Send + Drop + 'static,
 {
-    let alloc = rt.alloc();
-    let first = comes(rt, alloc, drip, answer, replies);
-    assert!(rt; first || comes(rt, alloc, drip, answer, replies));
+    let mut came = comes(rt, rt.alloc(), drip, wanted, replies);
+    if came == Came::Refused {
+        came = comes(rt, rt.alloc(), drip, wanted, replies);
+    }
+    assert!(rt; came == Came::Right);
+}
+
+// The first bytes of a text.
+fn front(text: &[u8], len: usize) -> &[u8] {
+    text.get(..len).unwrap_or(text)
+}
+
+// How many lines end in a text.
+fn lines_in(text: &[u8]) -> usize {
+    let mut count = 0usize;
+    for byte in text {
+        if *byte == b'\n' {
+            count = count.saturating_add(1);
+        }
+    }
+    count
+}
+
+// The first lines of a text.
+fn first_lines(text: &[u8], count: usize) -> &[u8] {
+    let mut ended = 0usize;
+    for len in 0..text.len() {
+        if ended == count {
+            return &text[..len];
+        }
+        if text[len] == b'\n' {
+            ended = ended.saturating_add(1);
+        }
+    }
+    text
 }
 
 #[test]
 fn a_session_counts_its_lines(rt: HostRuntime) {
     let whole = Drip {
+        lines: LINES,
         faults: [0, 0],
         reads: 1000,
     };
@@ -74,12 +160,46 @@ fn a_session_counts_its_lines(rt: HostRuntime) {
 }
 
 #[test]
-fn a_session_tells_which_end_failed(rt: HostRuntime) {
-    for (faults, reads, fault, replies) in [
-        ([20, 0], 1000, LineFault::Read, b"ok\n".as_slice()),
-        ([0, 5], 1000, LineFault::Write, b"ok\no".as_slice()),
-        ([0, 0], 15, LineFault::Endless, b"ok\n".as_slice()),
-    ] {
-        assert_comes(&rt, Drip { faults, reads }, Err(fault), replies);
+fn a_session_ends_after_its_reads(rt: HostRuntime) {
+    let few = Drip {
+        lines: LINES,
+        faults: [0, 0],
+        reads: 15,
+    };
+    assert_comes(&rt, few, Err(LineFault::Endless), b"ok\n");
+}
+
+#[test]
+fn a_failed_read_ends_a_session_at_its_last_whole_line(rt: HostRuntime) {
+    for call in 1..55u64 {
+        let drip = Drip {
+            lines: FIRST,
+            faults: [call, 0],
+            reads: 1000,
+        };
+        if call == 54 {
+            assert_comes(&rt, drip, Ok(5), FIRST_TOLD);
+        } else {
+            let ended = lines_in(front(FIRST, call as usize - 1));
+            let told = first_lines(FIRST_TOLD, ended);
+            assert_comes(&rt, drip, Err(LineFault::Read), told);
+        }
+    }
+}
+
+#[test]
+fn a_failed_write_ends_a_session_with_a_front_of_its_replies(rt: HostRuntime) {
+    for call in 1..37u64 {
+        let drip = Drip {
+            lines: FIRST,
+            faults: [0, call],
+            reads: 1000,
+        };
+        if call == 36 {
+            assert_comes(&rt, drip, Ok(5), FIRST_TOLD);
+        } else {
+            let told = front(FIRST_TOLD, call as usize - 1);
+            assert_comes(&rt, drip, Err(LineFault::Write), told);
+        }
     }
 }

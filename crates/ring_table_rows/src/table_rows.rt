@@ -54,11 +54,8 @@ fn starts<E: RingElection>(
     charters
 }
 
-// Starts the term of one member after a start that is refused and has no charter: the node that it elects.
+// Starts the term of one member: the node that it elects.
 fn begin(rt: &impl Abort, alloc: Global, table: &mut Table<Any>) -> Node<Any> {
-    let none = starts(rt, alloc, table, b"no no-group\n");
-    assert!(rt; none.is_empty());
-    drop(none);
     tells(rt, alloc, table, 1, b"create a chang", b"ok\n");
     tells(rt, alloc, table, 1, b"join a 7", b"ok\n");
     let two = starts(rt, alloc, table, b"term 1\n");
@@ -107,9 +104,29 @@ fn file(rt: &impl Abort, alloc: Global, table: &mut Table<Any>, node: &Node<Any>
 fn every_call_and_report_is_an_entry(rt: HostRuntime) {
     let alloc = rt.alloc();
     let mut table = Table::new(alloc);
+    let none = starts(&rt, alloc, &mut table, b"no no-group\n");
+    assert!(rt; none.is_empty());
+    drop(none);
     let node = begin(&rt, alloc, &mut table);
     file(&rt, alloc, &mut table, &node);
     assert!(rt; table.history().len() == 9);
     drop(node);
+    drop(table);
+}
+
+#[test]
+fn a_report_is_news_once(rt: HostRuntime) {
+    let alloc = rt.alloc();
+    let mut table = Table::new(alloc);
+    let node = begin(&rt, alloc, &mut table);
+    let report = told_by(&rt, &node);
+    drop(node);
+    files(&rt, &mut table, &report, Filed::Noted);
+    files(&rt, &mut table, &report, Filed::Known);
+    tells(&rt, alloc, &mut table, 2, b"who a 7", b"leader 1 7\n");
+    tells(&rt, alloc, &mut table, 1, b"start a", b"term 2\n");
+    files(&rt, &mut table, &report, Filed::Stale);
+    drop(report);
+    assert!(rt; table.history().len() == 8);
     drop(table);
 }

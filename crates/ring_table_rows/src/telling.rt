@@ -1,6 +1,8 @@
 //! What the rows of both accesses share: what a session is told, and the nodes that workers hand over. Where memory is
 //! refused, the test ends.
 
+ghost use Rattle.std.specs.Prelude.{◌≤◌, ◌^◌};
+
 use ring_any::Any;
 use ring_election::RingElection;
 use ring_id::NodeId;
@@ -44,15 +46,36 @@ pub fn tells_placed<R: Abort + Wait, A: Access<Any> + Drop>(
     lines: &[u8],
     told: &[u8],
 )
-    requires { A.has_seat front.now seat.old }
+    requires seat { A.has_seat front.now seat.old }
+    requires most { A.most ≤ 2 ^ 64 }
     ensures { A.has_seat front.now seat.new }
 {
     let mut writer = ToWrite(Vec::new(alloc));
-    let served = front.serve_placed(rt, seat, session, &mut FromRead(lines), &mut writer, 1000);
+    let served = front.serve_placed(
+        rt,
+        seat,
+        0,
+        session,
+        &mut FromRead(lines),
+        &mut writer,
+        1000,
+    );
     assert!(rt; served.is_ok());
     assert!(rt; writer.0.as_slice() == told);
     drop(writer);
 }
+
+/// The lines of a first session, of which a session doesn't know the last one.
+pub const FIRST: &[u8] = b"create a chang\njoin a 5\nstart a\nmembers a\ndrain a 1\n";
+
+/// What they are told.
+pub const FIRST_TOLD: &[u8] = b"ok\nok\nterm 1\nmembers 5\nno bad-line\n";
+
+/// The lines of a second session.
+pub const SECOND: &[u8] = b"join a 5\ncut a 5 left\ngroups";
+
+/// What they are told.
+pub const SECOND_TOLD: &[u8] = b"no member\nno bad-line\ngroups a\n";
 
 /// A text so many times.
 pub fn repeated(rt: &impl Abort, alloc: Global, text: &[u8], times: u32) -> Vec<u8> {

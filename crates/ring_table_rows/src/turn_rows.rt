@@ -1,28 +1,28 @@
-//! Rows of a service over a turn lock: when a seat is spent, that two sessions share its table, and that two workers
-//! decide a term in turn. Where memory is refused, the test ends.
-ghost use Rattle.std.specs.Prelude.{◌<◌, ◌≤◌};
+//! Rows of a service over a turn lock: what two sessions are told, when a seat is spent, and that two workers decide a term in
+//! turn. Where memory is refused, the test ends.
+ghost use Rattle.std.specs.Prelude.{◌<◌, ◌≤◌, ◌^◌};
 
 use crate::grounds::{Opened, open};
 use crate::meetings::{Meeting, new_meeting, reaches};
 use crate::memory::shared;
 use crate::telling::{
-    FOUR, FOUR_ITEMS, FOUR_TOLD, ShutGate, all_know_two, nodes_of, repeated, tells, tells_placed,
+    FIRST, FIRST_TOLD, FOUR, FOUR_ITEMS, FOUR_TOLD, SECOND, SECOND_TOLD, ShutGate, all_know_two,
+    nodes_of, tells, tells_placed,
 };
 use ring_any::Any;
 use ring_node::Node;
-use ring_service::{Closing, Front};
+use ring_service::Closing;
 use ring_table::{Access, Filed, Table};
 use ring_turn::TurnLock;
 use ring_workers::Gate;
 use std::alloc::Global;
 use std::process::Abort;
 use std::sync::{Arc, Wait};
-use std::thread;
 use std::thread::Threads;
 use std::time::Clock;
 
-// A service with two workers over a turn lock, each of whose seats has so many turns.
-fn open_in_turn<G, R>(
+/// A service with two workers over a turn lock, each of whose seats has so many turns.
+pub fn open_in_turn<G, R>(
     rt: &R,
     alloc: Global,
     turns: u64,
@@ -40,6 +40,33 @@ where
     open(rt, alloc, lock, seats, inbox, gate).expect(rt, "no service")
 }
 
+// Two sessions, one after the other, by one seat.
+fn tell_two<R, A>(rt: &R, alloc: Global, opened: Opened<A>)
+where
+    R: Abort + Threads + Wait,
+    A: Access<Any> + Send + Sync + Drop + 'static,
+    A::Seat: Send + 'static,
+{
+    let Opened {
+        service,
+        mut one,
+        other,
+    } = opened;
+    drop(other);
+    let front = service.front();
+    tells(rt, alloc, front, &mut one, 1, FIRST, FIRST_TOLD);
+    tells(rt, alloc, front, &mut one, 2, SECOND, SECOND_TOLD);
+    drop(one);
+    drop(service.close(rt));
+}
+
+#[test]
+fn a_second_session_finds_what_the_first_one_left(rt: HostRuntime) {
+    let alloc = rt.alloc();
+    let gate = shared(&rt, alloc, ShutGate);
+    tell_two(&rt, alloc, open_in_turn(&rt, alloc, 100, 64, gate));
+}
+
 const SPENDING: &[u8] = b"create a chang\njoin a 5\nmembers a\nstart a\n";
 
 const SPENT_TOLD: &[u8] = b"ok\nok\nno seat-spent\nno seat-spent\n";
@@ -54,6 +81,7 @@ where
     R: Abort + Threads + Wait,
     A: Access<Any> + Send + Sync + Drop + 'static,
     A::Seat: Send + 'static,
+    requires { A.most ≤ 2 ^ 64 }
 {
     let Opened {
         service,
@@ -73,110 +101,6 @@ fn a_spent_seat_is_told_so(rt: HostRuntime) {
     let alloc = rt.alloc();
     let gate = shared(&rt, alloc, ShutGate);
     spend(&rt, alloc, open_in_turn(&rt, alloc, 2, 64, gate));
-}
-
-// The lines by which a hundred identities from a number on join the group `a`.
-fn joins(rt: &impl Abort, alloc: Global, from: u32) -> Vec<u8> {
-    let mut lines = Vec::new(alloc);
-    for number in from..from.saturating_add(100) {
-        let line = format!(in alloc; "join a {number}\n").expect(rt, "no memory");
-        lines
-            .extend_from_slice(line.as_bytes())
-            .expect(rt, "no memory");
-        drop(line);
-    }
-    lines
-}
-
-// A session over memory by a seat, which is told this: the seat.
-fn told_by<R: Abort + Wait, A: Access<Any> + Drop>(
-    rt: &R,
-    alloc: Global,
-    front: &Front<A>,
-    seat: A::Seat,
-    session: u32,
-    lines: &[u8],
-    told: &[u8],
-) -> A::Seat
-    requires { A.has_seat front.now seat }
-    ensures { A.has_seat front.now result }
-{
-    let mut seat = seat;
-    tells(rt, alloc, front, &mut seat, session, lines, told);
-    seat
-}
-
-// Two sessions in two threads, each of which is told this in each line. What is left is the first one's seat.
-fn two_sessions<R, A>(
-    rt: &R,
-    alloc: Global,
-    front: &Front<A>,
-    seats: (A::Seat, A::Seat),
-    lines: (&[u8], &[u8]),
-    told: &[u8],
-) -> A::Seat
-where
-    R: Abort + Threads + Wait + Sync,
-    A: Access<Any> + Send + Sync + Drop,
-    A::Seat: Send,
-    requires { A.has_seat front.now seats.0 × A.has_seat front.now seats.1 }
-    ensures { A.has_seat front.now result }
-{
-    let (one, other) = seats;
-    let (low, high) = lines;
-    let (one, other) = thread::join(
-        rt,
-        || -> A::Seat
-            requires { A.has_seat front.now one }
-        { told_by(rt, alloc, front, one, 1, low, told) },
-        || -> A::Seat
-            requires { A.has_seat front.now other }
-        { told_by(rt, alloc, front, other, 2, high, told) },
-    );
-    drop(other);
-    one
-}
-
-// Two sessions in two threads, in which a hundred identities join each: each line is told that it is done, and there are
-// no other entries.
-fn share<R, A>(rt: &R, alloc: Global, opened: Opened<A>, lines: (&[u8], &[u8]), told: &[u8])
-where
-    R: Abort + Threads + Wait + Sync,
-    A: Access<Any> + Send + Sync + Drop + 'static,
-    A::Seat: Send + 'static,
-{
-    let Opened {
-        service,
-        mut one,
-        other,
-    } = opened;
-    let front = service.front();
-    tells(rt, alloc, front, &mut one, 1, b"create a chang\n", b"ok\n");
-    let mut one = two_sessions(rt, alloc, front, (one, other), lines, told);
-    tells_placed(
-        rt,
-        alloc,
-        front,
-        &mut one,
-        3,
-        b"groups\n",
-        b"202 groups a\n",
-    );
-    drop(one);
-    drop(service.close(rt));
-}
-
-#[test]
-fn two_sessions_share_a_table(rt: HostRuntime) {
-    let alloc = rt.alloc();
-    let (low, high) = (joins(&rt, alloc, 1), joins(&rt, alloc, 101));
-    let told = repeated(&rt, alloc, b"ok\n", 100);
-    let gate = shared(&rt, alloc, ShutGate);
-    let opened = open_in_turn(&rt, alloc, 200, 1, gate);
-    share(&rt, alloc, opened, (&low, &high), &told);
-    drop(low);
-    drop(high);
-    drop(told);
 }
 
 // The reports of all nodes are known already.

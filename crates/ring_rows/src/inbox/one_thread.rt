@@ -38,6 +38,24 @@ fn a_full_inbox_gives_back_and_an_empty_one_has_nothing(rt: HostRuntime) {
 }
 
 #[test]
+fn an_inbox_of_one_item_is_full_for_each_sender(rt: HostRuntime) {
+    let opened = inbox::<u64>(rt.alloc(), 1, 2);
+    let (mut receiver, mut senders) = opened.expect(&rt, "no memory");
+    let mut second = senders.pop().expect(&rt, "an inbox of two senders");
+    let mut first = senders.pop().expect(&rt, "an inbox of two senders");
+    equal(&rt, "none", receiver.try_take(&rt), TryTake::Empty);
+    equal(&rt, "room for one", first.put(&rt, 7), Put::Stored);
+    equal(&rt, "no room", second.put(&rt, 8), Put::Full(8));
+    equal(&rt, "the first", receiver.take(&rt), Take::Taken(0, 7));
+    equal(&rt, "room again", second.put(&rt, 8), Put::Stored);
+    equal(&rt, "the second", receiver.take(&rt), Take::Taken(1, 8));
+    drop(receiver);
+    drop(senders);
+    drop(first);
+    drop(second);
+}
+
+#[test]
 fn a_call_says_that_the_other_end_is_gone(rt: HostRuntime) {
     let (mut receiver, mut sender) = alone::<u64>(&rt, rt.alloc());
     equal(&rt, "room", sender.put(&rt, 5), Put::Stored);

@@ -120,6 +120,52 @@ impl<R: Clock> Gate for Meeting<R> {
     }
 }
 
+/// Lets each item pass, and counts how often it is told the worker's own number, and how often another.
+#[derive(Drop)]
+pub struct Counting {
+    number: usize,
+    own: AtomicU64,
+    others: AtomicU64,
+}
+
+impl Counting {
+    /// The gate of the worker of this number.
+    pub fn new(number: usize) -> Counting {
+        Counting {
+            number,
+            own: AtomicU64::new(0),
+            others: AtomicU64::new(0),
+        }
+    }
+
+    /// How often it was told the worker's own number, and how often another.
+    pub fn told(&self) -> (u64, u64) {
+        (
+            self.own.load(Ordering::SeqCst),
+            self.others.load(Ordering::SeqCst),
+        )
+    }
+
+    fn count(&self, worker: usize) {
+        if worker == self.number {
+            self.own.fetch_add(1, Ordering::SeqCst);
+        } else {
+            self.others.fetch_add(1, Ordering::SeqCst);
+        }
+    }
+}
+
+impl Gate for Counting {
+    fn enter(&self, worker: usize, _turn: u64) -> Pass {
+        self.count(worker);
+        Pass::Go
+    }
+
+    fn leave(&self, worker: usize, _turn: u64) {
+        self.count(worker);
+    }
+}
+
 /// Answers each report alike.
 #[derive(Drop)]
 pub struct Answers(pub Filed);

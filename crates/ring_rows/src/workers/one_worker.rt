@@ -2,12 +2,12 @@
 //! ends.
 
 use crate::equal::equal;
-use crate::workers::courses::{Comes, Course, End, Run, ran, why_alone};
-use crate::workers::gates::Until;
-use crate::workers::items::Ring;
+use crate::workers::courses::{Comes, Course, End, Place, Run, ran, why_alone, worked};
+use crate::workers::gates::{Counting, Until};
+use crate::workers::items::{Ring, stores};
 use ring_chang::Chang;
 use ring_id::Refusal;
-use ring_workers::{Filed, Why};
+use ring_workers::{Filed, Item, Why};
 use ring_world::Settlement;
 use std::alloc::Global;
 use std::process::Abort;
@@ -122,6 +122,19 @@ fn a_packet_seats_its_receiver_first(rt: HostRuntime) {
         settlement: Settlement::Incomplete,
     };
     comes_to(&rt, rt.alloc(), &course, RING, end);
+}
+
+/// Each of the two calls is about the worker that took the item.
+#[test]
+fn the_gate_is_told_the_workers_own_number(rt: HostRuntime) {
+    let mut place = Place::<Chang>::opened(&rt, rt.alloc(), 1, 3);
+    let mut own = place.senders.pop().expect(&rt, "three passes");
+    assert!(&rt; stores(&rt, &mut own, Item::Stop));
+    let gate = Counting::new(1);
+    let handed = worked(&rt, rt.alloc(), 1, place, &gate, Filed::Noted);
+    equal(&rt, "what the gate was told", gate.told(), (2, 0));
+    drop(handed);
+    drop(own);
 }
 
 #[test]

@@ -35,6 +35,12 @@ fn is_whole_or_starved(end: &End) -> bool {
     end.dropped == 0 && end.settlement == wanted
 }
 
+/// Whether a worker that was refused memory in the middle of the charter has each node that it had seated by then: of
+/// each the one packet waits that a node of LeLann's sends when it is seated.
+fn has_what_it_seated(end: &End) -> bool {
+    end.nodes == RING.1.len() || end.nodes == end.outbox
+}
+
 /// Whether what this node received begins what the node at its position received.
 fn begins_its_peer(node: &Node<LeLann>, whole: &[Node<LeLann>]) -> bool {
     for peer in whole {
@@ -50,6 +56,7 @@ fn is_first_part(rt: &impl Abort, part: &Run<LeLann>, whole: &Run<LeLann>) {
     equal(rt, "why the whole run ended", whole.end.why, Why::Stopped);
     assert!(rt; is_whole_or_starved(&whole.end));
     assert!(rt; is_whole_or_starved(&part.end));
+    assert!(rt; has_what_it_seated(&part.end));
     for node in &part.nodes {
         assert!(rt; begins_its_peer(node, &whole.nodes));
     }

@@ -1,5 +1,5 @@
 use Rattle.ring_turn.proofs.Sharing.{table_sync}
-use Rattle.ring_table_rows.proofs.turn_rows.two_sessions_share_a_table.Goals as goal
+use Rattle.ring_table_rows.proofs.sharing_rows.two_sessions_share_a_table.Goals as goal
 
 -- the lock may be shared among threads
 pub share-requires-sync-A : goal.share-requires-sync-A

@@ -1,0 +1,136 @@
+ghost use Rattle.std.specs.Prelude.{◌≡◌, length, IfSome};
+ghost use Rattle.ring_journal.specs.Memories.{memory_kept, memory_text};
+
+use crate::trial::{NoClients, client, listener, out_failing_at};
+use ring_config::Config;
+use ring_journal::{Batch, Fault, Medium, MemoryMedium};
+use ring_recovery::{Alarm, Recovered, recover};
+use ring_server::{JournalFault, Limits, ProgramFault, Resumed, resume_loop};
+use std::alloc::Global;
+use std::io::Read;
+use std::net::{Net, OpenListener, TcpListener, TcpStream};
+use std::sync::{Arc, Wait};
+use std::thread::Threads;
+use std::time::{Clock, Duration};
+
+// A service of two workers.
+const CONFIG: Config = Config {
+    workers: 2,
+    inbox: 1024,
+    port: 80,
+};
+
+// A medium whose syncs fail.
+#[derive(Drop)]
+struct UnsyncedMedium {
+    memory: MemoryMedium,
+}
+
+impl Medium for UnsyncedMedium {
+    ghost use Rattle.ring_journal.specs.Memories.{memory_kept, memory_text};
+
+    ghost moment = { λ m. record { text = memory_text m.memory; kept = memory_kept m.memory } };
+
+    fn append(&mut self, batch: &Batch) -> Result<(), Fault> {
+        self.memory.append(batch)
+    }
+
+    fn sync(&mut self) -> Result<(), Fault> {
+        Err(Fault::Failed)
+    }
+}
+
+// A table without groups over a medium whose syncs fail.
+fn unsynced(alloc: Global) -> Option<Resumed<UnsyncedMedium>> {
+    let recovered = recover(alloc, Vec::new(alloc)).ok()?;
+    let alarm = Arc::new(alloc, Alarm::new()).ok()?;
+    let bell = Arc::try_clone(&alarm).ok()?;
+    let charters = recovered.charters(alloc).ok()?;
+    let medium = medium_of(alloc, &recovered)?;
+    let life = recovered.life();
+    Some(Resumed {
+        table: recovered.open(alloc, medium, bell),
+        charters,
+        alarm,
+        life,
+    })
+}
+
+// Such a medium, which holds the text of a recovered table.
+fn medium_of(alloc: Global, recovered: &Recovered) -> Option<UnsyncedMedium>
+    ensures text { IfSome result (λ medium. memory_text medium.memory ≡ recovered.now.text) }
+    ensures kept { IfSome result (λ medium. memory_kept medium.memory ≡ length recovered.now.text) }
+{
+    let text = recovered.text().bytes().to_vec(alloc).ok()?;
+    Some(UnsyncedMedium {
+        memory: MemoryMedium::new(text),
+    })
+}
+
+// Runs over such a table with so many sessions at a time. Returns whether it ends so after this was
+// told.
+fn ends<R, L>(
+    rt: &R,
+    listener: L,
+    sessions: u32,
+    fault_at: u64,
+    told: &[u8],
+    wanted: Result<(), ProgramFault>,
+) -> Option<bool>
+where
+    R: AllocGlobal + Threads + Wait + Eprint + Clock + Copy + Send + Sync + Drop + 'static,
+    L: OpenListener<Stream = TcpStream> + Send + Drop + 'static,
+{
+    let limits = Limits {
+        sessions,
+        idle: 0,
+        places: false,
+    };
+    let mut out = out_failing_at(rt.alloc(), fault_at).ok()?;
+    let resumed = unsynced(rt.alloc())?;
+    let ran = resume_loop(rt, listener, &CONFIG, limits, resumed, &mut out);
+    let ends = ran == wanted && out.taken() == told;
+    drop(out);
+    Some(ends)
+}
+
+#[test]
+fn a_resumed_run_says_that_it_listens(rt: HostRuntime) {
+    let line = b"listening 127.0.0.1:80\n";
+    assert!(rt; ends(&rt, NoClients, 0, 0, line, Ok(())) == Some(true));
+    let refused = Err(ProgramFault::Write);
+    assert!(rt; ends(&rt, NoClients, 0, 5, b"list", refused) == Some(true));
+}
+
+// Whether a client that creates a group gets no reply, and the run ends by its journal's fault.
+fn ends_without_a_reply<R>(rt: &R) -> Option<bool>
+where
+    R: AllocGlobal
+        + Threads
+        + Wait
+        + Eprint
+        + Clock
+        + Copy
+        + Send
+        + Sync
+        + Drop
+        + 'static
+        + Net<Stream = TcpStream, Listener = TcpListener>,
+{
+    let (listener, address) = listener(rt).ok()?;
+    let mut client = client(rt, address, b"create a chang\n").ok()?;
+    client
+        .set_read_timeout(Some(Duration::from_millis(300)))
+        .ok()?;
+    let failed = Err(ProgramFault::Journal(JournalFault::Failed));
+    let ends = ends(rt, listener, 1, 0, b"listening 127.0.0.1:80\n", failed)?;
+    let mut reply = [0];
+    let has_none = client.read(&mut reply).is_err();
+    drop(client);
+    Some(ends && has_none)
+}
+
+#[test]
+fn a_failed_journal_ends_the_run_without_a_reply(rt: HostRuntime) {
+    assert!(rt; ends_without_a_reply(&rt) == Some(true));
+}

@@ -1,0 +1,205 @@
+//! Rows of a turn lock with one seat, which is closed: which places the seat's calls get, how many turns it has, and how many
+//! entries the table has then.
+ghost use Rattle.std.specs.Prelude.{◌≡◌, ◌^◌, ◌<◌, []};
+ghost use Rattle.ring_turn.specs.Seats.{IsSameSeat, fresh_seats};
+
+use crate::memory::{TWICE, with_room};
+use crate::rings_of_one::{elect, is_spelled, told_by};
+use ring_any::Any;
+use ring_id::{GroupName, Refusal};
+use ring_lines::parse_command;
+use ring_node::{Charter, Report};
+use ring_table::{Answer, Filed, Table};
+use ring_turn::{Seat, TurnLock};
+use std::alloc::Global;
+use std::process::Abort;
+use std::sync::{Arc, Wait};
+
+// A turn lock over a table without groups, and its one seat, which has so many turns.
+fn opened(rt: &impl Abort, alloc: Global, turns: u64) -> (TurnLock<Any>, Vec<Seat<Any>>)
+    requires turns { (0 < turns) × (turns < 2 ^ 64) }
+    ensures one { result.0.seats ≡ 1 }
+    ensures seats { result.1.items ≡ fresh_seats result.0.id turns [] 1 }
+{
+    match TurnLock::new(alloc, Table::new(alloc), 1, turns) {
+        Ok(opened) => opened,
+        Err(_) => TurnLock::new(alloc, Table::new(alloc), 1, turns).expect(rt, TWICE),
+    }
+}
+
+// How many entries the table of a lock has that is closed with its one seat.
+fn entries_of(rt: &impl Abort, alloc: Global, lock: TurnLock<Any>, seat: Seat<Any>) -> usize
+    requires { (lock.seats ≡ 1) × (seat.lock ≡ lock.id) × (seat.number ≡ 0) }
+{
+    let mut all = with_room(rt, alloc, 1);
+    all.push_reserved(seat);
+    let table = lock.close(all);
+    let entries = table.history().len();
+    drop(table);
+    entries
+}
+
+// What is answered to a line of a session.
+fn ask<R: Wait + Abort>(
+    rt: &R,
+    lock: &TurnLock<Any>,
+    seat: &mut Seat<Any>,
+    session: u32,
+    line: &[u8],
+) -> Answer
+    requires { seat.old.lock ≡ lock.now.id }
+    ensures { IsSameSeat seat.old seat.new }
+{
+    let command = parse_command(line).expect(rt, "no command");
+    lock.call(rt, seat, session, command)
+}
+
+// A line of a session is answered so, with its place, though it may be refused memory once.
+fn tells<R: Wait + Abort>(
+    rt: &R,
+    alloc: Global,
+    lock: &TurnLock<Any>,
+    seat: &mut Seat<Any>,
+    line: (u32, &[u8]),
+    told: &[u8],
+)
+    requires { seat.old.lock ≡ lock.now.id }
+    ensures { IsSameSeat seat.old seat.new }
+{
+    let answer = match ask(rt, lock, seat, line.0, line.1) {
+        Answer::Unplaced(Refusal::NoMemory) => ask(rt, lock, seat, line.0, line.1),
+        answer => answer,
+    };
+    assert!(rt; is_spelled(rt, alloc, &answer, told));
+    drop(answer);
+}
+
+// The charter of the term of the group `a` that starts at the third place.
+fn starts<R: Wait + Abort>(
+    rt: &R,
+    alloc: Global,
+    lock: &TurnLock<Any>,
+    seat: &mut Seat<Any>,
+) -> Vec<Arc<Charter<Any>>>
+    requires { seat.old.lock ≡ lock.now.id }
+    ensures { IsSameSeat seat.old seat.new }
+{
+    let group = GroupName::from_bytes(b"a").expect(rt, "no name");
+    let (answer, charters) = match lock.begin(rt, seat, 1, group, 1) {
+        (Answer::Unplaced(Refusal::NoMemory), _) => lock.begin(rt, seat, 1, group, 1),
+        started => started,
+    };
+    assert!(rt; is_spelled(rt, alloc, &answer, b"3 term 1\n"));
+    drop(answer);
+    charters
+}
+
+// This becomes of a report, though it may be refused memory once.
+fn files<R: Wait + Abort>(
+    rt: &R,
+    lock: &TurnLock<Any>,
+    seat: &mut Seat<Any>,
+    report: &Report<Any>,
+    became: Filed,
+)
+    requires { seat.old.lock ≡ lock.now.id }
+    ensures { IsSameSeat seat.old seat.new }
+{
+    let filed = match lock.report(rt, seat, report) {
+        Filed::Refused(Refusal::NoMemory) => lock.report(rt, seat, report),
+        filed => filed,
+    };
+    assert!(rt; filed == became);
+}
+
+// The report of the one member of the group `a`, whose term starts at the third place.
+fn elected<R: Wait + Abort>(
+    rt: &R,
+    alloc: Global,
+    lock: &TurnLock<Any>,
+    seat: &mut Seat<Any>,
+) -> Report<Any>
+    requires { seat.old.lock ≡ lock.now.id }
+    ensures { IsSameSeat seat.old seat.new }
+{
+    tells(rt, alloc, lock, seat, (1, b"create a chang"), b"1 ok\n");
+    tells(rt, alloc, lock, seat, (1, b"join a 7"), b"2 ok\n");
+    let charters = starts(rt, alloc, lock, seat);
+    assert!(rt; charters.len() == 1);
+    let node = elect(rt, alloc, &charters[0]);
+    drop(charters);
+    let report = told_by(rt, &node);
+    drop(node);
+    report
+}
+
+#[test]
+fn eight_calls_of_a_seat_leave_eight_entries(rt: HostRuntime) {
+    let alloc = rt.alloc();
+    let (lock, mut seats) = opened(&rt, alloc, 10);
+    let mut seat = seats.pop().expect(&rt, "no seat");
+    drop(seats);
+    let report = elected(&rt, alloc, &lock, &mut seat);
+    files(&rt, &lock, &mut seat, &report, Filed::Noted);
+    files(&rt, &lock, &mut seat, &report, Filed::Known);
+    let (who, start) = (b"who a 7".as_slice(), b"start a".as_slice());
+    tells(&rt, alloc, &lock, &mut seat, (2, who), b"6 leader 1 7\n");
+    tells(&rt, alloc, &lock, &mut seat, (1, start), b"7 term 2\n");
+    files(&rt, &lock, &mut seat, &report, Filed::Stale);
+    drop(report);
+    assert!(rt; entries_of(&rt, alloc, lock, seat) == 8);
+}
+
+// Whether a line of session 1 is answered so, with its place. None where memory is refused, which uses a turn.
+fn is_told<R: Wait + Abort>(
+    rt: &R,
+    alloc: Global,
+    lock: &TurnLock<Any>,
+    seat: &mut Seat<Any>,
+    line: &[u8],
+    told: &[u8],
+) -> Option<bool>
+    requires { seat.old.lock ≡ lock.now.id }
+    ensures { IsSameSeat seat.old seat.new }
+{
+    let answer = ask(rt, lock, seat, 1, line);
+    let is_told = is_spelled(rt, alloc, &answer, told);
+    let is_refused = matches!(answer, Answer::Unplaced(Refusal::NoMemory));
+    drop(answer);
+    if is_refused { None } else { Some(is_told) }
+}
+
+// A seat with two turns has them: how many entries they leave. None where a call is refused memory.
+fn two_turns<R: Wait + Abort>(rt: &R, alloc: Global) -> Option<usize> {
+    let (lock, mut seats) = opened(rt, alloc, 2);
+    let mut seat = seats.pop().expect(rt, "no seat");
+    drop(seats);
+    let created = is_told(rt, alloc, &lock, &mut seat, b"create a chang", b"1 ok\n");
+    let early = seat.is_spent();
+    let joined = is_told(rt, alloc, &lock, &mut seat, b"join a 5", b"2 ok\n");
+    assert!(rt; seat.is_spent() && !early);
+    let spent = is_told(
+        rt,
+        alloc,
+        &lock,
+        &mut seat,
+        b"members a",
+        b"- no seat-spent\n",
+    );
+    assert!(rt; spent == Some(true));
+    let entries = entries_of(rt, alloc, lock, seat);
+    if created.is_none() || joined.is_none() {
+        return None;
+    }
+    assert!(rt; created == Some(true) && joined == Some(true));
+    Some(entries)
+}
+
+#[test]
+fn a_seat_has_as_many_turns_as_it_was_given(rt: HostRuntime) {
+    let mut entries = two_turns(&rt, rt.alloc());
+    if entries.is_none() {
+        entries = two_turns(&rt, rt.alloc());
+    }
+    assert!(rt; entries == Some(2));
+}
