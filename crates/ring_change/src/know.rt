@@ -1,5 +1,5 @@
 //! The line of a change by a report. Its numbers and identities are read as those of commands.
-ghost use Rattle.std.specs.Prelude.{◌≡◌, ◌==◌, ◌<◌, ◌+◌, ◌∷◌, ◌++◌, [], length, codes, decimal, position, IfNone, IfSome};
+ghost use Rattle.std.specs.Prelude.{◌≡◌, ◌≢◌, ◌==◌, ◌<◌, ◌+◌, ◌∷◌, ◌++◌, [], length, codes, decimal, position, IfNone, IfSome, ℕ};
 ghost use Rattle.ring_id.specs.GroupName.{IsName};
 ghost use Rattle.ring_id.specs.Term.{IsTerm};
 ghost use Rattle.ring_grammar.specs.Identities.{IsNode, IsNumber, node_word};
@@ -87,6 +87,18 @@ fn number(word: &[u8]) -> Option<NodeNo>
 {
     let line = behind(b"leave a ", word)?;
     left(parse_command(line.as_slice())?)
+}
+
+/// Returns the number that this word spells: from 1 to 4294967295, without a sign or a leading zero. Does not
+/// allocate.
+pub fn read_number(word: &[u8]) -> Option<u32>
+    ensures some { IfSome result (λ number. word.now ≡ decimal number) }
+    ensures none { IfNone result ((number : ℕ) → IsNumber number → word.now ≢ decimal number) }
+{
+    match number(word) {
+        Some(number) => Some(number.get()),
+        None => None,
+    }
 }
 
 // The identity that this word spells, as `join` names a node.

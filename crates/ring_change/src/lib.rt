@@ -16,6 +16,7 @@ mod spelling;
 pub use change::{Change, change_of, change_of_filing};
 pub use check::Check;
 pub use journal_line::{print_line, read_line, spell_line};
+pub use know::read_number;
 pub use line::Line;
 pub use parse::parse_change;
 pub use print::print_change;

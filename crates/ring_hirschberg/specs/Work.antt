@@ -18,14 +18,12 @@ abbrev pub reaching : List ℕ → (ℕ → List (Side × HirschbergMsg)) → �
 reaching ring family l zero = 0
 reaching ring family l (suc n) = reaching ring family l n + cond (nat_le l (phase_at ring family n)) 1 0
 
--- In a sound family, whether or not it fits, any two members that come to phase k + 1 stand more than
--- 2^k apart: of n at most n / (2^k + 1) do.
+-- In a sound family, whether or not it fits, at most n / (2^k + 1) of n members come to phase k + 1.
 abbrev pub PhasesAreRare : Type 0
 PhasesAreRare = (ring : List ℕ) (family : ℕ → List (Side × HirschbergMsg)) (k : ℕ) → IsRing ring → IsSound hirschberg_table ring family →
     reaching ring family (suc k) (length ring) * (2 ^ k + 1) ≤ length ring
 
--- In a sound family that fits, the positions of a ring of n took at most 4n messages of the tokens of
--- phase 0, and at most 8n of those of each later one up to ceil(log2 n).
+-- In a sound family that fits, the positions of a ring of n took at most 4n + 8n ceil(log2 n) messages.
 abbrev pub MessagesAreFew : Type 0
 MessagesAreFew = (ring : List ℕ) (family : ℕ → List (Side × HirschbergMsg)) → IsRing ring → FamilyFits hirschberg_fits ring family → IsSound hirschberg_table ring family →
     taken_in_all (length ring) family ≤ 4 * length ring + 8 * length ring * ceil_log2 (length ring)

@@ -93,8 +93,8 @@ impl RingElection for Peterson {
         false
     }
 
-    /// Never: in a ring of two or more the greatest identity becomes a relay in the first round, and
-    /// another wins.
+    /// Never. In a ring of two or more the greatest identity becomes a relay in the first round, and
+    /// another wins, which no contract says.
     fn greatest(&self) -> bool
         ensures { result ≡ false }
     {

@@ -95,8 +95,8 @@ impl<E: RingElection, T: Traffic<E>> World<E, T> {
     }
 
     /// Delivers the front packet of the link into a position from a side, as `deliver` does, and tells the
-    /// leader alone, exactly where the receiver now knows it first. No owner of the charter is found for a
-    /// report, so memory is refused only to the receiver.
+    /// leader alone, exactly where the receiver now knows it first. It makes no report, and so no owner of
+    /// the charter.
     pub fn pass(&mut self, position: usize, side: Side) -> Passage
         requires { position < length self.old.charter.roster }
         ensures passes { Passes E.table (E.is_two_way self.old.charter.algorithm) true self.old position side result self.new }
