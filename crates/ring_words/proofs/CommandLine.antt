@@ -1,4 +1,5 @@
--- The program's own command line: it takes `ringd replay`, and what it takes names `replay`, `serve` or `run`.
+-- The program's own command line: it takes `ringd replay`, and what it takes names `replay`, `serve`, `run`
+-- or `journal`.
 use Rattle.std.proofs.Common.{◌≡◌, ◌∙◌, ◌⊎◌, ◌||◌, Bool, IfOk, codes, cond, true, false, refl, sym, ap, ap₂, subst, inl, inr, List, [], ◌∷◌, Option, Some, None, Result, Ok, Err, IsErrAnd, IsOkUnless, is_some, option_map, true≢false}
 use Rattle.std.specs.Prelude.{Box, IfErr, IfSome, slice_get, unwrap_or}
 use Rattle.std.specs.Option.{option_map_or}
@@ -45,8 +46,11 @@ serve_below = unwrap_or (slice_get whole.subs 1) whole.top
 abbrev pub run_below : Shape
 run_below = unwrap_or (slice_get whole.subs 2) whole.top
 
+abbrev pub journal_below : Shape
+journal_below = unwrap_or (slice_get whole.subs 3) whole.top
+
 abbrev pub help_below : Shape
-help_below = unwrap_or (slice_get whole.subs 3) whole.top
+help_below = unwrap_or (slice_get whole.subs 4) whole.top
 
 -- a name that answers to `help` is `help`
 is_help : (name : Text) → answers_to name (label_of help_below) ≡ true → bytes_eq name (codes "help") ≡ true
@@ -58,29 +62,32 @@ is_help name answers = (bytes_eq-Decides name (codes "help")).1 (sym ((bytes_eq-
 
 -- the name is that of one of the program's subcommands
 abbrev pub IsOurs : Text → Type 0
-IsOurs name = (name ≡ codes "replay") ⊎ ((name ≡ codes "serve") ⊎ (name ≡ codes "run"))
+IsOurs name = (name ≡ codes "replay") ⊎ ((name ≡ codes "serve") ⊎ ((name ≡ codes "run") ⊎ (name ≡ codes "journal")))
 
 -- the subcommand that is the first to answer to a name, by who answers
-abbrev pub below : Bool → Bool → Bool → Bool → Option Shape
-below replay serve run help = cond replay (Some replay_below) (cond serve (Some serve_below) (cond run (Some run_below) (cond help (Some help_below) None)))
+abbrev pub below : Bool → Bool → Bool → Bool → Bool → Option Shape
+below replay serve run journal help =
+    cond replay (Some replay_below) (cond serve (Some serve_below) (cond run (Some run_below) (cond journal (Some journal_below) (cond help (Some help_below) None))))
 
 -- where a subcommand was met that is not `help`, and none is missing, it is one of the program's
 stop_names_one : (rows : List Row) (stop : Option (Text × List Text)) → AvoidsHelp stop → check_fault whole.top rows (is_some (entered whole stop)) ≡ []
     → (q : Text × List Row) × (entered whole stop ≡ Some q) × IsOurs q.0
 stop_names_one rows None avoids none = absurd (cc)
 stop_names_one rows (Some p) avoids none =
-    go (answers_to p.0 (label_of replay_below)) (answers_to p.0 (label_of serve_below)) (answers_to p.0 (label_of run_below)) (answers_to p.0 (label_of help_below)) refl none
+    go (answers_to p.0 (label_of replay_below)) (answers_to p.0 (label_of serve_below)) (answers_to p.0 (label_of run_below)) (answers_to p.0 (label_of journal_below))
+    (answers_to p.0 (label_of help_below)) refl none
   where
-    found : Bool → Bool → Bool → Bool → Option (Text × List Row)
-    found replay serve run help = option_map (λ s. rows_at s p.1) (below replay serve run help)
+    found : Bool → Bool → Bool → Bool → Bool → Option (Text × List Row)
+    found replay serve run journal help = option_map (λ s. rows_at s p.1) (below replay serve run journal help)
 
-    go : (replay serve run help : Bool) → answers_to p.0 (label_of help_below) ≡ help → check_fault whole.top rows (is_some (found replay serve run help)) ≡ []
-        → (q : Text × List Row) × (found replay serve run help ≡ Some q) × IsOurs q.0
-    go true serve run help same fine = (rows_at replay_below p.1, refl, inl refl)
-    go false true run help same fine = (rows_at serve_below p.1, refl, inr (inl refl))
-    go false false true help same fine = (rows_at run_below p.1, refl, inr (inr refl))
-    go false false false true same fine = absurd (true≢false (sym (is_help p.0 same) ∙ avoids))
-    go false false false false same bad = absurd (cc)
+    go : (replay serve run journal help : Bool) → answers_to p.0 (label_of help_below) ≡ help → check_fault whole.top rows (is_some (found replay serve run journal help)) ≡ []
+        → (q : Text × List Row) × (found replay serve run journal help ≡ Some q) × IsOurs q.0
+    go true serve run journal help same fine = (rows_at replay_below p.1, refl, inl refl)
+    go false true run journal help same fine = (rows_at serve_below p.1, refl, inr (inl refl))
+    go false false true journal help same fine = (rows_at run_below p.1, refl, inr (inr (inl refl)))
+    go false false false true help same fine = (rows_at journal_below p.1, refl, inr (inr (inr refl)))
+    go false false false false true same fine = absurd (true≢false (sym (is_help p.0 same) ∙ avoids))
+    go false false false false false same bad = absurd (cc)
 
 -- The words after a subcommand have no mistake at its level, and give these rows.
 pub record IsLevel (s : Shape) (rows : List Row) : Type 0 where
@@ -88,28 +95,41 @@ pub record IsLevel (s : Shape) (rows : List Row) : Type 0 where
   pub fine : level_fault s [] nothing_held given false [] ≡ []
   pub is : rows ≡ rows_after s.rules [] given
 
--- what the level of `serve` or of `run` gives, where it is the one that was met
-abbrev pub OfLevels : Text × List Row → Type 0
-OfLevels q = (bytes_eq q.0 (codes "serve") ≡ true → IsLevel serve_below q.1) × (bytes_eq q.0 (codes "run") ≡ true → IsLevel run_below q.1)
+-- What the level of `serve`, of `run` or of `journal` gives, if it is the one that was met.
+pub record OfLevels (q : Text × List Row) : Type 0 where
+  pub serve : bytes_eq q.0 (codes "serve") ≡ true → IsLevel serve_below q.1
+  pub run : bytes_eq q.0 (codes "run") ≡ true → IsLevel run_below q.1
+  pub journal : bytes_eq q.0 (codes "journal") ≡ true → IsLevel journal_below q.1
 
 entered_levels : (stop : Option (Text × List Text)) (q : Text × List Row) → entered_fault whole stop ≡ [] → entered whole stop ≡ Some q → OfLevels q
 entered_levels None q fine same = absurd (cc)
 entered_levels (Some p) q fine same =
-    go (answers_to p.0 (label_of replay_below)) (answers_to p.0 (label_of serve_below)) (answers_to p.0 (label_of run_below)) (answers_to p.0 (label_of help_below)) fine same
+    go (answers_to p.0 (label_of replay_below)) (answers_to p.0 (label_of serve_below)) (answers_to p.0 (label_of run_below)) (answers_to p.0 (label_of journal_below))
+    (answers_to p.0 (label_of help_below)) fine same
   where
-    other : (s : Shape) → bytes_eq s.name (codes "serve") ≡ false → bytes_eq s.name (codes "run") ≡ false → OfLevels (rows_at s p.1)
-    other s serve run = (λ is. absurd (true≢false (sym is ∙ serve)), λ is. absurd (true≢false (sym is ∙ run)))
+    none_of : (name : Text) (s : Shape) → bytes_eq s.name name ≡ false → {A : Type 0} → bytes_eq s.name name ≡ true → A
+    none_of name s other is = absurd (true≢false (sym is ∙ other))
+
+    other : (s : Shape) → bytes_eq s.name (codes "serve") ≡ false → bytes_eq s.name (codes "run") ≡ false → bytes_eq s.name (codes "journal") ≡ false → OfLevels (rows_at s p.1)
+    other s serve run journal = record { serve = none_of (codes "serve") s serve; run = none_of (codes "run") s run; journal = none_of (codes "journal") s journal }
 
     at : (r : Text × List Row) → Some r ≡ Some q → OfLevels r → OfLevels q
     at r is levels = subst (λ (o : Option (Text × List Row)). IfSome o OfLevels) is levels
 
-    go : (replay serve run help : Bool) → option_map_or (λ s. level_fault s [] nothing_held p.1 false []) (below replay serve run help) [] ≡ []
-        → option_map (λ s. rows_at s p.1) (below replay serve run help) ≡ Some q → OfLevels q
-    go true serve run help none is = at (rows_at replay_below p.1) is (other replay_below refl refl)
-    go false true run help none is = at (rows_at serve_below p.1) is (λ _. record { given = p.1; fine = none; is = refl }, λ bad. absurd (true≢false (sym bad)))
-    go false false true help none is = at (rows_at run_below p.1) is (λ bad. absurd (true≢false (sym bad)), λ _. record { given = p.1; fine = none; is = refl })
-    go false false false true none is = at (rows_at help_below p.1) is (other help_below refl refl)
-    go false false false false none is = absurd (cc)
+    level : (s : Shape) → level_fault s [] nothing_held p.1 false [] ≡ [] → IsLevel s (rows_at s p.1).1
+    level s fine = record { given = p.1; fine = fine; is = refl }
+
+    go : (replay serve run journal help : Bool) → option_map_or (λ s. level_fault s [] nothing_held p.1 false []) (below replay serve run journal help) [] ≡ []
+        → option_map (λ s. rows_at s p.1) (below replay serve run journal help) ≡ Some q → OfLevels q
+    go true serve run journal help none is = at (rows_at replay_below p.1) is (other replay_below refl refl refl)
+    go false true run journal help none is =
+        at (rows_at serve_below p.1) is (record { serve = λ _. level serve_below none; run = none_of (codes "run") serve_below refl; journal = none_of (codes "journal") serve_below refl })
+    go false false true journal help none is =
+        at (rows_at run_below p.1) is (record { serve = none_of (codes "serve") run_below refl; run = λ _. level run_below none; journal = none_of (codes "journal") run_below refl })
+    go false false false true help none is =
+        at (rows_at journal_below p.1) is (record { serve = none_of (codes "serve") journal_below refl; run = none_of (codes "run") journal_below refl; journal = λ _. level journal_below none })
+    go false false false false true none is = at (rows_at help_below p.1) is (other help_below refl refl refl)
+    go false false false false false none is = absurd (cc)
 
 -- What words without a mistake name, and the level of it.
 pub record NamesOne (words : List Text) : Type 0 where

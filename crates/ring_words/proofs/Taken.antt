@@ -1,4 +1,5 @@
--- Words that the command line takes, where they name `serve` or `run`, give rows with what those need.
+-- Words that the command line takes, where they name `serve`, `run` or `journal`, give rows with what those
+-- need.
 use Rattle.std.proofs.Common.{◌≡◌, ◌∙◌, ◌||◌, Bool, ℕ, codes, cond, true, false, not, refl, sym, ap, subst, inl, inr, List, [], ◌∷◌, length, IfOk, Option, Some, None, Result, Ok, Err, option_map}
 use Rattle.std.specs.Prelude.{find, pos, slice_get, unwrap_or, option_and_then}
 use Rattle.std.specs.Str.{bytes_eq}
@@ -15,12 +16,12 @@ use Rattle.clap.specs.Walk.{Row, Rule, Text, first_of, one_of, row_text, rows_af
 use Rattle.clap.specs.declared.error.kind.ErrorKind.TheVariants.{DisplayHelp, MissingRequiredArgument}
 use Rattle.clap.specs.declared.builder.value_parser.ValueParser.TheVariants as parser
 use Rattle.clap.proofs.ValueTestLemmas.{accepts-Accepts}
-use Rattle.ring_words.specs.private.Words.{HasFile, HasNumber, IsRun, IsRunOf, IsServeOf, IsServed, MayHaveNumber}
+use Rattle.ring_words.specs.private.Words.{HasFile, HasNumber, IsJournalOf, IsRun, IsRunOf, IsServeOf, IsServed, MayHaveNumber}
 use Rattle.ring_words.specs.Words.{IsGiven, Names, config_rule}
 use Rattle.ring_words.specs.declared.words.Order.{Order}
-use Rattle.ring_words.specs.declared.words.Order.TheVariants.{Replay, Run, Serve}
+use Rattle.ring_words.specs.declared.words.Order.TheVariants.{Journal, Replay, Run, Serve}
 use Rattle.ring_words.specs.declared.words.WordsFault.{WordsFault}
-use Rattle.ring_words.proofs.CommandLine.{IsLevel, names_one, run_below, serve_below}
+use Rattle.ring_words.proofs.CommandLine.{IsLevel, journal_below, names_one, run_below, serve_below}
 use Rattle.ring_words.proofs.Levels.{Each, EachKeeps, Keeps}
 use Rattle.ring_words.proofs.Rows.{IsRead, KeepDefaults, flag_keeps, level_checks, level_reads, no_default, other_default, other_use, own_use, row_given, row_reads, set_keeps}
 use Rattle.ring_words.proofs.Subcommands.{second_has_none}
@@ -45,13 +46,20 @@ run_idle = unwrap_or (slice_get run_below.rules 2) config_rule
 abbrev run_places : Rule
 run_places = unwrap_or (slice_get run_below.rules 3) config_rule
 
--- the help flag of both
+abbrev run_journal : Rule
+run_journal = unwrap_or (slice_get run_below.rules 4) config_rule
+
+-- the argument of `journal`
+abbrev journal_file : Rule
+journal_file = unwrap_or (slice_get journal_below.rules 0) config_rule
+
+-- the help flag of each
 abbrev help_flag : Rule
 help_flag = unwrap_or (slice_get serve_below.rules 2) config_rule
 
 -- rows of a file that was given
-has_file : (a : Rule) (rows : List Row) → a.id ≡ codes "config" → Each (IsRead a) rows → is_given a.id rows ≡ true → HasFile rows
-has_file a rows named read given =
+has_file : (a : Rule) (name : Text) (rows : List Row) → a.id ≡ name → Each (IsRead a) rows → is_given a.id rows ≡ true → HasFile name rows
+has_file a name rows named read given =
     let found = row_given a rows given in
     let well = row_reads a rows found.0 read found.1 in
     record {
@@ -125,8 +133,11 @@ run_keeps_config = (
       (
         flag_keeps false run_config run_places refl refl,
         (
-          help_keeps (IsRead run_config),
-          tt,
+          set_keeps false run_config run_journal (other_use run_config run_journal refl) refl,
+          (
+            help_keeps (IsRead run_config),
+            tt,
+          ),
         ),
       ),
     ),
@@ -143,8 +154,11 @@ run_keeps_sessions = (
       (
         flag_keeps false run_sessions run_places refl refl,
         (
-          help_keeps (IsRead run_sessions),
-          tt,
+          set_keeps false run_sessions run_journal (other_use run_sessions run_journal refl) refl,
+          (
+            help_keeps (IsRead run_sessions),
+            tt,
+          ),
         ),
       ),
     ),
@@ -161,8 +175,11 @@ run_keeps_idle = (
       (
         flag_keeps false run_idle run_places refl refl,
         (
-          help_keeps (IsRead run_idle),
-          tt,
+          set_keeps false run_idle run_journal (other_use run_idle run_journal refl) refl,
+          (
+            help_keeps (IsRead run_idle),
+            tt,
+          ),
         ),
       ),
     ),
@@ -180,8 +197,11 @@ run_defaults wanted other = (
       (
         other_default wanted run_places other,
         (
-          no_default (IsRead wanted) help_flag refl,
-          tt,
+          no_default (IsRead wanted) run_journal refl,
+          (
+            no_default (IsRead wanted) help_flag refl,
+            tt,
+          ),
         ),
       ),
     ),
@@ -207,7 +227,7 @@ serve_gives rows level =
     let connections_read = level_reads serve_below (IsRead serve_connections) serve_keeps_connections (no_default (IsRead serve_connections) serve_config refl, (no_default (IsRead serve_connections) serve_connections refl, (no_default (IsRead serve_connections) help_flag refl, tt))) level.given level.fine in
     let row = row_given serve_connections there given.1 in
     subst IsServed (sym level.is) (record {
-      file = has_file serve_config there refl config_read given.0;
+      file = has_file serve_config (codes "config") there refl config_read given.0;
       connections = has_number serve_connections (codes "connections") 1 64 there row.0 refl refl connections_read row.1;
     })
 
@@ -220,29 +240,53 @@ run_gives rows level =
     let sessions_read = level_reads run_below (IsRead run_sessions) run_keeps_sessions (run_defaults run_sessions refl) level.given level.fine in
     let idle_read = level_reads run_below (IsRead run_idle) run_keeps_idle (run_defaults run_idle refl) level.given level.fine in
     subst IsRun (sym level.is) (record {
-      file = has_file run_config there refl config_read given;
+      file = has_file run_config (codes "config") there refl config_read given;
       sessions = may_have_number run_sessions (codes "sessions") 1 64 there refl refl sessions_read;
       idle = may_have_number run_idle (codes "idle") 0 86400 there refl refl idle_read;
     })
 
+-- the level of `journal` gives a file
+journal_gives : (rows : List Row) → IsLevel journal_below rows → HasFile (codes "file") rows
+journal_gives rows level =
+    let there = rows_after journal_below.rules [] level.given in
+    let given = one_given (is_given journal_file.id there) (level_checks journal_below level.given level.fine) in
+    let keeps : EachKeeps journal_below (IsRead journal_file) journal_below.rules = (set_keeps false journal_file journal_file (own_use journal_file) refl, (help_keeps (IsRead journal_file), tt)) in
+    let defaults : KeepDefaults (IsRead journal_file) journal_below.rules = (no_default (IsRead journal_file) journal_file refl, (no_default (IsRead journal_file) help_flag refl, tt)) in
+    let file_read = level_reads journal_below (IsRead journal_file) keeps defaults level.given level.fine in
+    subst (HasFile (codes "file")) (sym level.is) (has_file journal_file (codes "file") there refl file_read given)
+
 -- words that name `serve` give its rows
 pub named_serves : (words : List Text) (rows : List Row) → Names words (codes "serve") rows → IsServed rows
-named_serves words rows names = serve_gives rows ((names_one words (codes "serve") rows names).1.0 refl)
+named_serves words rows names = serve_gives rows ((names_one words (codes "serve") rows names).1.serve refl)
 
 -- and words that name `run`
 pub named_runs : (words : List Text) (rows : List Row) → Names words (codes "run") rows → IsRun rows
-named_runs words rows names = run_gives rows ((names_one words (codes "run") rows names).1.1 refl)
+named_runs words rows names = run_gives rows ((names_one words (codes "run") rows names).1.run refl)
+
+-- and words that name `journal`
+pub named_journal : (words : List Text) (rows : List Row) → Names words (codes "journal") rows → HasFile (codes "file") rows
+named_journal words rows names = journal_gives rows ((names_one words (codes "journal") rows names).1.journal refl)
 
 -- so the order of `serve`, where there is one, is the one that the words give
 pub serves_as_given : (words : List Text) (rows : List Row) (r : Result Order WordsFault) → Names words (codes "serve") rows → IfOk r (IsServeOf rows) → IfOk r (IsGiven words)
 serves_as_given words rows (Ok Replay) names told = absurd told
 serves_as_given words rows (Ok (Serve path connections)) names told = (rows, names, told)
-serves_as_given words rows (Ok (Run path sessions idle places)) names told = absurd told
+serves_as_given words rows (Ok (Run path sessions idle places journal)) names told = absurd told
+serves_as_given words rows (Ok (Journal path)) names told = absurd told
 serves_as_given words rows (Err fault) names told = tt
 
 -- and so that of `run`
 pub runs_as_given : (words : List Text) (rows : List Row) (r : Result Order WordsFault) → Names words (codes "run") rows → IfOk r (IsRunOf rows) → IfOk r (IsGiven words)
 runs_as_given words rows (Ok Replay) names told = absurd told
 runs_as_given words rows (Ok (Serve path connections)) names told = absurd told
-runs_as_given words rows (Ok (Run path sessions idle places)) names told = (rows, names, told)
+runs_as_given words rows (Ok (Run path sessions idle places journal)) names told = (rows, names, told)
+runs_as_given words rows (Ok (Journal path)) names told = absurd told
 runs_as_given words rows (Err fault) names told = tt
+
+-- and that of `journal`
+pub journal_as_given : (words : List Text) (rows : List Row) (r : Result Order WordsFault) → Names words (codes "journal") rows → IfOk r (IsJournalOf rows) → IfOk r (IsGiven words)
+journal_as_given words rows (Ok Replay) names told = absurd told
+journal_as_given words rows (Ok (Serve path connections)) names told = absurd told
+journal_as_given words rows (Ok (Run path sessions idle places journal)) names told = absurd told
+journal_as_given words rows (Ok (Journal path)) names told = (rows, names, told)
+journal_as_given words rows (Err fault) names told = tt

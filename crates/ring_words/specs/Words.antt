@@ -1,6 +1,6 @@
 -- The words that the program takes, and the order that they give.
 -- ---- the command line
-use Rattle.std.specs.Prelude.{◌≡◌, ◌≢◌, ◌≤◌, [], ⊤, Bool, ℕ, codes, pos, List, MatchOption, Option, None, Some, string_bytes, true, false}
+use Rattle.std.specs.Prelude.{◌≡◌, ◌≢◌, ◌≤◌, [], ⊤, Bool, ℕ, codes, option_map, pos, List, MatchOption, Option, None, Some, string_bytes, true, false}
 use Rattle.std.specs.Str.Parse.{digits_value, without_leading_plus}
 use Rattle.clap.specs.Words.{App, IsAmong, Row, Rule, Text, fault_of, first_of, kind_of, new_app, new_rule, one_of, subcommand_of, with_rule, with_subcommand}
 use Rattle.clap.specs.Simple.{new_shape, on_top}
@@ -9,7 +9,7 @@ use Rattle.clap.specs.declared.builder.value_parser.ValueParser.TheVariants as p
 use Rattle.clap.specs.declared.error.Error.{Error}
 use Rattle.clap.specs.declared.error.kind.ErrorKind.TheVariants.{OutOfMemory}
 use Rattle.ring_words.specs.declared.words.Order.{Order}
-use Rattle.ring_words.specs.declared.words.Order.TheVariants.{Replay, Run, Serve}
+use Rattle.ring_words.specs.declared.words.Order.TheVariants.{Journal, Replay, Run, Serve}
 use Rattle.ring_words.specs.declared.words.WordsFault.{WordsFault}
 use Rattle.ring_words.specs.declared.words.WordsFault.TheVariants.{Usage, NoMemory}
 
@@ -36,22 +36,37 @@ idle_rule = number_rule (codes "idle") 0 86400
 abbrev pub places_rule : Rule
 places_rule = record (new_rule (codes "places")) { long = Some (codes "places"); action = Some SetTrue }
 
+-- the file in which `run` keeps a journal
+abbrev pub kept_rule : Rule
+kept_rule = record (new_rule (codes "journal")) { long = Some (codes "journal"); value_names = 1 }
+
+-- the name of a journal's file, which must be given
+abbrev pub file_rule : Rule
+file_rule = record (new_rule (codes "file")) { value_names = 1; required = true }
+
 -- `serve CONFIG --connections K`
 abbrev pub serve_app : App
 serve_app = with_rule (with_rule (new_app (codes "serve")) config_rule) connections_rule
 
--- `run CONFIG`, with `--sessions N`, `--idle SECONDS` and `--places` where they are given
+-- `run CONFIG`, with `--sessions N`, `--idle SECONDS`, `--places` and `--journal FILE` if they are given
 abbrev pub run_app : App
-run_app = with_rule (with_rule (with_rule (with_rule (new_app (codes "run")) config_rule) sessions_rule) idle_rule) places_rule
+run_app = with_rule (with_rule (with_rule (with_rule (with_rule (new_app (codes "run")) config_rule) sessions_rule) idle_rule) places_rule) kept_rule
 
--- the command line: one of the subcommands `replay`, `serve` and `run` must be given; it has a version
+-- `journal FILE`
+abbrev pub journal_app : App
+journal_app = with_rule (new_app (codes "journal")) file_rule
+
+-- the command line: one of the subcommands `replay`, `serve`, `run` and `journal` must be given; it has a
+-- version
 abbrev pub ringd_app : App
 ringd_app =
     with_subcommand
     (with_subcommand
+    (with_subcommand
     (with_subcommand (on_top (λ s. record s { subcommand_required = true; has_version = true }) (new_app (codes "ringd"))) (new_shape (codes "replay")))
     serve_app.top)
-    run_app.top
+    run_app.top)
+    journal_app.top
 
 -- ---- what the words give
 
@@ -82,18 +97,20 @@ abbrev pub IsFlag : Option Text → Bool → Type 0
 IsFlag given flag = (given ≡ None → flag ≡ false) × (given ≡ Some (codes "true") → flag ≡ true) × (given ≡ Some (codes "false") → flag ≡ false)
 
 -- The rows of `run`: its file, its number of sessions, 16 where none is given, its seconds, 0 where none
--- are given, and whether it tells places.
-pub record Runs (rows : List Row) (path : Text) (sessions idle : ℕ) (places : Bool) : Type 0 where
+-- are given, whether it tells places, and the file of its journal, if one is given.
+pub record Runs (rows : List Row) (path : Text) (sessions idle : ℕ) (places : Bool) (journal : Option Text) : Type 0 where
   pub file : first_of (codes "config") rows ≡ Some path
   pub sessions_given : IsGivenOr 16 1 64 (one_of (codes "sessions") rows) sessions
   pub idle_given : IsGivenOr 0 0 86400 (one_of (codes "idle") rows) idle
   pub places_given : IsFlag (one_of (codes "places") rows) places
+  pub journal_given : first_of (codes "journal") rows ≡ journal
 
 -- the command line takes the words, and this is the order that they give
 abbrev pub IsGiven : List Text → Order → Type 0
 IsGiven words Replay = (rows : List Row) × Names words (codes "replay") rows
 IsGiven words (Serve path connections) = (rows : List Row) × Names words (codes "serve") rows × Serves rows (string_bytes path) connections
-IsGiven words (Run path sessions idle places) = (rows : List Row) × Names words (codes "run") rows × Runs rows (string_bytes path) sessions idle places
+IsGiven words (Run path sessions idle places journal) = (rows : List Row) × Names words (codes "run") rows × Runs rows (string_bytes path) sessions idle places (option_map string_bytes journal)
+IsGiven words (Journal path) = (rows : List Row) × Names words (codes "journal") rows × (first_of (codes "file") rows ≡ Some (string_bytes path))
 
 -- ---- why words give none
 

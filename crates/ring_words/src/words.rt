@@ -1,9 +1,9 @@
 //! The words of the command line, and what they ask for.
-ghost use Rattle.std.specs.Prelude.{◌≡◌, ◌↔◌, ◌∷◌, [], ℕ, List, IfErr, IfOk, IsOkUnless, IsTrue, Some, codes, false, map, string_bytes, true};
+ghost use Rattle.std.specs.Prelude.{◌≡◌, ◌↔◌, ◌∷◌, [], ℕ, List, IfErr, IfOk, IsOkUnless, IsTrue, Some, codes, false, map, option_map, string_bytes, true};
 ghost use Rattle.clap.specs.Words.{App, Rule, app_of, found_of, kind_of, new_rule, rows_of, rule_of, takes, with_rule, with_subcommand, Text};
 ghost use Rattle.clap.specs.declared.error.kind.ErrorKind.TheVariants.{DisplayVersion, ValueValidation};
-ghost use Rattle.ring_words.specs.Words.{HasCause, IsFaultOf, IsGiven, config_rule, connections_rule, idle_rule, places_rule, ringd_app, run_app, serve_app, sessions_rule};
-ghost use Rattle.ring_words.specs.private.Words.{IsLocal, IsRun, IsRunOf, IsServeOf, IsServed};
+ghost use Rattle.ring_words.specs.Words.{HasCause, IsFaultOf, IsGiven, config_rule, connections_rule, file_rule, idle_rule, journal_app, kept_rule, places_rule, ringd_app, run_app, serve_app, sessions_rule};
+ghost use Rattle.ring_words.specs.private.Words.{HasFile, IsJournalOf, IsLocal, IsRun, IsRunOf, IsServeOf, IsServed};
 
 use clap::error::ErrorKind;
 use clap::{Arg, ArgAction, ArgMatches, Command};
@@ -31,7 +31,7 @@ const CONFIG: &str = "CONFIG is a TOML file with three integers:
   inbox = 1024   # the number of items that the inbox of each of them holds, 1 to 65536
   port = 7400    # the port on 127.0.0.1, 1 to 65535
 
-The service keeps everything in memory, and loses it when it ends.";
+Without a journal, the service keeps everything in memory, and loses it when it ends.";
 
 /// What the words ask the program to do.
 #[derive(Debug, Drop)]
@@ -49,6 +49,12 @@ pub enum Order {
         sessions: u32,
         idle: u32,
         places: bool,
+        /// The file that keeps the groups, if one is given.
+        journal: Option<String>,
+    },
+    /// `ringd journal FILE`: print what a journal holds.
+    Journal {
+        path: String,
     },
 }
 
@@ -98,10 +104,9 @@ fn command<'a>(alloc: Global) -> Result<Command<'a>, AllocError>
         .after_help(NOTES)
         .subcommand_required(true)
         .subcommand(replay);
-    with_subcommand(
-        with_subcommand(command, serve_command(alloc)),
-        run_command(alloc),
-    )
+    let command = with_subcommand(command, serve_command(alloc));
+    let command = with_subcommand(command, run_command(alloc));
+    with_subcommand(command, journal_command(alloc))
 }
 
 // The subcommand `serve`.
@@ -129,7 +134,18 @@ fn run_command<'a>(alloc: Global) -> Result<Command<'a>, AllocError>
         .arg(config_arg(alloc));
     let command = with_arg(command, sessions_arg(alloc));
     let command = with_arg(command, idle_arg(alloc));
-    with_arg(command, places_arg(alloc))
+    let command = with_arg(command, places_arg(alloc));
+    with_arg(command, kept_arg(alloc))
+}
+
+// The subcommand `journal`.
+fn journal_command<'a>(alloc: Global) -> Result<Command<'a>, AllocError>
+    ensures app { IfOk result (λ c. app_of c ≡ journal_app) }
+    ensures local { IfOk result IsLocal }
+{
+    Command::new(alloc, "journal")
+        .about("Print what the journal of `run` holds; changes nothing")
+        .arg(file_arg(alloc))
 }
 
 // Returns the command with one more argument, or the error that it is.
@@ -239,6 +255,27 @@ fn places_arg<'a>(alloc: Global) -> Arg<'a>
         )
 }
 
+// An option of `run`: the file that keeps the groups.
+fn kept_arg<'a>(alloc: Global) -> Arg<'a>
+    ensures rule { rule_of result ≡ kept_rule }
+    ensures own { result.global ≡ false }
+{
+    option_arg(alloc, "journal", "FILE").help(
+        "Keep the groups and terms in FILE, and take them up again at the next start",
+    )
+}
+
+// The argument of `journal`: its file.
+fn file_arg<'a>(alloc: Global) -> Arg<'a>
+    ensures rule { rule_of result ≡ file_rule }
+    ensures own { result.global ≡ false }
+{
+    Arg::new(alloc, "file")
+        .value_name("FILE")
+        .required(true)
+        .help("The journal: a file that `run --journal` has written")
+}
+
 /// Returns the refusal of a command line with a word that is not UTF-8. Fails only if an allocation
 /// fails.
 pub fn not_text(alloc: Global) -> Result<clap::Error, AllocError>
@@ -279,6 +316,7 @@ pub fn read_words(alloc: Global, words: &[String]) -> Result<Order, WordsFault>
         "replay" => Ok(Order::Replay),
         "serve" => serve_order(alloc, given),
         "run" => run_order(alloc, given),
+        "journal" => journal_order(alloc, given),
         _ => unreachable!("the command line has no other subcommand"),
     }
 }
@@ -313,10 +351,36 @@ fn run_order(alloc: Global, given: &ArgMatches<'_>) -> Result<Order, WordsFault>
     let sessions = given.get_one::<u32>("sessions").unwrap_or(SESSIONS);
     let idle = given.get_one::<u32>("idle").unwrap_or(0);
     let places = given.get_flag("places");
+    let journal = copy_of(alloc, given.get_str("journal"))?;
     Ok(Order::Run {
         path: String::from_str(alloc, path)?,
         sessions,
         idle,
         places,
+        journal,
+    })
+}
+
+// Returns a copy of the text, if there is one. Fails only if an allocation fails.
+fn copy_of(alloc: Global, text: Option<&str>) -> Result<Option<String>, AllocError>
+    ensures { IfOk result (λ copy. option_map string_bytes copy ≡ option_map (λ t. t.now) text.entry) }
+{
+    match text {
+        Some(text) => Ok(Some(String::from_str(alloc, text)?)),
+        None => Ok(None),
+    }
+}
+
+// Returns the order of `journal`.
+fn journal_order(alloc: Global, given: &ArgMatches<'_>) -> Result<Order, WordsFault>
+    requires { HasFile (codes "file") (rows_of (found_of given.now)) }
+    ensures order { IfOk result (IsJournalOf (rows_of (found_of given.now))) }
+    ensures only { IsOkUnless result WordsFault.NoMemory }
+{
+    let Some(path) = given.get_str("file") else {
+        unreachable!("the file is required");
+    };
+    Ok(Order::Journal {
+        path: String::from_str(alloc, path)?,
     })
 }

@@ -1,2 +1,4 @@
+mod Taking
+mod Replaying
 mod Telling
 mod Wholes

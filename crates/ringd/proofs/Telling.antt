@@ -1,12 +1,16 @@
 -- What was told of a service, as what `serve` and `run` tell.
-use Rattle.std.proofs.Common.{◌++◌, List, ℕ, Result, Ok, Err}
+use Rattle.std.proofs.Common.{◌++◌, List, ℕ, Result, Ok, Err, inl, inr, refl, subst, sym}
 use Rattle.std.specs.Prelude.{MatchResult}
 use Rattle.ring_lines.specs.Ends.{Writing, Wrote}
+use Rattle.ring_door.specs.declared.fault.JournalFault.{JournalFault}
+use Rattle.ring_door.specs.declared.fault.JournalFault.TheVariants as journal
 use Rattle.ring_door.specs.declared.fault.ProgramFault.{ProgramFault}
 use Rattle.ring_door.specs.declared.fault.ProgramFault.TheVariants as program
 use Rattle.ring_server.specs.Listening.{BothAt}
+use Rattle.ring_server.specs.Resuming.{ResumedAt}
 use Rattle.ring_server.specs.Running.{FirstOrNone}
-use Rattle.ringd.specs.Run.{RanAt, ServedAt}
+use Rattle.ringd.specs.Journal.{IsOfJournal}
+use Rattle.ringd.specs.Run.{KeptAt, RanAt, ServedAt}
 
 module _ {V : Type 0} (gives : V → Writing → V → Type 0) (from to : V) (first last : List ℕ) where
   -- a fault of the whole, as one of `serve`
@@ -20,6 +24,7 @@ module _ {V : Type 0} (gives : V → Writing → V → Type 0) (from to : V) (fi
   served_at program.Unreadable told = absurd told
   served_at program.Bad told = absurd told
   served_at program.Listen told = absurd told
+  served_at (program.Journal fault) told = absurd told
 
 -- what was told, for some port
 module _ {V A : Type 0} (gives : V → Writing → V → Type 0) (from to : V) (line : ℕ → List ℕ) (last : List ℕ) (port : ℕ) where
@@ -40,9 +45,50 @@ module _ {V : Type 0} (gives : V → Writing → V → Type 0) (from : V) (first
   ran_at to program.Unreadable told = absurd told
   ran_at to program.Bad told = absurd told
   ran_at to program.Listen told = absurd told
+  ran_at to (program.Journal fault) told = absurd told
 
 module _ {V A : Type 0} (gives : V → Writing → V → Type 0) (from to : V) (line : ℕ → List ℕ) (port : ℕ) where
   pub ran_told : (answer : Result A ProgramFault) → MatchResult answer (λ _. Wrote gives from (line port) to) (λ fault. FirstOrNone gives from (line port) fault to)
       → MatchResult answer (λ _. (p : ℕ) × Wrote gives from (line p) to) (λ fault. (p : ℕ) × RanAt gives from (line p) fault to)
   ran_told (Ok done) told = (port, told)
   ran_told (Err fault) told = (port, ran_at gives from (line port) to fault told)
+
+-- the same of `run` with a journal
+module _ {V : Type 0} (gives : V → Writing → V → Type 0) (from : V) (first : List ℕ) where
+  pub kept_at : (to : V) (fault : ProgramFault) → ResumedAt gives from first fault to → KeptAt gives from first fault to
+  kept_at to (program.Journal journal.Failed) told = inr told.1
+  kept_at to (program.Journal journal.InUse) told = absurd (cc)
+  kept_at to (program.Journal journal.Unreadable) told = absurd (cc)
+  kept_at to (program.Journal journal.NotAFile) told = absurd (cc)
+  kept_at to (program.Journal (journal.Bad at)) told = absurd (cc)
+  kept_at to (program.Journal journal.Version) told = absurd (cc)
+  kept_at to (program.Journal journal.Lives) told = absurd (cc)
+  kept_at to program.Thread told = told
+  kept_at to program.Write told = told
+  kept_at to program.NoMemory told = told
+  kept_at to program.Accept told = absurd told
+  kept_at to program.Read told = absurd told
+  kept_at to program.Endless told = absurd told
+  kept_at to program.Unreadable told = absurd told
+  kept_at to program.Bad told = absurd told
+  kept_at to program.Listen told = absurd told
+
+  -- a fault of taking up a journal comes with nothing told
+  pub not_taken_up : (fault : ProgramFault) → IsOfJournal fault → KeptAt gives from first fault from
+  not_taken_up fault (inl journals) = subst (λ (f : ProgramFault). KeptAt gives from first f from) (sym journals.1) (nothing journals.0)
+    where
+      nothing : (why : JournalFault) → KeptAt gives from first (program.Journal why) from
+      nothing journal.Failed = inl refl
+      nothing journal.InUse = refl
+      nothing journal.Unreadable = refl
+      nothing journal.NotAFile = refl
+      nothing (journal.Bad at) = refl
+      nothing journal.Version = refl
+      nothing journal.Lives = refl
+  not_taken_up fault (inr memory) = subst (λ (f : ProgramFault). KeptAt gives from first f from) (sym memory) refl
+
+module _ {V A : Type 0} (gives : V → Writing → V → Type 0) (from to : V) (line : ℕ → List ℕ) (port : ℕ) where
+  pub kept_told : (answer : Result A ProgramFault) → MatchResult answer (λ _. Wrote gives from (line port) to) (λ fault. ResumedAt gives from (line port) fault to)
+      → MatchResult answer (λ _. (p : ℕ) × Wrote gives from (line p) to) (λ fault. (p : ℕ) × KeptAt gives from (line p) fault to)
+  kept_told (Ok done) told = (port, told)
+  kept_told (Err fault) told = (port, kept_at gives from (line port) to fault told)

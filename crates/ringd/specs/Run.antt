@@ -1,10 +1,17 @@
--- What `serve` and `run` tell, from their file to their end.
-use Rattle.std.specs.Prelude.{◌≡◌, List, ℕ}
-use Rattle.ring_lines.specs.Ends.{Writing}
+-- What `replay` answers, and what `serve` and `run` tell, from their file to their end.
+use Rattle.std.specs.Prelude.{◌≡◌, ◌⊎◌, List, ℕ}
+use Rattle.ring_lines.specs.declared.answers.LineFault.{LineFault}
+use Rattle.ring_lines.specs.Ends.{Writing, Wrote}
+use Rattle.ring_door.specs.Faults.{told_as}
 use Rattle.ring_door.specs.declared.fault.ProgramFault.{ProgramFault}
-use Rattle.ring_door.specs.declared.fault.ProgramFault.TheVariants.{Bad, Listen, Unreadable}
+use Rattle.ring_door.specs.declared.fault.ProgramFault.TheVariants.{Bad, Journal, Listen, Unreadable}
+use Rattle.ring_door.specs.declared.fault.JournalFault.TheVariants.{Failed}
 use Rattle.ring_server.specs.Listening.{BothAt}
 use Rattle.ring_server.specs.Running.{FirstOrNone}
+
+-- a fault of reading lines, of writing replies or of memory
+abbrev pub IsOfLines : ProgramFault → Type 0
+IsOfLines told = (fault : LineFault) × (told ≡ told_as fault)
 
 -- What was written at a fault of `serve`: nothing before the port is listened on, and then what `BothAt` says.
 abbrev pub ServedAt : {V : Type 0} → (V → Writing → V → Type 0) → V → List ℕ → List ℕ → ProgramFault → V → Type 0
@@ -19,3 +26,10 @@ RanAt gives from first Unreadable to = to ≡ from
 RanAt gives from first Bad to = to ≡ from
 RanAt gives from first Listen to = to ≡ from
 RanAt gives from first fault to = FirstOrNone gives from first fault to
+
+-- What was written at a fault of `run` with a journal. If the journal failed, it is the first line or
+-- nothing; at each other fault of the journal it is nothing. Else it is what `RanAt` says.
+abbrev pub KeptAt : {V : Type 0} → (V → Writing → V → Type 0) → V → List ℕ → ProgramFault → V → Type 0
+KeptAt gives from first (Journal Failed) to = (to ≡ from) ⊎ Wrote gives from first to
+KeptAt gives from first (Journal why) to = to ≡ from
+KeptAt gives from first fault to = RanAt gives from first fault to

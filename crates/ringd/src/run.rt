@@ -2,14 +2,15 @@
 ghost use Rattle.std.specs.Prelude.{◌≡◌, ◌≤◌, ◌++◌, ◌⊎◌, ℕ, List, IfErr, IfOk, IfSome, MatchResult, length};
 ghost use Rattle.ring_lines.specs.Ends.{Wrote, WroteFront};
 ghost use Rattle.ring_door.specs.Telling.{closed_line, listening_line};
-ghost use Rattle.ringd.specs.private.Run.{IsOfFile};
-ghost use Rattle.ringd.specs.Run.{RanAt, ServedAt};
+ghost use Rattle.ringd.specs.private.Run.{IsOfFile, Replayed};
+ghost use Rattle.ringd.specs.Run.{IsOfLines, KeptAt, RanAt, ServedAt};
 
+use crate::journal;
 use ring_config::{Config, read_config};
-use ring_lines::{FromRead, Outlet, ToWrite};
-use ring_server::{Limits, ProgramFault, accept_loop, run_loop, tell};
+use ring_lines::{FromRead, Intake, Outlet, ToWrite};
+use ring_server::{Limits, ProgramFault, accept_loop, resume_loop, run_loop, tell};
 use std::alloc::Global;
-use std::fs::Files;
+use std::fs::{File, Files};
 use std::io::{ErrorKind, Read};
 use std::net::{Ipv4Addr, Net, SocketAddr, TcpListener, TcpStream};
 use std::sync::Wait;
@@ -27,11 +28,26 @@ const LONGEST: usize = 65536;
 ///
 /// Its faults are those of the call `replay`: a read or a write call failed, the input had not ended
 /// when all read calls were made, or memory was refused before the first.
-pub fn replay(rt: &(impl Input + Print + AllocGlobal)) -> Result<(), ProgramFault> {
+pub fn replay(rt: &(impl Input + Print + AllocGlobal)) -> Result<(), ProgramFault>
+    ensures { IfErr result IsOfLines }
+{
     let mut reader = FromRead(rt.reader());
     let mut writer = ToWrite(std::io::writer(rt));
-    ring_schedule::replay(rt.alloc(), &mut reader, &mut writer, READS)?;
-    Ok(())
+    replay_ends(rt.alloc(), &mut reader, &mut writer)
+}
+
+// The same replay, over any ends.
+fn replay_ends<I: Intake, O: Outlet>(
+    alloc: Global,
+    reader: &mut I,
+    writer: &mut O,
+) -> Result<(), ProgramFault>
+    ensures { Replayed I.read_gives O.write_gives reader.old writer.old 1000000000 result reader.new writer.new }
+{
+    match ring_schedule::replay(alloc, reader, writer, READS) {
+        Ok(_) => Ok(()),
+        Err(fault) => Err(ProgramFault::from(fault)),
+    }
 }
 
 /// Tells the version, which is the text that clap has for those who ask for it.
@@ -103,6 +119,41 @@ where
     let config = load(rt, path)?;
     let listener = listen(rt, config.port)?;
     run_loop(rt, listener, &config, limits, out)
+}
+
+/// Serves clients as `run` does, by the table that a journal keeps, until the journal fails or the process is ended.
+///
+/// Its faults, in this order: those of the configuration; those of taking up the journal; the port can't be
+/// listened on; and those of `resume_loop`.
+pub fn run_kept<R, O>(
+    rt: &R,
+    path: &str,
+    file: &str,
+    limits: Limits,
+    out: &mut O,
+) -> Result<(), ProgramFault>
+where
+    R: Files<File = File>
+        + Eprint
+        + Clock
+        + AllocGlobal
+        + Threads
+        + Wait
+        + Copy
+        + Send
+        + Sync
+        + Drop
+        + 'static
+        + Net<Stream = TcpStream, Listener = TcpListener>,
+    O: Outlet,
+    ensures { MatchResult result
+        (λ _. (port : ℕ) × Wrote O.write_gives out.old (listening_line port) out.new)
+        (λ fault. (port : ℕ) × KeptAt O.write_gives out.old (listening_line port) fault out.new) }
+{
+    let config = load(rt, path)?;
+    let resumed = journal::take_up(rt, file)?;
+    let listener = listen(rt, config.port)?;
+    resume_loop(rt, listener, &config, limits, resumed, out)
 }
 
 // Listens on this machine alone.

@@ -1,25 +1,28 @@
 -- What inner functions say of the words of a call.
-use Rattle.std.specs.Prelude.{◌≡◌, ◌⊎◌, ℕ, codes, pos, List, None, Some, string_bytes, false}
+use Rattle.std.specs.Prelude.{◌≡◌, ◌⊎◌, ℕ, codes, pos, List, None, Some, option_map, string_bytes, false}
 use Rattle.clap.specs.Words.{IsSignedIn, Row, Text, first_of, one_of, without_minus}
 use Rattle.clap.specs.declared.builder.command.Command.{Command}
 use Rattle.clap.specs.declared.builder.command.Command.TheViews.{out-Command}
-use Rattle.clap.specs.declared.builder.value_parser.ValueParser.TheVariants as parser
 use Rattle.ring_words.specs.declared.words.Order.{Order}
-use Rattle.ring_words.specs.declared.words.Order.TheVariants.{Run, Serve}
+use Rattle.ring_words.specs.declared.words.Order.TheVariants.{Journal, Run, Serve}
 use Rattle.ring_words.specs.Words.{Serves, Runs}
 
 -- no argument of the command holds for its subcommands too
 abbrev pub IsLocal : Command → Type 0
 IsLocal c = (out-Command c).has_globals ≡ false
 
--- the order of `serve` that rows give, and that of `run`
+-- the order of `serve` that rows give, that of `run`, and that of `journal`
 abbrev pub IsServeOf : List Row → Order → Type 0
 IsServeOf rows (Serve path connections) = Serves rows (string_bytes path) connections
 IsServeOf rows _ = ⊥
 
 abbrev pub IsRunOf : List Row → Order → Type 0
-IsRunOf rows (Run path sessions idle places) = Runs rows (string_bytes path) sessions idle places
+IsRunOf rows (Run path sessions idle places journal) = Runs rows (string_bytes path) sessions idle places (option_map string_bytes journal)
 IsRunOf rows _ = ⊥
+
+abbrev pub IsJournalOf : List Row → Order → Type 0
+IsJournalOf rows (Journal path) = first_of (codes "file") rows ≡ Some (string_bytes path)
+IsJournalOf rows _ = ⊥
 
 -- The rows have a number for this option, in the bounds.
 pub record HasNumber (name : Text) (least most : ℕ) (rows : List Row) : Type 0 where
@@ -31,18 +34,18 @@ pub record HasNumber (name : Text) (least most : ℕ) (rows : List Row) : Type 0
 abbrev pub MayHaveNumber : Text → ℕ → ℕ → List Row → Type 0
 MayHaveNumber name least most rows = (one_of name rows ≡ None) ⊎ HasNumber name least most rows
 
--- The rows have a file.
-pub record HasFile (rows : List Row) : Type 0 where
+-- The rows have a file for this argument.
+pub record HasFile (name : Text) (rows : List Row) : Type 0 where
   pub path : Text
-  pub file : first_of (codes "config") rows ≡ Some path
+  pub file : first_of name rows ≡ Some path
 
 -- Rows of `serve`, where its words are taken.
 pub record IsServed (rows : List Row) : Type 0 where
-  pub file : HasFile rows
+  pub file : HasFile (codes "config") rows
   pub connections : HasNumber (codes "connections") 1 64 rows
 
 -- Rows of `run`, where its words are taken.
 pub record IsRun (rows : List Row) : Type 0 where
-  pub file : HasFile rows
+  pub file : HasFile (codes "config") rows
   pub sessions : MayHaveNumber (codes "sessions") 1 64 rows
   pub idle : MayHaveNumber (codes "idle") 0 86400 rows

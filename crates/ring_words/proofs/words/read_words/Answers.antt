@@ -3,7 +3,7 @@ use Rattle.std.specs.Prelude.{string_bytes}
 use Rattle.clap.specs.Words.{Text, app_of, found_of, rows_of, takes}
 use Rattle.ring_words.specs.Words.{Names, ringd_app}
 use Rattle.ring_words.proofs.CommandLine.{fails_for_memory, has_cause, meets, meets_one, memory_is_cause, names_one, replay_is_taken, want_of_memory}
-use Rattle.ring_words.proofs.Taken.{named_runs, named_serves, runs_as_given, serves_as_given}
+use Rattle.ring_words.proofs.Taken.{journal_as_given, named_journal, named_runs, named_serves, runs_as_given, serves_as_given}
 use Rattle.ring_words.proofs.words.read_words.Goals as goal
 
 pub returns-in_err-matches-clause-replay : goal.returns-in_err-matches-clause-replay
@@ -73,6 +73,28 @@ returns-in-run c =
       replay = λ _ _. told.only;
     }
 
+pub journal_order-requires : goal.journal_order-requires
+journal_order-requires c =
+    let words = map string_bytes c.args.words.now in
+    let rows = rows_of (found_of c.in-Some.given.now) in
+    let names = meets (app_of c.in_ok-command.field-0) words c.in_ok-matches.matches c.in-Some.name.now rows c.in_ok-command.ensures c.in_ok-matches.ensures.kinds c.in_ok-matches.ensures.matches
+    c.in-Some.ensures.name c.in-Some.ensures.rows in
+    named_journal words rows (subst (λ (name : Text). Names words name rows) c.in-journal.is names)
+
+pub returns-in-journal : goal.returns-in-journal
+returns-in-journal c =
+    let words = map string_bytes c.args.words.now in
+    let rows = rows_of (found_of c.in-Some.given.now) in
+    let names = meets (app_of c.in_ok-command.field-0) words c.in_ok-matches.matches c.in-Some.name.now rows c.in_ok-command.ensures c.in_ok-matches.ensures.kinds c.in_ok-matches.ensures.matches
+    c.in-Some.ensures.name c.in-Some.ensures.rows in
+    let told = c.journal_order.ensures in
+    record {
+      order = journal_as_given words rows c.journal_order.result (subst (λ (name : Text). Names words name rows) c.in-journal.is names) told.order;
+      usage = memory_is_cause words c.journal_order.result told.only;
+      taken = λ _. told.only;
+      replay = λ _ _. told.only;
+    }
+
 pub unreachable-requires : goal.unreachable-requires
 unreachable-requires c =
     meets_one (app_of c.in_ok-command.field-0) (map string_bytes c.args.words.now) c.in_ok-matches.matches c.in_ok-command.ensures c.in_ok-matches.ensures.kinds c.in_ok-matches.ensures.matches
@@ -87,7 +109,8 @@ unreachable-requires-in_default-name c =
     elim ((names_one words c.in-Some.name.now rows names).0) [
       | inl replay ↦ c.in_default-name.not-replay replay
       | inr (inl serve) ↦ c.in_default-name.not-serve serve
-      | inr (inr run) ↦ c.in_default-name.not-run run
+      | inr (inr (inl run)) ↦ c.in_default-name.not-run run
+      | inr (inr (inr journal)) ↦ c.in_default-name.not-journal journal
     ]
 
 pub returns-in_err-command : goal.returns-in_err-command

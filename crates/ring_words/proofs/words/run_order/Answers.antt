@@ -25,5 +25,6 @@ returns-clause-order c =
       file = c.requires.file.file ∙ ap (λ text. Some text) (sym path);
       sessions_given = subst (λ n. IsGivenOr 16 1 64 (one_of (codes "sessions") (rows_of found)) n) (sym c.unwrap_or-sessions.ensures) sessions;
       idle_given = subst (λ n. IsGivenOr 0 0 86400 (one_of (codes "idle") (rows_of found)) n) (sym c.unwrap_or-idle.ensures) idle;
+      journal_given = sym (c.in_ok-journal.ensures ∙ c.get_str-2.ensures ∙ first_value-rows found (codes "journal"));
       places_given = subst (λ given. IsFlag given c.get_flag-places.result) (one_text-rows found (codes "places")) (c.get_flag-places.ensures.none, c.get_flag-places.ensures.value, c.get_flag-places.ensures.other);
     }

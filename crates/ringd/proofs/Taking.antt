@@ -1,0 +1,7 @@
+-- What holds of a result holds of it in other words.
+use Rattle.std.proofs.Common.{Result, Ok, Err}
+use Rattle.std.specs.Prelude.{IfOk}
+
+pub ok_map : {A E : Type 0} (P Q : A → Type 0) (result : Result A E) → ((value : A) → P value → Q value) → IfOk result P → IfOk result Q
+ok_map P Q (Ok value) leads holds = leads value holds
+ok_map P Q (Err fault) leads holds = holds

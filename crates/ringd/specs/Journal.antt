@@ -1,0 +1,30 @@
+-- What the program tells of a journal.
+use Rattle.std.specs.Prelude.{◌≡◌, ◌⊎◌, List, ℕ}
+use Rattle.ring_lines.specs.Ends.{Writing, WroteFront}
+use Rattle.ring_any.specs.declared.any.Any.{Any}
+use Rattle.ring_table.specs.Tables.{RecordedView}
+use Rattle.ring_recovery.specs.Compacted.{Resumes}
+use Rattle.ring_recovery.specs.Recovered.{RecoveredView}
+use Rattle.ring_door.specs.declared.fault.JournalFault.{JournalFault}
+use Rattle.ring_door.specs.declared.fault.ProgramFault.{ProgramFault}
+use Rattle.ring_door.specs.declared.fault.ProgramFault.TheVariants.{Journal, NoMemory, Write}
+
+-- a fault of taking up a journal: one of the journal's own, or an allocation failed
+abbrev pub IsOfJournal : ProgramFault → Type 0
+IsOfJournal fault = ((why : JournalFault) × (fault ≡ Journal why)) ⊎ (fault ≡ NoMemory)
+
+-- A table was resumed from these bytes, and this is the life that it begins.
+pub record IsTakenUp (found : List ℕ) (table : RecordedView Any) (life : ℕ) : Type 0 where
+  pub resumed : RecoveredView
+  pub resumes : Resumes found resumed
+  pub book : table.book ≡ resumed.book
+  pub history : table.history ≡ resumed.history
+  pub next : life ≡ resumed.life
+
+-- What was written at a fault of `journal`: nothing, or a prefix of a text at a failed write. No other
+-- fault comes.
+abbrev pub ListedAt : {V : Type 0} → (V → Writing → V → Type 0) → V → ProgramFault → V → Type 0
+ListedAt gives from (Journal why) to = to ≡ from
+ListedAt gives from NoMemory to = to ≡ from
+ListedAt gives from Write to = (text : List ℕ) × WroteFront gives from text to
+ListedAt gives from _ to = ⊥

@@ -1,0 +1,170 @@
+//! What the program does with the file of a journal.
+ghost use Rattle.std.specs.Prelude.{◌≡◌, ℕ, List, IfErr, IfOk, MatchResult};
+ghost use Rattle.ring_lines.specs.Ends.{Wrote, WroteFront};
+ghost use Rattle.ring_listing.specs.Listing.{Lists};
+ghost use Rattle.ring_recovery.specs.Compacted.{Resumes};
+ghost use Rattle.ringd.specs.Journal.{IsOfJournal, IsTakenUp, ListedAt};
+ghost use Rattle.ringd.specs.private.Journal.{IsToldOf, place_told_as, recovery_told_as};
+
+use ring_file::{FileMedium, Place, PlaceFault};
+use ring_lines::{Outlet, put};
+use ring_listing::list_journal;
+use ring_recovery::{Alarm, RecoverFault, Recovered, resume};
+use ring_server::{JournalFault, ProgramFault, Resumed};
+use std::alloc::Global;
+use std::fs::{File, Files};
+use std::io::{ErrorKind, Read};
+use std::sync::Arc;
+use std::{fs, io};
+
+/// Takes the journal at `path`, recovers its table, and begins its file anew with the lines that were
+/// found, or with at most half as many that lead to the same groups and terms. The file is kept from
+/// other processes as long as the result lives. The life is the one after that of the file.
+///
+/// Faults, in this order: another process has the journal, its file cannot be read, it is no file, it
+/// is damaged or of another version, and the new file cannot be written. At all but the last one
+/// nothing has changed.
+pub fn take_up<R>(rt: &R, path: &str) -> Result<Resumed<FileMedium>, ProgramFault>
+where
+    R: Files<File = File> + AllocGlobal,
+    ensures ok { IfOk result (λ resumed. (found : List ℕ) × IsTakenUp found resumed.table resumed.life) }
+    ensures fault { IfErr result IsOfJournal }
+{
+    if path.is_empty() {
+        return Err(ProgramFault::Journal(JournalFault::Unreadable));
+    }
+    let alloc = rt.alloc();
+    let place = Place::take(rt, path).map_err(told_of_place)?;
+    let found = place.read(rt).map_err(told_of_place)?;
+    let resumed = recovered(alloc, found)?;
+    begin(rt, place, resumed)
+}
+
+// Begins the file of a resumed table anew, and opens the table over it.
+fn begin<R>(rt: &R, place: Place, resumed: Recovered) -> Result<Resumed<FileMedium>, ProgramFault>
+where
+    R: Files<File = File> + AllocGlobal,
+    ensures ok { IfOk result (λ begun. (begun.table.book ≡ resumed.book) × (begun.table.history ≡ resumed.history) × (begun.life ≡ resumed.life)) }
+    ensures fault { IfErr result IsOfJournal }
+{
+    let alloc = rt.alloc();
+    let Ok(charters) = resumed.charters(alloc) else {
+        return Err(ProgramFault::NoMemory);
+    };
+    let (alarm, bell) = alarms(alloc)?;
+    let life = resumed.life();
+    match place.begin(rt, resumed.text()) {
+        Ok(medium) => Ok(Resumed {
+            table: resumed.open(alloc, medium, bell),
+            charters,
+            alarm,
+            life,
+        }),
+        Err(fault) => Err(told_of_place(fault)),
+    }
+}
+
+// An alarm, for the one who waits for it and the one who rings it.
+fn alarms(alloc: Global) -> Result<(Arc<Alarm>, Arc<Alarm>), ProgramFault>
+    ensures { IfErr result (λ fault. fault ≡ ProgramFault.NoMemory) }
+{
+    let Ok(alarm) = Arc::new(alloc, Alarm::new()) else {
+        return Err(ProgramFault::NoMemory);
+    };
+    let Ok(bell) = Arc::try_clone(&alarm) else {
+        return Err(ProgramFault::NoMemory);
+    };
+    Ok((alarm, bell))
+}
+
+// The table that the bytes of a journal give, compacted.
+fn recovered(alloc: Global, found: Vec<u8>) -> Result<Recovered, ProgramFault>
+    ensures ok { IfOk result (Resumes found.items) }
+    ensures err { IfErr result (IsToldOf found.items) }
+{
+    match resume(alloc, found) {
+        Ok(resumed) => Ok(resumed),
+        Err(fault) => Err(told_of_recovery(fault)),
+    }
+}
+
+/// Prints what the journal at `path` holds, as `list_journal` says it. Another process may have it.
+///
+/// Faults, in this order: the file cannot be read, it is no file, it is damaged or of another version,
+/// and standard output cannot be written.
+pub fn list<R, O>(rt: &R, path: &str, out: &mut O) -> Result<(), ProgramFault>
+where
+    R: Files + AllocGlobal,
+    O: Outlet,
+    ensures { MatchResult result
+        (λ _. (found text : List ℕ) × Lists found text × Wrote O.write_gives out.old text out.new)
+        (λ fault. ListedAt O.write_gives out.old fault out.new) }
+{
+    let found = look(rt, path)?;
+    match list_journal(rt.alloc(), found) {
+        Ok(text) => tell_bytes(out, &text),
+        Err(fault) => Err(told_of_recovery(fault)),
+    }
+}
+
+// Writes these bytes.
+fn tell_bytes<O: Outlet>(out: &mut O, text: &[u8]) -> Result<(), ProgramFault>
+    ensures { MatchResult result
+        (λ _. Wrote O.write_gives out.old text.now out.new)
+        (λ fault. (fault ≡ ProgramFault.Write) × WroteFront O.write_gives out.old text.now out.new) }
+{
+    match put(out, text) {
+        Ok(()) => Ok(()),
+        Err(_) => Err(ProgramFault::Write),
+    }
+}
+
+// The bytes of a journal's file, which is left as it is.
+fn look<R: Files + AllocGlobal>(rt: &R, path: &str) -> Result<Vec<u8>, ProgramFault>
+    ensures { IfErr result IsOfJournal }
+{
+    let about = fs::symlink_metadata(rt, path).map_err(unreadable)?;
+    if !about.is_file() {
+        return Err(ProgramFault::Journal(JournalFault::NotAFile));
+    }
+    let mut file = fs::open(rt, path).map_err(unreadable)?;
+    let mut found = Vec::new(rt.alloc());
+    file.read_to_end(&mut found).map_err(unreadable)?;
+    Ok(found)
+}
+
+// What the program tells of a file that could not be read.
+fn unreadable(error: io::Error) -> ProgramFault
+    ensures { IsOfJournal result }
+{
+    match error.kind() {
+        ErrorKind::OutOfMemory => ProgramFault::NoMemory,
+        _ => ProgramFault::Journal(JournalFault::Unreadable),
+    }
+}
+
+// What the program tells of a place that cannot be used.
+fn told_of_place(fault: PlaceFault) -> ProgramFault
+    ensures told { result ≡ place_told_as fault }
+    ensures of_journal { IsOfJournal result }
+{
+    match fault {
+        PlaceFault::InUse => ProgramFault::Journal(JournalFault::InUse),
+        PlaceFault::Unreadable => ProgramFault::Journal(JournalFault::Unreadable),
+        PlaceFault::NotAFile => ProgramFault::Journal(JournalFault::NotAFile),
+        PlaceFault::Failed => ProgramFault::Journal(JournalFault::Failed),
+        PlaceFault::NoMemory => ProgramFault::NoMemory,
+    }
+}
+
+// What the program tells of bytes that give no table.
+fn told_of_recovery(fault: RecoverFault) -> ProgramFault
+    ensures { result ≡ recovery_told_as fault }
+{
+    match fault {
+        RecoverFault::Bad { at } => ProgramFault::Journal(JournalFault::Bad { at }),
+        RecoverFault::Version => ProgramFault::Journal(JournalFault::Version),
+        RecoverFault::Lives => ProgramFault::Journal(JournalFault::Lives),
+        RecoverFault::NoMemory => ProgramFault::NoMemory,
+    }
+}
