@@ -1,7 +1,7 @@
 """The lines of a journal, and the groups that their changes make.
 
-A journal begins with the line FIRST. Each further line is a change, ` #` and the check of all changes so far. Zeros
-follow the lines. A command is a tuple of words without the group's name, as ("leave", 3).
+The first line of a journal has the number of its life, ` #` and the check of this line. Each further line is a change,
+` #` and the check of all changes so far. Zeros follow the lines. A command is a tuple of words without the group's name, as ("leave", 3).
 """
 
 import bisect
@@ -13,7 +13,8 @@ from identity import Identity, numbers_of
 from model import MOST_MEMBERS, MOST_TERMS, winner
 from serving import Differs, short
 
-FIRST = b"ringd journal 1\n"
+# The words before the number of the life, and the number of the last life.
+WORDS, MOST_LIVES = b"ringd journal 1 life ", 1 << 20
 KINDS = ("lelann", "chang", "hirschberg", "peterson")
 NAME = re.compile("[a-z0-9-]{1,16}")
 MOST_NUMBER, MOST_WEIGHT = 4294967295, 65535
@@ -31,9 +32,28 @@ def marked(change, check):
     return b"%s #%08x\n" % (change, check), check
 
 
-def text_of_changes(changes):
-    """Returns the text of a journal of these changes."""
-    lines, check = [FIRST], 0
+def first_line(life):
+    """Returns the first line of a journal in this life."""
+    return marked(WORDS + b"%d" % life, 0)[0]
+
+
+def life_of(text):
+    """Returns the number of the life in the first line of a text, which must be right; 0 if it has no line."""
+    first = text[:text.find(b"\n") + 1]
+    word = first[len(WORDS):].partition(b" ")[0]
+    if first and (not word.isdigit() or first != first_line(int(word))):
+        raise Differs(f"the journal begins with {short(first)}")
+    return int(word or 0)
+
+
+def lines_after_first(text):
+    """Returns the text after the first line."""
+    return text[text.find(b"\n") + 1:]
+
+
+def text_of_changes(changes, life=1):
+    """Returns the text of a journal of these changes in a life."""
+    lines, check = [first_line(life)], 0
     for change in changes:
         line, check = marked(change, check)
         lines.append(line)
@@ -186,21 +206,24 @@ class Versions:
 
 
 class History:
-    """The groups after each number of changes, from a journal that only grows."""
+    """The groups after each number of changes, from a journal that only grows, as it does between two starts. `life` is
+    the number of its life."""
 
     def __init__(self):
-        self.count, self.check, self.size = 0, 0, 0
+        self.count, self.check, self.size, self.life = 0, 0, 0, 0
         self.groups, self.names = {}, Versions(())
         # of each change, the numbers of changes after which it was made
         self.places = {}
 
     def read(self, text):
-        """Takes the text of a journal, which begins with all that was taken before. Each line must be right."""
-        for line in text[self.size:].splitlines(True):
-            if self.size:
-                self.add(line)
-            elif line != FIRST:
-                raise Differs(f"the journal begins with {short(line)}")
+        """Takes the text of a journal. Its lines after the first begin with all that was taken before. Each line must be
+        right, and the number of the life may not fall."""
+        life = life_of(text)
+        if life < self.life:
+            raise Differs(f"the journal is in life {life} after {self.life}")
+        self.life = life
+        for line in lines_after_first(text)[self.size:].splitlines(True):
+            self.add(line)
             self.size += len(line)
 
     def add(self, line):
@@ -211,7 +234,7 @@ class History:
         versions = self.groups.setdefault(words[1] if len(words) > 1 else "", Versions(None))
         group = after_words(versions.values[-1], words) if line == wanted else None
         if group is None:
-            raise Differs(f"line {self.count + 2} of the journal, at byte {self.size}, can't be: {short(line)}")
+            raise Differs(f"line {self.count + 2} of the journal, {self.size} bytes after the first line, can't be: {short(line)}")
         self.count += 1
         versions.add(self.count, group)
         if words[0] == "create":
@@ -221,6 +244,10 @@ class History:
     def group_at(self, name, count):
         """Returns a group after `count` changes; None if there is none."""
         return self.groups[name].at(count) if name in self.groups else None
+
+    def last_groups(self):
+        """Returns the groups after all changes, in order of their creation."""
+        return [(name, self.group_at(name, self.count)) for name in self.names.at(self.count)]
 
     def explained(self, name, command, reply, count):
         """Returns the least number of changes, from `count` on, after which a command is answered so; None if there
@@ -242,6 +269,13 @@ class History:
         for versions in [self.names, *self.groups.values()]:
             versions.forget()
         self.places = {change: places for change, places in self.places.items() if change.startswith(b"start ")}
+
+
+def history_of(text):
+    """Returns the history of a text."""
+    history = History()
+    history.read(text)
+    return history
 
 
 def answer(name, version, command):

@@ -7,16 +7,18 @@ import subprocess
 import tempfile
 from typing import NamedTuple
 
-from journals.changes import KINDS, History, line_of, whole_text
-from journals.lives import asked, client_of, compare, go_on, living
+from journals.changes import KINDS, History, history_of, life_of, line_of, whole_text
+from journals.lives import asked, client_of, compare, go_on, listing, living
 from journals.recording import Disk, read_recording
+from journals.shortening import see_start
 from journals.talkers import SHARED, Grower, Log, Talker, counts_of, talk_all
-from serving import PATIENCE, Client, Differs, same
+from serving import Client, Differs, same
 
 NAME = "ring.journal"
 CLIENTS = 8
-# How many replies each client waits for in a life, and the one by which the file grows past its zeros.
-REPLIES, GROWING = 150, 1500
+# How many replies each client waits for in a life, and the one by which the file grows past its zeros. The next start
+# can spare most changes of that one.
+REPLIES, GROWING = 150, 2000
 LIVES = 3
 # The journal of the next life is one of some images of moments in the last part of this one.
 SOME, LAST_PART = 400, 0.9
@@ -27,11 +29,17 @@ AT_ONCE = 64
 
 
 class Recorded:
-    """A recorded life: the files that it began with, its events, and its journal. `count` changes were on the disk
-    when it began. A reply *needs* a number of changes: it is right after them, and not before."""
+    """A recorded life: the files that it began with, its events, and its journal. `found` is the history of the text
+    that it found, `before`. `history` is that of its own text, which has `count` changes at first. A reply *needs* a
+    number of these changes: it is right after them, and not before."""
 
-    def __init__(self, files, events, history, count):
-        self.files, self.events, self.history, self.count = files, events, history, count
+    def __init__(self, files, events, before, text):
+        self.files, self.events, self.before = files, events, before
+        self.found, self.history = history_of(before), history_of(see_start(before, text))
+        self.count = self.history.count
+        if self.found.last_groups() != self.history.last_groups():
+            raise Differs("a start changed groups")
+        self.history.read(text)
         # of each port, the replies that were sent to it: how many changes each needs, and its line
         self.replies = {}
 
@@ -43,6 +51,18 @@ class Recorded:
         counts = counts_of(self.history, log.asked, replies, self.count)
         lines = [line_of(name, command)[:-1].decode() for name, command in log.asked]
         self.replies[log.port] = list(zip(counts, lines))
+
+    def is_shortened(self):
+        """Returns whether the life began with fewer changes than it found."""
+        return self.count < self.found.count
+
+    def of_text(self, text):
+        """Returns the history of a text that the journal had before or in this life, and the number of its changes."""
+        return (self.found if text == self.before else self.history), max(text.count(b"\n") - 1, 0)
+
+    def kept(self, text):
+        """Returns how many changes of this life such a text has. The text that was found has those of the begin."""
+        return self.count if text == self.before else self.of_text(text)[1]
 
     def needed_before(self, events):
         """Returns for each event, and for the end, the most changes that a reply before it needs, and the line of that
@@ -81,12 +101,7 @@ def record_life(program, library, folder, files, before, seed):
         talk_all(talkers, life.port, lambda it: it.count() >= (GROWING if isinstance(it, Grower) else REPLIES))
     events = read_recording(recording)
     text = whole_text(see_all(folder, files, events))
-    history = History()
-    history.read(before)
-    recorded = Recorded(files, events, history, history.count)
-    if not text.startswith(before):
-        raise Differs("a restart changed the text of the journal")
-    history.read(text)
+    recorded = Recorded(files, events, before, text)
     for log in [maker, *(log for talker in talkers for log in talker.logs)]:
         recorded.hear(log)
     return recorded
@@ -119,11 +134,14 @@ def see_all(folder, files, events):
 
 
 class Image(NamedTuple):
-    """The files that a crash leaves, and how many changes its journal has. `needed` has the most changes that a reply
-    before the crash needs, and the line of that reply."""
+    """The files that a crash leaves, the history that its journal is of, how many changes it has, and how many of the
+    life's own that makes. `needed` has the most changes that a reply before the crash needs, and the line of that
+    reply."""
 
     files: dict
+    history: History
     count: int
+    kept: int
     needed: tuple
     moment: int
 
@@ -141,15 +159,15 @@ def draw_images(life, events, moments, dice):
             disk.apply(event)
         over = moment
         files = disk.draw(dice)
-        count = max(whole_text(files.get(NAME, b"")).count(b"\n") - 1, 0)
-        yield Image(files, count, needed[moment], moment)
+        text = whole_text(files.get(NAME, b""))
+        yield Image(files, *life.of_text(text), life.kept(text), needed[moment], moment)
 
 
 def judge(life, image, restart):
     """Sees that a restart over an image finds all changes that a reply needs, and none in part."""
     needed, line = image.needed
-    if image.count < needed:
-        raise Differs(f"a crash before event {image.moment} leaves {image.count} changes, and the reply to {line!r}"
+    if image.kept < needed:
+        raise Differs(f"a crash before event {image.moment} leaves {image.kept} changes, and the reply to {line!r}"
                       f" needs {needed}")
     restart(life, image)
 
@@ -157,10 +175,12 @@ def judge(life, image, restart):
 def restart_service(program):
     """Returns a restart that serves clients over an image, and goes on with some of them."""
     def restart(life, image):
-        with image_folder(image) as file, living(program, file) as run, client_of(run) as client:
-            compare(lambda questions: asked(client, questions), life.history, image.count)
-            if image.moment % GOING_ON == 0:
-                go_on(client, life.history, image.count)
+        with image_folder(image) as file:
+            with living(program, file) as run, client_of(run) as client:
+                compare(lambda questions: asked(client, questions), image.history, image.count)
+                if image.moment % GOING_ON == 0:
+                    go_on(client, image.history, image.count)
+            see_start(whole_text(image.files.get(NAME, b"")), whole_text(file.read_bytes()))
     return restart
 
 
@@ -169,9 +189,8 @@ def restart_listing(program):
     def restart(life, image):
         with image_folder(image) as file:
             if file.exists():
-                ran = subprocess.run([program, "journal", file], stdin=subprocess.DEVNULL, capture_output=True,
-                                     timeout=PATIENCE, check=False)
-                wanted = listing_of(life.history, image.count, image.files[NAME])
+                ran = listing(program, file)
+                wanted = listing_of(image.history, image.count, image.files[NAME])
                 same("what is listed", (ran.stdout, ran.stderr, ran.returncode), (wanted, b"", 0))
                 same("the file after it was listed", file.read_bytes(), image.files[NAME])
     return restart
@@ -209,21 +228,23 @@ def listing_of(history, count, found):
         lines += [f"group {name} {group.kind}", f"  {group.reply(('members',))}", f"  {group.reply(('terms',))}"]
     end = len(whole_text(found))
     torn = max(len(found.rstrip(b"\0")) - end, 0)
-    lines.append(f"whole: {count} changes end at byte {end}, {torn} bytes of a torn tail are dropped")
+    lines.append(f"whole: life {life_of(whole_text(found))}, {count} changes end at byte {end}, {torn} bytes of a torn tail are dropped")
     return "\n".join([*lines, ""]).encode()
 
 
 def moments_of(life, events, count, dice):
-    """Returns `count` moments in rising order, drawn by chance. One in five is in the start of the life, one while the
-    file grows by zeros, and two are while a write or a move of a name is not on the disk for good."""
+    """Returns `count` moments in rising order. One in four is in the start of the life, which has few of them, so each
+    has its turn. The others are drawn by chance. Most are while a write or a move of a name is not on the disk for
+    good, and some of those while the file grows by zeros."""
     disk, unsure, growing = Disk(life.files), [], []
     for moment, event in enumerate(events, 1):
         disk.apply(event)
         unsure += [moment] if disk.is_unsure() else []
         growing += [moment] if disk.is_growing() else []
-    start = [event.kind for event in events].index("M")
-    choices = [range(start + 1), unsure, growing or unsure, unsure, range(len(events) + 1)]
-    return sorted(dice.choice(choices[at % len(choices)]) for at in range(count))
+    first = [event.kind for event in events].index("M")
+    others = [unsure, unsure, growing or unsure, unsure, unsure, range(len(events) + 1)]
+    in_turn = [at % (first + 1) for at in range(count // 4)]
+    return sorted(in_turn + [dice.choice(others[at % len(others)]) for at in range(count - len(in_turn))])
 
 
 def judge_all(life, restart, images, dice, pool):
@@ -258,14 +279,18 @@ def next_files(life, dice):
 
 def check_images(program, library, images, restart, dice, pool, lives=LIVES):
     """Records lives, one after a crash of the other, and has a restart over images of each. The answer is a line about
-    them, and the last life."""
-    files, before, torn, replies = {}, b"", 0, 0
+    them, and the last life whose start shortened the journal."""
+    files, before, torn, replies, shortened = {}, b"", 0, 0, []
     for number in range(lives):
         with tempfile.TemporaryDirectory() as folder:
             life = record_life(program, library, pathlib.Path(folder), files, before, dice.random())
         torn += judge_all(life, restart, -(-images // lives), dice, pool)
         replies += sum(map(len, life.replies.values()))
+        shortened += [life] if life.is_shortened() else []
         files = next_files(life, dice)
         before = whole_text(files[NAME])
+    if not shortened:
+        raise Differs("no start shortened the journal")
     return (f"{-(-images // lives) * lives} crash images of {lives} lives under {CLIENTS} clients, {torn} of them with"
-            f" a torn end: each of {replies} replies holds after each crash"), life
+            f" a torn end, after {len(shortened)} starts that shortened the journal: each of {replies} replies holds"
+            " after each crash"), shortened[-1]

@@ -8,19 +8,24 @@ import pathlib
 import tempfile
 import time
 
-from journals.changes import History, whole_text
+from journals.changes import History, history_of, life_of, lines_after_first, whole_text
 from journals.crashes import NAME, make_shared
 from journals.lives import asked, client_of, compare, kill_in_the_start, living
-from journals.talkers import Talker, counts_of, talk_all
+from journals.shortening import see_start
+from journals.talkers import Grower, Talker, counts_of, talk_all
 from serving import Differs
 
 CLIENTS = 16
 # How many lives one journal has.
 LIVES = 25
-# Of each 5 lives one more is killed in its start, at most this many seconds after it was begun.
+# After the first life, and after each fifth behind it, one more is killed in its start, at most this many seconds after
+# it was begun.
 IN_THE_START, START = 5, 0.03
 # The longest that clients talk in a life, in seconds.
 LONGEST = 0.6
+# In the first life, and in one of so many others, a client has the journal grow by changes that a start can spare, and
+# few others talk.
+GROWING, FEW = 4, 3
 
 
 class Chain:
@@ -28,17 +33,29 @@ class Chain:
 
     def __init__(self, program, folder, dice):
         self.program, self.file, self.dice = program, pathlib.Path(folder, NAME), dice
-        self.history, self.text, self.leaders, self.replies = History(), b"", {}, 0
+        self.history, self.text, self.leaders, self.replies, self.shortened = History(), b"", {}, 0, 0
         self.talkers = [Talker(number, dice.random()) for number in range(CLIENTS)]
+        self.grower = Grower(CLIENTS, dice.random())
 
     def die_in_the_start(self):
         """A life that is killed in its start, or soon after it. Members may come to know leaders in it."""
         kill_in_the_start(self.program, self.file, self.dice.uniform(0, START))
-        text = whole_text(self.file.read_bytes())
-        self.history.read(text)
-        if not text.startswith(self.text):
+        self.begin(whole_text(self.file.read_bytes()))
+
+    def begin(self, text):
+        """Takes what a start left in a text: all changes that it found, or fewer that lead to the same groups. The rest
+        of the text is taken too. The answer is how many changes the start left."""
+        begun = see_start(self.text, text) if life_of(text) > life_of(self.text) else self.text
+        if not text.startswith(begun):
             raise Differs("a life that was killed in its start changed the text of the journal")
-        self.text = text
+        if lines_after_first(begun) != lines_after_first(self.text):
+            earlier, self.history = self.history, history_of(begun)
+            self.shortened += 1
+            if earlier.last_groups() != self.history.last_groups():
+                raise Differs("a start changed groups")
+        count, self.text = self.history.count, text
+        self.history.read(text)
+        return count
 
     def live(self):
         """A life in which clients talk until it is killed."""
@@ -46,8 +63,10 @@ class Chain:
             with client_of(life) as client:
                 compare(lambda questions: asked(client, questions), self.history, self.history.count)
             logs = [make_shared(life.port)]
-            talk_all(self.talkers, life.port, lambda _: False, lambda: self.kill_soon(life))
-        self.explain(logs + [log for talker in self.talkers for log in talker.take_logs()])
+            is_growing = not self.text or self.dice.randrange(GROWING) == 0
+            talkers = [*self.talkers[:FEW], self.grower] if is_growing else self.talkers
+            talk_all(talkers, life.port, lambda _: False, lambda: self.kill_soon(life))
+        self.explain(logs + [log for talker in talkers for log in talker.take_logs()])
 
     def kill_soon(self, life):
         """Kills a life some time from now."""
@@ -56,11 +75,7 @@ class Chain:
 
     def explain(self, logs):
         """Sees that the journal of a life explains each reply of that life, and names no second leader."""
-        text = whole_text(self.file.read_bytes())
-        if not text.startswith(self.text):
-            raise Differs("what an earlier life left in the journal is changed")
-        count, self.text = self.history.count, text
-        self.history.read(text)
+        count = self.begin(whole_text(self.file.read_bytes()))
         for log in logs:
             counts_of(self.history, log.asked, log.replies, count)
             self.replies += len(log.replies)
@@ -89,15 +104,17 @@ class Chain:
 
 def kill_often(program, dice, lives, seconds):
     """Kills `lives` lives, and goes on until `seconds` seconds are over. The answer is a line about them."""
-    until, count, replies, leaders = time.monotonic() + seconds, 0, 0, 0
+    until, count, replies, leaders, shortened = time.monotonic() + seconds, 0, 0, 0, 0
     while count < lives or time.monotonic() < until:
         with tempfile.TemporaryDirectory() as folder:
             chain = Chain(program, folder, dice)
             for number in range(min(LIVES, max(lives - count, 2)) if not seconds else LIVES):
                 chain.live()
-                if number % IN_THE_START == IN_THE_START - 1:
+                if number % IN_THE_START == 0:
                     chain.die_in_the_start()
                 count += 1
             chain.end()
         replies, leaders = replies + chain.replies, leaders + len(chain.leaders)
-    return f"{count} lives were killed under {CLIENTS} clients: {replies} replies, {leaders} leaders"
+        shortened += chain.shortened
+    return (f"{count} lives were killed under {CLIENTS} clients, and {shortened} starts shortened the journal:"
+            f" {replies} replies, {leaders} leaders")

@@ -20,6 +20,9 @@ PORTS = itertools.cycle(random.sample(range(LOWEST, HIGHEST), HIGHEST - LOWEST))
 PORTS_LOCK = threading.Lock()
 # How often the program is started because somebody else took its port.
 TRIES = 5
+# For how many seconds leaders are waited for: on a machine that is busy, worker threads may have to wait. And how long
+# a client waits before it asks again, so that it does not keep them from the processors.
+LONG, PAUSE = 60, 0.002
 # How many questions are sent at once.
 AT_ONCE = 256
 # How many zeros are written ahead of the text at a time, and at most how many bytes between two syncs.
@@ -43,7 +46,7 @@ class Life:
 
     def __init__(self, program, file, *words, environment=None, folder=None, user=None, workers=2, inbox=1024):
         self.folder, self.user, self.workers, self.inbox = folder or file.parent, user, workers, inbox
-        self.words = [program, "run", "CONFIG", *(["--journal", str(file)] if file else []), *words]
+        self.words = [program, "run", "CONFIG", *(["--journal", str(file)] if file is not None else []), *words]
         self.environment = {**os.environ, **(environment or {})}
         for _ in range(TRIES):
             self.begin()
@@ -87,6 +90,12 @@ def kill_in_the_start(program, file, seconds):
     time.sleep(seconds)
     run.kill()
     run.wait()
+
+
+def listing(program, file, **given):
+    """Returns a run of `ringd journal`."""
+    streams = {"stdin": subprocess.DEVNULL, "stdout": subprocess.PIPE, "stderr": subprocess.PIPE, **given}
+    return subprocess.run([program, "journal", file], timeout=PATIENCE, check=False, **streams)
 
 
 @contextlib.contextmanager
@@ -141,8 +150,9 @@ def wait_until_decided(client, groups):
     """Waits until every member of the last term of these groups, given by their names, names the right leader."""
     wanted = [(name, ("who", it), decided_group(group)) for name, group in groups.items()
               for it in numbers_of(group.ring)]
-    until = time.monotonic() + PATIENCE
+    until = time.monotonic() + LONG
     while wanted:
+        time.sleep(PAUSE)
         replies = asked(client, [(name, command) for name, command, _ in wanted])
         left = []
         for (name, command, group), reply in zip(wanted, replies):

@@ -45,7 +45,7 @@ def syncs_of(life, events, name):
             file = disk.by_inode.get(event.key)
             names = [it for it, other in disk.names.items() if other is file] or [FOLDER]
             kept = disk.kept.get(NAME)
-            count = whole_text(bytes(kept.synced)).count(b"\n") - 1 if kept else 0
+            count = life.kept(whole_text(bytes(kept.synced))) if kept else 0
             found += [Sync(at, ends[at], name, count)] if name in names else []
         disk.apply(event)
     return found
@@ -142,7 +142,7 @@ def restart_by(reading):
     come there is skipped. All readings agree on all whole lines except the last."""
     def restart(life, image):
         same = max(image.count - 1, 0)
-        groups = {name: life.history.group_at(name, same) for name in life.history.names.at(same)}
+        groups = {name: image.history.group_at(name, same) for name in image.history.names.at(same)}
         for line in reading(image.files.get(NAME, b"")).splitlines()[1 + same:]:
             words = line.partition(b" #")[0].decode().split(" ")
             name = words[1] if len(words) > 1 else ""
@@ -150,7 +150,7 @@ def restart_by(reading):
             if group:
                 groups[name] = group
         compare(lambda questions: [answer(name, groups.get(name) if name else groups, command)
-                                   for name, command in questions], life.history, image.count)
+                                   for name, command in questions], image.history, image.count)
     return restart
 
 

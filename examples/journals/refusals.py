@@ -1,12 +1,12 @@
-"""Checks of the files that are refused as a journal, one by one. The program prints one line
-about each, and does not change it."""
+"""Checks of the files that are refused as a journal, one by one. The program prints one line about each, and does not
+change it. `ringd journal` refuses the same files in the same words."""
 
 import os
 import random
 import stat
 
-from journals.changes import FIRST, marked, text_of_changes
-from journals.lives import AHEAD, Life, client_of, living
+from journals.changes import MOST_LIVES, WORDS, first_line, marked, text_of_changes
+from journals.lives import AHEAD, Life, client_of, listing, living
 from serving import Differs, ended, same
 
 CHECKS = []
@@ -16,6 +16,11 @@ UNREADABLE = b"ringd: journal unreadable\n"
 NOT_A_FILE = b"ringd: journal not a file\n"
 VERSION = b"ringd: journal of another version\n"
 FAILED = b"ringd: journal failed\n"
+UNWRITTEN = b"ringd: write failed\n"
+BAD = b"ringd: journal bad at byte "
+NO_LIFE = b"ringd: journal has no life left\n"
+# What is said of the file itself, and so of its listing too.
+OF_FILE = (NOT_A_FILE, VERSION, NO_LIFE)
 CHANGES = [b"create a chang", b"join a 5/9", b"join a 7", b"leave a 7", b"join a 8", b"start a", b"know a 1 8 5/9",
            b"know a 1 5/9 5/9", b"create b peterson", b"start a", b"join b 1", b"leave a 5"]
 
@@ -28,7 +33,7 @@ def check(function):
 
 def bad_at(place):
     """The line about a byte at which a journal is bad."""
-    return b"ringd: journal bad at byte %d\n" % place
+    return BAD + b"%d\n" % place
 
 
 def contents(folder):
@@ -39,14 +44,23 @@ def contents(folder):
 
 def refused(program, file, error, what="", **given):
     """Sees that the program ends with this line before it listens, and changes no file."""
-    folder = given.get("folder", file.parent)
+    folder = given.get("folder") or file.parent
     before = contents(folder)
     life = Life(program, file, **given)
     life.kill()
     same(f"{what}: standard output, standard error and status", (life.out, life.error, life.run.returncode),
          (b"", error, 1))
+    if error in OF_FILE or error.startswith(BAD):
+        refused_listing(program, file, error, what)
     if contents(folder) != before:
         raise Differs(f"{what}: a file was changed")
+
+
+def refused_listing(program, file, error, what="", **given):
+    """Sees that `ringd journal` ends with this line, and lists nothing."""
+    ran = listing(program, file, **given)
+    same(f"{what}: the listing, standard error and status", (ran.stdout or b"", ran.stderr, ran.returncode),
+         (b"", error, 1))
 
 
 @check
@@ -77,6 +91,38 @@ def a_folder_that_is_missing_is_refused(program, file):
     refused(program, file.parent / "none" / file.name, UNREADABLE, folder=file.parent)
     refused(program, file.parent / "none" / ".." / file.name, UNREADABLE, folder=file.parent)
     refused(program, file.parent / ("x" * 300), UNREADABLE, folder=file.parent)
+
+
+@check
+def a_listing_needs_a_file(program, file):
+    for name in (file, file.parent / "none" / file.name, file.parent / ("x" * 300), ""):
+        refused_listing(program, name, UNREADABLE, name)
+    file.write_bytes(text_of_changes(CHANGES))
+    file.chmod(0)
+    if not os.getuid():
+        file.parent.chmod(0o777)
+    if os.getuid() or can_run(program, NOBODY):
+        drop = None if os.getuid() else lambda: os.setuid(NOBODY)
+        refused_listing(program, file, UNREADABLE, preexec_fn=drop)
+    same("files", contents(file.parent).keys(), {file.name})
+
+
+@check
+def a_listing_that_can_not_be_written_is_reported(program, file):
+    file.write_bytes(text_of_changes(CHANGES))
+    refused_listing(program, file, UNWRITTEN, "closed", stdout=None, preexec_fn=lambda: os.close(1))
+    ours, theirs = os.pipe()
+    os.close(ours)
+    refused_listing(program, file, UNWRITTEN, "a pipe that nobody reads", stdout=theirs)
+    os.close(theirs)
+    with open("/dev/full", "wb") as full:
+        refused_listing(program, file, UNWRITTEN, "a full disk", stdout=full)
+
+
+@check
+def an_empty_name_is_refused(program, file):
+    refused(program, "", UNREADABLE, folder=file.parent)
+    same("files", contents(file.parent), {})
 
 
 @check
@@ -118,11 +164,36 @@ def can_run(program, user):
 @check
 def another_version_is_refused(program, file):
     text = text_of_changes(CHANGES)
-    for found in (b"ringd journal 2\n", text.replace(b" 1\n", b" 2\n", 1), text.replace(b"\n", b" \n", 1),
-                  text.replace(b"\n", b"\r\n", 1), b"\n" + text, b" " + text, text[1:], FIRST[:-1], FIRST[:5],
-                  FIRST[:5] + bytes(90), text[len(FIRST):]):
+    for found in (b"ringd journal 2 life 1\n", text.replace(b"journal 1", b"journal 2", 1), b"ringd journal 1\n",
+                  b"\n" + text, b" " + text, text[1:], text[:5], text[:5] + bytes(90), text[:len(WORDS) - 1],
+                  text[len(first_line(1)):]):
         file.write_bytes(found)
         refused(program, file, VERSION, repr(found[:20]))
+
+
+@check
+def a_damaged_number_of_a_life_is_found(program, file):
+    rest = text_of_changes(CHANGES)[len(first_line(1)):]
+    for word in (b"", b"1", b"1 ", b"2 #00000000", b"x", b"-1", b"+1", b" 1"):
+        for end in (b"\n", b"\n" + rest, b"\r\n" + rest, b"", bytes(90)):
+            file.write_bytes(WORDS + word + end)
+            refused(program, file, bad_at(len(WORDS)), repr(word + end[:9]))
+    for word in (b"0", b"01", b"007", b"+7", b"%d" % (MOST_LIVES + 1), b"4294967297", b"9" * 40, b"1 1"):
+        file.write_bytes(marked(WORDS + word, 0)[0] + rest)
+        refused(program, file, bad_at(len(WORDS)), repr(word))
+    for first in (first_line(7)[:-1], first_line(7)[:-2] + b"\n", first_line(7)[:-1] + b" \n", first_line(7)[:-1] + b"\0\n"):
+        file.write_bytes(first + rest * (first[-1] == 10 and b"\0" not in first))
+        refused(program, file, bad_at(len(WORDS)), repr(first))
+
+
+@check
+def a_journal_has_a_last_life(program, file):
+    for life in (9, 99999, MOST_LIVES - 1):
+        file.write_bytes(text_of_changes(CHANGES, life))
+        with living(program, file) as run, client_of(run) as client:
+            same("reply", client.ask(b"members b\n"), b"members 1\n")
+        same("the first line", file.read_bytes().partition(b"\n")[0] + b"\n", first_line(life + 1))
+    refused(program, file, NO_LIFE, "after the last life")
 
 
 @check
@@ -149,7 +220,7 @@ def each_damaged_byte_is_found(program, file):
         begin = max(begin for begin in begins if begin <= place)
         other = text[place] ^ dice.choice([1, 2, 4, 8, 16, 32, 64, 128])
         file.write_bytes(text[:place] + bytes([other or 255]) + text[place + 1:] + bytes(AHEAD))
-        refused(program, file, bad_at(begin) if begin else VERSION, f"byte {place} as {other}")
+        refused(program, file, bad_at(begin or len(WORDS)) if place >= len(WORDS) else VERSION, f"byte {place} as {other}")
 
 
 @check
@@ -202,11 +273,3 @@ def bytes_far_after_the_first_zero_are_found(program, file):
         refused(program, file, bad_at(len(text) + at), f"{at} bytes after the first zero")
     file.write_bytes(text + bytes(AHEAD - 1) + b"xy" + bytes(AHEAD))
     refused(program, file, bad_at(len(text) + AHEAD), "one of two bytes is too far")
-
-
-@check
-def places_are_refused_with_a_journal(program, file):
-    life = Life(program, file, "--places")
-    with ended(life.run):
-        same("what it said", (life.out, life.error), (b"", b"ringd: --places cannot be used with --journal\n"))
-        same("files", contents(file.parent), {})

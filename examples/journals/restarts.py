@@ -4,13 +4,15 @@ import signal
 import subprocess
 import time
 
-from journals.changes import FIRST, History, text_of_changes, whole_text
-from journals.lives import AHEAD, Life, asked, client_of, living
+from journals.changes import History, first_line, lines_after_first, text_of_changes, whole_text
+from journals.lives import AHEAD, LONG, PAUSE, Life, asked, client_of, listing, living
 from serving import PATIENCE, Client, Differs, ended, same
 
 CHECKS = []
 # By how many bytes memory may grow.
 MOST = 1 << 20
+# What more `sed` does to the commands of a journal, so that each term is decided in a replay.
+DRAINS = r"; s/^start \(.*\)/&\ndrain \1 1000000000/"
 
 
 def check(function):
@@ -26,10 +28,11 @@ def say(life, lines, replies):
 
 def until(life, line, reply, first):
     """Asks a question until it has this reply; before that it may have the first one."""
-    patience = time.monotonic() + PATIENCE
+    patience = time.monotonic() + LONG
     with client_of(life) as client:
         seen = client.ask(line)
         while seen == first and time.monotonic() < patience:
+            time.sleep(PAUSE)
             seen = client.ask(line)
     same("reply", seen, reply)
 
@@ -108,8 +111,9 @@ def many_terms_go_on_over_inboxes_of_one(program, file):
     file.write_bytes(text_of_changes(made + [b"start %s" % name.encode() for name in names]))
     for workers in (1, 2, 8):
         with living(program, file, workers=workers, inbox=1) as life, client_of(life) as client:
-            patience, replies = time.monotonic() + PATIENCE, []
+            patience, replies = time.monotonic() + LONG, []
             while set(replies) != {"leader %d 3" % (1 + (workers > 1))} and time.monotonic() < patience:
+                time.sleep(PAUSE)
                 replies = asked(client, [(name, ("who", it)) for name in names for it in (3, 1, 2)])
             same("members that know no leader", sum(not reply.startswith("leader ") for reply in replies), 0)
             if workers == 1:
@@ -175,11 +179,11 @@ def a_journal_is_lines_that_people_read(program, file):
 def a_restart_keeps_each_line(program, file):
     with living(program, file) as life:
         say(life, b"create a chang\njoin a 5/9\njoin a 7\n", b"ok\n" * 3)
-    text = whole_text(file.read_bytes())
-    for _ in range(3):
+    lines = lines_after_first(whole_text(file.read_bytes()))
+    for number in range(2, 13):
         with living(program, file) as life:
             say(life, b"members a\n", b"members 5/9 7\n")
-        same("the text of the journal", whole_text(file.read_bytes()), text)
+        same("the text of the journal", whole_text(file.read_bytes()), first_line(number) + lines)
     same("files next to the journal", names_next_to(file), [file.name, f"{file.name}.lock"])
 
 
@@ -241,7 +245,7 @@ def a_signal_ends_a_life_like_a_crash(program, file):
 
 @check
 def a_journal_without_lines_begins_anew(program, file):
-    for found in (b"", bytes(70), bytes(200000), FIRST, FIRST + bytes(100)):
+    for found in (b"", bytes(70), bytes(200000), first_line(1), first_line(9) + bytes(100)):
         file.write_bytes(found)
         with living(program, file) as life:
             say(life, b"groups\ncreate a chang\n", b"groups\nok\n")
@@ -251,20 +255,21 @@ def a_journal_without_lines_begins_anew(program, file):
 
 @check
 def a_torn_tail_is_dropped(program, file):
-    text = text_of_changes([b"create a chang", b"join a 5", b"join a 7"])
+    changes = [b"create a chang", b"join a 5", b"join a 7"]
+    text, next_text = text_of_changes(changes, 9), text_of_changes(changes, 10)
     for tail in (b"j", b"join a 8", b"join a 8 #12345678", b"\0" * 9 + b"join a 8 #12345678\n", b"\0\n", b"#",
                  b"join a 8\0#00000000\n" * 3, bytes(AHEAD - 1) + b"x", b"x" * 70000, b"create b"):
         for zeros in (0, 1, AHEAD):
             file.write_bytes(text + tail + bytes(zeros))
             with living(program, file) as life:
                 say(life, b"groups\nmembers a\n", b"groups a\nmembers 5 7\n")
-            same("the text of the journal", whole_text(file.read_bytes()), text)
+            same("the text of the journal", whole_text(file.read_bytes()), next_text)
 
 
 @check
 def what_an_earlier_start_left_is_removed(program, file):
     file.write_bytes(text_of_changes([b"create a chang"]))
-    file.with_name(f"{file.name}.new").write_bytes(b"ringd journal 1\ncreate b chang #0000")
+    file.with_name(f"{file.name}.new").write_bytes(first_line(2) + b"create b chang #0000")
     file.with_name(f"{file.name}.lock").write_bytes(b"x")
     with living(program, file) as life:
         say(life, b"groups\n", b"groups a\n")
@@ -324,12 +329,6 @@ def a_journal_is_listed_while_it_grows(program, file):
             same("the first words of the last line", lines[-1].split(b" ")[0], b"whole:")
 
 
-def listing(program, file):
-    """Returns a run of `ringd journal`."""
-    return subprocess.run([program, "journal", file], stdin=subprocess.DEVNULL, capture_output=True, timeout=PATIENCE,
-                          check=False)
-
-
 @check
 def a_damaged_journal_goes_on_after_a_cut(program, file):
     text = text_of_changes([b"create a chang", b"join a 5", b"join a 7", b"join a 8"])
@@ -349,8 +348,14 @@ def a_journal_is_a_schedule(program, file):
         say(life, b"create a chang\njoin a 5/9\njoin a 7\nleave a 5\nstart a\nstart a\n",
             b"ok\n" * 4 + b"term 1\nterm 2\n")
         until(life, b"who a 7\n", b"leader 2 7\n", b"undecided 2\n")
-    lines = file.read_bytes().replace(b"\0", b"").splitlines()
-    commands = [line.partition(b" #")[0] for line in lines if not line.startswith((b"ringd", b"know"))]
-    ran = subprocess.run([program, "replay"], input=b"\n".join(commands), capture_output=True, timeout=PATIENCE,
-                         check=False)
-    same("replies", ran.stdout, b"ok\n" * 4 + b"term 1\nterm 2\n")
+    replies = b"ok\n" * 4 + b"term 1\n%sterm 2\n%s"
+    same("replies", replayed(program, file, ""), replies % (b"", b""))
+    drained = b"drained 2 left 0\n"
+    same("replies with drains", replayed(program, file, DRAINS), replies % (drained, drained))
+
+
+def replayed(program, file, more):
+    """Returns what `ringd replay` prints of a journal, by the commands of docs/OPERATING.md."""
+    schedule = rf"tr -d '\0' < {file.name} | grep -v '^ringd\|^know' | sed 's/ #.*//{more}'"
+    words = ["sh", "-c", f'{schedule} | "$0" replay', program]
+    return subprocess.run(words, stdout=subprocess.PIPE, cwd=file.parent, timeout=PATIENCE, check=True).stdout

@@ -18,6 +18,11 @@ class Token(NamedTuple):
     term: int
 
 
+def group_of(epoch):
+    """Returns the name of the group of an epoch. Epoch 0 is the one before any was begun."""
+    return f"jobs-{epoch}" if int(epoch) else "jobs"
+
+
 class Entry(NamedTuple):
     """A line of a journal."""
     kind: str

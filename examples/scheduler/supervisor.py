@@ -8,7 +8,8 @@ Here the supervisor does both, by three rules.
 2. A worker that has ended, or was silent for too long, is removed, and a term is started among the
    others. If it led, the next leader has a newer term.
 3. If `ringd` does not know the group, it was restarted and has forgotten everything. Then a new epoch
-   begins, with a group of its own.
+   begins, with a group of its own. If `ringd` keeps a journal, that does not happen: there is one group, and
+   no epoch is begun.
 
 Silence proves nothing. A worker that was stopped for a second is taken for dead, and goes on afterwards
 as if it still led. That does no harm, since the store refuses its writes.
@@ -22,6 +23,7 @@ import sys
 import threading
 import time
 
+from journal import group_of
 from lines import Lines, Refused
 
 WORKER = pathlib.Path(__file__).with_name("worker.py")
@@ -59,14 +61,16 @@ class Worker:
 
 
 class Supervisor:
-    """Keeps `count` workers running, and gives ringd its members and terms."""
+    """Keeps `count` workers running, and gives ringd its members and terms. `keeps` says whether ringd keeps a
+    journal."""
 
-    def __init__(self, ring_port, store_port, count, tell=lambda text: None):
+    def __init__(self, ring_port, store_port, count, tell=lambda text: None, keeps=False):
         self.ports = ring_port, store_port
         self.ring = Lines(ring_port)
         self.store = Lines(store_port)
         self.tell = tell
-        self.group = None  # (none: an epoch has to begin)
+        self.group = None  # (none: one has to be taken up, or an epoch has to begin)
+        self.keeps = keeps
         self.members = set()
         self.is_due = True  # whether a term has to be started
         self.asked = None  # a member of the last term, of whom ringd is asked
@@ -85,16 +89,20 @@ class Supervisor:
 
     def run(self):
         """Works until `is_over` is set."""
+        silent = None  # (why nobody answered last time)
         while not self.is_over.is_set():
             self.hear()
             try:
                 self.follow()
+                silent = None
             except Refused as refusal:
                 self.tell(f"{self.group}: no {refusal}")
                 if str(refusal) in ("no-group", "term-limit"):
-                    self.group = None
+                    self.group, self.keeps = None, False
             except OSError as fault:
-                self.tell(f"nobody answers: {fault}")
+                if str(fault) != silent:
+                    self.tell(f"nobody answers: {fault}")
+                silent = str(fault)
         for worker in self.workers.values():
             worker.end()
 
@@ -110,7 +118,7 @@ class Supervisor:
 
     def follow(self):
         """Joins the living workers and removes the others. Starts a term if one was removed."""
-        if self.group is None:
+        if self.group is None and not (self.keeps and self.take_up()):
             self.found()
         latest = time.monotonic() - SILENCE
         alive = {it.number for it in self.workers.values() if it.heard > latest}
@@ -126,11 +134,39 @@ class Supervisor:
         if self.asked and time.monotonic() - self.looked > LOOK:
             self.look()
 
+    def take_up(self):
+        """Takes up the group of the last epoch with the members that it has, and creates it if nobody led in it.
+        Returns false if ringd has lost it."""
+        _, epoch, term = self.store.ask("epoch")
+        group = group_of(epoch)
+        if not int(term):
+            self.create(group)
+        try:
+            _, *members = self.ring.ask("members", group)
+        except Refused as refusal:
+            if str(refusal) != "no-group":
+                raise
+            return False
+        self.begin(group, members)
+        return True
+
     def found(self):
         """Begins an epoch with a group of its own."""
-        _, epoch = self.store.ask("begin")
-        self.ring.ask("create", f"jobs-{epoch}", "chang")
-        self.group, self.members = f"jobs-{epoch}", set()
+        _, epoch, _ = self.store.ask("begin")
+        self.create(group_of(epoch))
+        self.begin(group_of(epoch), [])
+
+    def create(self, group):
+        """Creates a group, if there is none."""
+        try:
+            self.ring.ask("create", group, "chang")
+        except Refused as refusal:
+            if str(refusal) != "exists":
+                raise
+
+    def begin(self, group, members):
+        """Begins with a group that has these members."""
+        self.group, self.members = group, {int(member) for member in members}
         self.is_due, self.asked = True, None
         self.tell(f"{self.group} begins")
 

@@ -11,11 +11,10 @@ import os
 import sys
 import time
 
-from journal import Token
+from journal import Token, group_of
 from lines import Lines, Refused
 
-# After how many seconds a worker asks again if it does not lead. Each question stays in the memory of
-# ringd for good: docs/OPERATING.md says what that costs.
+# After how many seconds a worker asks again if it does not lead.
 PAUSE = 0.05
 # For how many seconds a leader works before it asks again.
 STRETCH = 1
@@ -29,8 +28,8 @@ def token_of(ring, store, me):
     The group is named for the epoch. So no answer of ringd can be taken for an answer of another epoch: a
     restarted ringd does not know the earlier group, and says so.
     """
-    _, epoch = store.ask("epoch")
-    standing, *numbers = ring.ask("who", f"jobs-{epoch}", me)
+    _, epoch, _ = store.ask("epoch")
+    standing, *numbers = ring.ask("who", group_of(epoch), me)
     if standing != "leader" or int(numbers[1]) != me:
         return None
     return Token(int(epoch), int(numbers[0]))

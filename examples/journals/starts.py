@@ -1,0 +1,77 @@
+"""Checks of starts that shorten a journal, one by one."""
+
+from journals.changes import text_of_changes, whole_text
+from journals.lives import asked, client_of, living
+from journals.restarts import say, until
+from serving import same
+
+CHECKS = []
+# How often members come and go.
+OFTEN = 2000
+
+
+def check(function):
+    """Lists a function among the checks, under its name."""
+    CHECKS.append(function)
+    return function
+
+
+def see_text(file, text):
+    """Sees that the journal's file has this text, and zeros after it."""
+    found = file.read_bytes()
+    same("the text of the journal", whole_text(found), text)
+    same("bytes after the text that are no zeros", found[len(text):].strip(b"\0"), b"")
+
+
+def see_starts(program, file, changes, questions, replies):
+    """Sees that the starts of lives 2 and 3 leave these changes, and that the replies to questions are right."""
+    for life in (2, 3):
+        with living(program, file) as run, client_of(run) as client:
+            same("replies", asked(client, questions), replies)
+        see_text(file, text_of_changes(changes, life))
+
+
+@check
+def a_start_shortens_a_journal_of_members_that_come_and_go(program, file):
+    came_and_went = b"join a 7/65535\nleave a 7\n" * OFTEN
+    with living(program, file) as life:
+        say(life, b"create a chang\ncreate b peterson\njoin b 1\njoin a 4\njoin a 1/9\njoin a 3\nstart a\n",
+            b"ok\n" * 6 + b"term 1\n")
+        for line in (b"who a 3\n", b"who a 1\n", b"who a 4\n"):
+            until(life, line, b"leader 1 1/9\n", b"undecided 1\n")
+        say(life, came_and_went + b"leave a 1\njoin a 1/8\nleave a 4\njoin a 4\nleave b 1\njoin b 2\n",
+            b"ok\n" * (2 * OFTEN + 6))
+    same("changes", whole_text(file.read_bytes()).count(b"\n") - 1, 16 + 2 * OFTEN)
+    changes = [b"create a chang", b"join a 4", b"join a 1/9", b"join a 3", b"start a", b"know a 1 4 1/9",
+               b"know a 1 1/9 1/9", b"know a 1 3 1/9", b"leave a 4", b"leave a 1", b"join a 1/8", b"join a 4",
+               b"create b peterson", b"join b 2"]
+    questions = [("", ("groups",)), ("a", ("members",)), ("a", ("terms",)),
+                 *(("a", ("who", it)) for it in (1, 3, 4, 7)), ("b", ("members",)), ("b", ("terms",))]
+    see_starts(program, file, changes, questions, [
+        "groups a b", "members 3 1/8 4", "terms 1:1/9", *["leader 1 1/9"] * 3, "no not-in-term", "members 2", "terms"])
+
+
+@check
+def a_start_keeps_what_members_know_of_each_term(program, file):
+    came_and_went = [b"join a 9/1", b"leave a 9"] * 20
+    begin = [b"create a chang", b"join a 4", b"join a 1/9", b"join a 3"]
+    file.write_bytes(text_of_changes([
+        *begin, b"start a", b"know a 1 3 1/9", b"know a 1 4 1/9", *came_and_went, b"start a", *came_and_went,
+        b"start a", b"know a 3 4 1/9", b"leave a 1", *came_and_went, b"join a 5/1", b"start a", b"know a 4 5/1 5/1",
+        b"know a 4 4 5/1", b"know a 4 3 5/1"]))
+    see_starts(program, file, [
+        *begin, b"start a", b"know a 1 4 1/9", b"know a 1 3 1/9", b"start a", b"start a", b"know a 3 4 1/9",
+        b"leave a 1", b"join a 5/1", b"start a", b"know a 4 4 5/1", b"know a 4 3 5/1", b"know a 4 5/1 5/1"],
+        [("a", ("terms",)), ("a", ("members",)), *(("a", ("who", it)) for it in (4, 3, 5, 1))],
+        ["terms 1:1/9 2:- 3:1/9 4:5/1", "members 4 3 5/1", *["leader 4 5/1"] * 3, "no not-in-term"])
+
+
+@check
+def a_start_spares_half_of_the_changes_or_none(program, file):
+    for members, is_short in ((199, True), (200, False)):
+        few = [b"create a chang", *(b"join a %d" % member for member in range(1, members + 1))]
+        found = few + [b"join a 300", b"leave a 300"] * 100
+        file.write_bytes(text_of_changes(found))
+        see_starts(program, file, few if is_short else found, [("a", ("members",))],
+                   [" ".join(["members", *map(str, range(1, members + 1))])])
+
