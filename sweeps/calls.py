@@ -6,6 +6,7 @@ memory have to pass whichever growth is refused. Tests that start threads are le
 of such a test is refused memory, the other may wait for it for ever.
 """
 
+import itertools
 import os
 import re
 import subprocess
@@ -13,8 +14,11 @@ import tempfile
 
 from sweep import Bad, ROOT
 
-# Sessions over a front, some of which fail, and two sessions or two threads at one table.
+# Sessions over a front, some of which fail, and two threads at one table.
 SHARED = ("session_rows::", "thread_rows::")
+# A service that is refused memory. Where that is a thread's own, the fault is that no thread could be started, and the test
+# stops at an assertion.
+STARVED = ("starved_rows::",)
 # Tests that ask once more, by crate and by the beginnings of their names: for each growth they have to pass.
 ASK_AGAIN = {
     "ring_line_rows_tests": ("",),
@@ -23,13 +27,18 @@ ASK_AGAIN = {
         "node_rows::", "note_rows::", "scan_rows::", "schedules::", "settle_rows::", "work_rows::",
         "workers::starved_worker::", "world_rows::",
     ),
-    "ring_table_rows_tests": ("seat_rows::", "table_rows::", *SHARED),
+    "ring_table_rows_tests": ("closing_rows::", "seat_rows::", "table_rows::", *SHARED),
     "ring_winner_rows_tests": ("",),
 }
 # Tests that start threads, and end whichever growth is refused.
 THREADED = {
     "ring_server_rows_tests": ("listening::a_failed_", "running::a_run_says_", "running::a_spent_guest_"),
-    "ring_table_rows_tests": SHARED,
+    "ring_table_rows_tests": SHARED + STARVED,
+}
+# Tests in which each growth is refused, without a gap: worked cases of a mux, a node, a book, a table, a service and a worker.
+WHOLE = {
+    "ring_rows_tests": ("node_rows::", "note_rows::", "schedules::", "workers::starved_worker::"),
+    "ring_table_rows_tests": ("closing_rows::", "starved_rows::", "table_rows::"),
 }
 # What the test program says where a test ends by an error, and where it stops at an assertion.
 ENDED, STOPPED = b"the test failed: its result gives status 1\n", b"\ntest stopped at "
@@ -60,8 +69,11 @@ def is_left_out(library, program, name):
     return not is_among(program, name, THREADED) and run(library, program, name, spawn=1, how="count")[1]
 
 
-def numbers(is_full):
-    """Which growths are refused: the first forty, and then each a fifth further than the last; or ten times as many."""
+def numbers(program, name, is_full):
+    """Which growths of a test are refused: the first forty, and then each a fifth further than the last; or ten times as
+    many; or all."""
+    if is_among(program, name, WHOLE):
+        yield from itertools.count(1)
     each, part = (400, 50) if is_full else (40, 5)
     number = 0
     while True:

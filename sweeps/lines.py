@@ -10,6 +10,15 @@ DRAIN = re.compile(rb"drain (\S+) ([0-9]+)")
 STARVED = re.compile(rb"drained ([0-9]+) left [0-9]+ no-memory")
 DRAINED = re.compile(rb"drained ([0-9]+) left ([0-9]+)")
 
+# An election of LeLann's on the ring 3, 1, 2, whose first delivery makes a list grow.
+BEGIN = [(b"create a lelann", b"ok"), (b"join a 3", b"ok"), (b"join a 1", b"ok"), (b"join a 2", b"ok"), (b"start a", b"term 1")]
+# What is asked then, and the replies where the growth of that delivery is refused.
+FIRST_DELIVERY = {
+    "alone": [(b"deliver a 3 left", b"no no-memory"), (b"pending a", b"pending 3"), (b"deliver a 3 left", b"moved"),
+              (b"drain a 100", b"drained 11 left 0")],
+    "of a drain": [(b"drain a 100", b"drained 0 left 3 no-memory"), (b"drain a 100", b"drained 12 left 0")],
+}
+
 
 class Lines:
     """A file of rows: the lines of a run, and the replies that it has to give."""
@@ -74,3 +83,13 @@ def refuse(library, program, lines, growth):
     if again.status != 0 or again.out != text(expected):
         raise Bad(f"{lines.name}: growth {growth}: otherwise after line {place + 1} was asked again")
     return True
+
+
+def starves(library, program, asked, growth):
+    """One run of the election in which this growth is refused: whether it is that of the first delivery, which is asked for
+    alone or in a drain, and all replies are as written; `None` where no such growth is made."""
+    commands, replies = zip(*BEGIN, *asked)
+    ran = run(library, [program, "replay"], text(commands), growth=growth)
+    if not ran.told:
+        return None
+    return ran.status == 0 and not ran.err and ran.out == text(replies)

@@ -165,8 +165,8 @@ static int opened(int folder, const char *path, int flags, mode_t mode) {
     int file = (int)syscall(SYS_openat, folder, path, flags, mode);
     if (file < 0 || !is_ours(path) || fstat(file, &about)) return file;
     know(about.st_ino);
-    if (flags & O_TRUNC) record('C', about.st_ino, 0, 0, NULL, 0);
     record('o', about.st_ino, 0, file, name_in(path), strlen(name_in(path)));
+    if (flags & O_TRUNC) record('C', about.st_ino, 0, 0, NULL, 0);
     return file;
 }
 

@@ -95,13 +95,24 @@ class Client:
 
 
 class Server:
-    """A run of the program that serves clients, where the calls go wrong that the names say."""
+    """A run of the program that serves clients, where the calls go wrong that the names say. It has a journal if the
+    bytes of one are given."""
 
-    def __init__(self, library, program, words, workers=2, inbox=64, **wrong):
+    def __init__(self, library, program, words, workers=2, inbox=64, journal=None, **wrong):
         self.program, self.words, self.workers, self.inbox = program, words, workers, inbox
         settings = {f"SWEEP_{name.upper()}": str(value) for name, value in wrong.items()}
         self.environment = {**os.environ, "LD_PRELOAD": str(library), **settings}
         self.folder = tempfile.TemporaryDirectory()
+        if journal is not None:
+            path = pathlib.Path(self.folder.name) / "ring.journal"
+            path.write_bytes(journal)
+            self.words = [*words, "--journal", path]
+        self.start()
+
+    def start_anew(self):
+        """Starts the program once more, with no call going wrong."""
+        self.stop()
+        self.environment = dict(os.environ)
         self.start()
 
     def start(self):

@@ -21,6 +21,7 @@ RUN_SESSIONS = 3
 # What the program may say before it listens, and behind it.
 BEFORE = (NO_MEMORY, b"ringd: thread failed\n")
 BEHIND = (b"ringd: thread failed\n",)
+FAILED = b"ringd: journal failed\n"
 # How long a member may be undecided, where nothing was refused, and where a worker may have starved.
 PATIENCE = 10
 LOOKS, LOOK = 12, 0.001
@@ -34,6 +35,8 @@ class Election:
     def __init__(self, server, kind):
         self.server, self.kind, self.leader = server, kind, LEADERS[kind]
         self.named = {}
+        # how many terms were started
+        self.started = 0
         self.resent = 0
 
     def ask(self, client, line, expected):
@@ -79,6 +82,7 @@ class Election:
         for member in (3, 1, 2):
             self.ask(client, b"join a %d" % member, b"ok")
         self.ask(client, b"start a", b"term 1")
+        self.started = 1
         self.who(client, 1, 1)
         self.who(client, 3, 1)
         self.terms(client, 1)
@@ -90,6 +94,7 @@ class Election:
         self.ask(client, b"drain a 1", b"no bad-line")
         self.ask(client, b"groups", b"groups a b")
         self.ask(client, b"start a", b"term 2")
+        self.started = 2
         self.who(client, 2, 2)
         self.ask(client, b"leave a 1", b"ok")
 
@@ -136,9 +141,8 @@ class Guests:
                 Client(self.server.port).leave()
 
 
-def elect(server, kind, guests):
+def elect(server, election, guests):
     """Both clients' sessions, as far as the program takes them; whether it took both."""
-    election = Election(server, kind)
     first = guests.come(b"")
     if first is None:
         return False
@@ -186,7 +190,7 @@ def refuse(library, program, kind, growth, **wrong):
         has_begun = server.listens()
         if has_begun:
             guests = Guests(server, CONNECTIONS)
-            elect(server, kind, guests)
+            elect(server, Election(server, kind), guests)
             guests.leave()
         expect_end(server, has_begun)
         return True if server.told() else None
@@ -196,14 +200,49 @@ def refuse_in_run(library, program, kind, growth):
     """The same of `run`, which is ended from outside where it took both clients."""
     words = ["run", "--sessions", str(RUN_SESSIONS)]
     with serving(library, program, words, f"run, {kind.decode()}, growth {growth}", growth=growth) as server:
-        has_begun = server.listens()
-        if not (has_begun and elect(server, kind, Guests(server, CONNECTIONS))):
-            status, out, error = server.ends()
-            listening = server.listening() if has_begun else b""
-            if status != 1 or out != listening or error not in BEFORE or not server.told():
-                raise Bad(f"status {status}, {out!r}, {error!r}")
-            return True
-        was_there, out, error = server.is_ended_by_us()
-        if not was_there or out != server.listening() or error:
-            raise Bad(f"it ended, or said {out!r}, {error!r}")
-        return True if server.told() else None
+        return expect_run(server, Election(server, kind))
+
+
+def refuse_with_journal(library, program, kind, growth):
+    """The same of `run` with a journal, which ends if its journal fails. A restart without refusals has all that was
+    replied."""
+    words = ["run", "--sessions", str(RUN_SESSIONS)]
+    what = f"run with a journal, {kind.decode()}, growth {growth}"
+    with serving(library, program, words, what, journal=b"", growth=growth) as server:
+        election = Election(server, kind)
+        try:
+            was_told = expect_run(server, election)
+        except Lost:
+            was_told = expect_failed(server)
+        server.start_anew()
+        if not server.listens():
+            raise Bad(f"a restart ends: {server.ends()}")
+        client = Client(server.port)
+        if election.started:
+            election.terms(client, election.started)
+        client.leave()
+        return was_told
+
+
+def expect_failed(server):
+    """The program ends since its journal failed, and a growth was refused. The answer is true."""
+    ended = server.ends()
+    if ended != (1, server.listening(), FAILED) or not server.told():
+        raise Bad(f"sessions ended, and the program: {ended}")
+    return True
+
+
+def expect_run(server, election):
+    """One run of `run`, which is ended from outside if it took both clients: whether a refusal was told, or `None` if
+    there was none."""
+    has_begun = server.listens()
+    if not (has_begun and elect(server, election, Guests(server, CONNECTIONS))):
+        status, out, error = server.ends()
+        listening = server.listening() if has_begun else b""
+        if status != 1 or out != listening or error not in BEFORE or not server.told():
+            raise Bad(f"status {status}, {out!r}, {error!r}")
+        return True
+    was_there, out, error = server.is_ended_by_us()
+    if not was_there or out != server.listening() or error:
+        raise Bad(f"it ended, or said {out!r}, {error!r}")
+    return True if server.told() else None

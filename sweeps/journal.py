@@ -1,0 +1,216 @@
+"""Calls on the journal's files that go wrong in turn in `ringd run --journal`, and growths refused in its start.
+
+The program begins with a journal that has a torn end and that its start shortens. One client asks line by line, and then sends many changes at
+once, so that the file grows. A call fails, is interrupted or moves one byte, or the process ends at it. Then the
+program says that its journal failed and ends with status 1; or it ends at the call; or all replies are as they have to
+be. After that it is started once more, with no call going wrong. Each change with a reply has to be there. A change
+without a reply is there whole, with all changes before it, or not at all.
+"""
+
+import errno
+import zlib
+
+from serving import Client, Lost, serving
+from sweep import Bad, NO_MEMORY
+
+# The calls, and how each goes wrong: a word, and an error by its number.
+FAILING = [("fail", errno.EIO), ("fail", errno.ENOSPC)]
+ENDING = [("exit", 0), ("done", 0)]
+HOWS = {"open": [*FAILING, *ENDING], "statx": [*FAILING[:1], *ENDING], "flock": [*FAILING[:1], *ENDING],
+        "unlink": [*FAILING[:1], *ENDING], "rename": [*FAILING, *ENDING], "fsync": [*FAILING, *ENDING],
+        "fdatasync": [*FAILING, *ENDING],
+        "pwrite": [*FAILING, *ENDING, ("half", 0), ("byte", 0), ("interrupt", 0)],
+        "write": [*FAILING, *ENDING, ("half", 0), ("byte", 0), ("interrupt", 0)],
+        "read": [*FAILING[:1], ("exit", 0), ("byte", 0), ("interrupt", 0)], "spawn": [("fail", 0)]}
+# The calls on the files of the journal alone: no program goes on after one that fails.
+OF_JOURNAL = ("statx", "flock", "unlink", "rename", "fsync", "fdatasync", "pwrite")
+# The status of a process that ends at a call.
+ENDED = 86
+# The changes in the journal before the program starts, those after them that a start spares, and the torn end.
+BEFORE = (b"create a chang", b"join a 1", b"start a", b"know a 1 1 1")
+SPARED = (b"join a 9998", b"leave a 9998") * 40
+TORN, ZEROS = b"join a 9999 #0000", 100
+GROUP = b"group-of-16-byte"
+# As many changes as fill the zeros ahead of the text.
+MANY = 1500
+# How many lines are sent at once.
+AT_ONCE = 100
+CONFIG, UNREADABLE = b"ringd: config unreadable\n", b"ringd: journal unreadable\n"
+FAILED = b"ringd: journal failed\n"
+# What the program may say if such a call fails.
+FAULTS = {"open": {CONFIG, UNREADABLE, FAILED}, "statx": {UNREADABLE}, "flock": {UNREADABLE}, "unlink": {FAILED},
+          "rename": {FAILED}, "fsync": {FAILED}, "fdatasync": {FAILED}, "pwrite": {FAILED}, "write": {FAILED, b"ringd: write failed\n"},
+          "read": {CONFIG, UNREADABLE}, "spawn": {b"ringd: thread failed\n"}}
+# What it may say if memory is refused in its start, before it listens or soon after.
+LACKING = (NO_MEMORY, *FAULTS["spawn"])
+KINDS = (b"lelann", b"chang", b"hirschberg", b"peterson")
+
+
+def text_of(changes):
+    """The text of a journal of these changes."""
+    first = b"ringd journal 1 life 1"
+    lines, check = [b"%s #%08x\n" % (first, zlib.crc32(first))], 0
+    for change in changes:
+        check = zlib.crc32(change, check)
+        lines.append(b"%s #%08x\n" % (change, check))
+    return b"".join(lines)
+
+
+def steps():
+    """The lines that the client asks, each with its reply."""
+    for line, reply in [(b"create b lelann", b"ok"), (b"join b 2", b"ok"), (b"join b 3/7", b"ok"),
+                        (b"join b 3", b"no member"), (b"start b", b"term 1"), (b"leave b 2", b"ok"),
+                        (b"create %s chang" % GROUP, b"ok"), (b"join a 2", b"ok"), (b"start a", b"term 2")]:
+        yield line, reply
+    for number in range(MANY // 2):
+        yield b"join %s %d/65535" % (GROUP, 4294967000 - number % 200), b"ok"
+        yield b"leave %s %d" % (GROUP, 4294967000 - number % 200), b"ok"
+
+
+class Groups:
+    """The groups after some of the lines, as `groups` and `members` list them, and their terms. They are those of
+    BEFORE at first."""
+
+    def __init__(self):
+        self.members, self.terms = {}, {}
+        for change in BEFORE:
+            self.after(change, b"ok")
+
+    def after(self, line, reply):
+        """Notes a line that was carried out."""
+        word, name, *rest = line.split(b" ")
+        if reply.startswith(b"no ") or word == b"know":
+            return
+        if word == b"create":
+            self.members[name], self.terms[name] = [], 0
+        elif word == b"join":
+            self.members[name] = [*self.members[name], *rest]
+        elif word == b"leave":
+            self.members[name] = [it for it in self.members[name] if it.split(b"/")[0] != rest[0]]
+        else:
+            self.terms[name] += 1
+
+    def shown(self):
+        """Returns the name of each group, its members as they are listed, and how many terms it has."""
+        return [(name, b" ".join([b"members", *self.members[name]]), self.terms[name]) for name in self.members]
+
+
+def shown_by(server):
+    """Returns the same as a program shows it. The first term of a has the leader that is in the journal."""
+    client = Client(server.port)
+    names = client.ask(b"groups").split(b" ")[1:]
+    shown = [(name, client.ask(b"members %s" % name), len(client.ask(b"terms %s" % name).split(b" ")) - 1)
+             for name in names]
+    terms = client.ask(b"terms a").split(b" ")
+    client.leave()
+    if terms[1] != b"1:1":
+        raise Bad(f"the first term of a is shown as {terms[1]!r}")
+    return shown
+
+
+def talk(server, lines):
+    """Asks the lines, as far as the session goes. The answer is how many replies came, and how many lines were
+    sent."""
+    client, sent = None, 0
+    try:
+        client = Client(server.port)
+        for line, reply in lines[:len(lines) - MANY]:
+            sent += 1
+            expect(line, client.ask(line), reply)
+        while sent < len(lines):
+            some = lines[sent:sent + AT_ONCE]
+            sent += len(some)
+            client.socket.sendall(b"".join(line + b"\n" for line, _ in some))
+            for line, reply in some:
+                expect(line, client.reply(), reply)
+        client.leave()
+    except (Lost, ConnectionError):
+        pass
+    return (client.told.count(b"\n") if client else 0), sent
+
+
+def expect(line, seen, wanted):
+    if seen != wanted:
+        raise Bad(f"{line!r} is answered {seen!r}, and not {wanted!r}")
+
+
+def expect_states(shown, lines, told, sent):
+    """Sees that the groups are as after some of the lines: at least those that were answered, and at most those that
+    were sent."""
+    groups = Groups()
+    seen = []
+    for count, (line, reply) in enumerate(lines[:sent + 1]):
+        if count >= told:
+            seen.append(groups.shown())
+        groups.after(line, reply)
+    if sent == len(lines):
+        seen.append(groups.shown())
+    if shown not in seen:
+        raise Bad(f"{told} lines were answered, {sent} were sent, and a restart shows {shown}")
+
+
+def expect_end(server, call, how):
+    """The program has ended as it has to, or it is there."""
+    was_there, out, error = server.is_ended_by_us()
+    status = server.run.returncode
+    if was_there and not error:
+        if server.told() and how == "fail" and call in OF_JOURNAL:
+            raise Bad("it goes on")
+        return
+    if how in ("exit", "done", "half"):
+        well = status == ENDED and not error
+    else:
+        well = status == 1 and error in FAULTS[call] and how in ("fail", "interrupt")
+    if not well or not server.listening().startswith(out) or not server.told():
+        raise Bad(f"status {status}, {out!r}, {error!r}")
+
+
+def goes_wrong(library, program, call, number, how, error):
+    """One run of `run` with a journal in which that call goes wrong, and a restart after it; whether such a call was
+    made."""
+    lines = list(steps())
+    wrong = {call: number, "how": how, **({"error": error} if error else {})}
+    name = errno.errorcode.get(error, "")
+    journal = text_of(BEFORE + SPARED) + TORN + bytes(ZEROS)
+    with serving(library, program, ["run"], f"run, {call} {number}, {how} {name}", journal=journal, **wrong) as server:
+        has_begun = server.listens()
+        told, sent = talk(server, lines) if has_begun else (0, 0)
+        expect_end(server, call, how)
+        was_made = bool(server.told())
+        if not was_made and told != len(lines):
+            raise Bad(f"{told} of {len(lines)} lines were answered, and no call went wrong")
+        server.start_anew()
+        if not server.listens():
+            raise Bad(f"a restart ends: {server.ends()}")
+        expect_states(shown_by(server), lines, told, sent)
+        return was_made
+
+
+def running():
+    """The changes of a group of each kind, whose last term is running."""
+    for kind in KINDS:
+        yield from (line % kind for line in (
+            b"create %%s %s" % kind, b"join %s 1", b"start %s", b"know %s 1 1 1", b"join %s 7/9", b"join %s 3",
+            b"leave %s 1", b"start %s", b"start %s"))
+
+
+def lacks_memory(library, program, number, spared=()):
+    """One run of `run` in which that growth is refused, most likely in its start over a journal with these spared changes
+    too, and a restart after it: whether a growth was refused, or `None` if there was none."""
+    groups, changes = Groups(), [*BEFORE, *running()]
+    for change in changes:
+        groups.after(change, b"ok")
+    journal = text_of([*changes, *spared]) + TORN + bytes(ZEROS)
+    with serving(library, program, ["run"], f"run, growth {number}", journal=journal, growth=number) as server:
+        begun = server.listening() if server.listens() else b""
+        was_there, out, error = server.is_ended_by_us()
+        lacked = not was_there and server.told() and server.run.returncode == 1 and error in LACKING
+        if out != begun or not (lacked or (was_there and begun and not error)):
+            raise Bad(f"{out!r}, {error!r}, status {server.run.returncode}")
+        was_told = server.told()
+        server.start_anew()
+        if not server.listens():
+            raise Bad(f"a restart ends: {server.ends()}")
+        if shown_by(server) != groups.shown():
+            raise Bad(f"a restart shows {shown_by(server)}")
+        return True if was_told else None
