@@ -87,11 +87,13 @@ def reply_cells(all_servers, connections, depth, words, folder):
         return measured(server, connections, depth, words.seconds, folder)
 
     cells = [str(connections), str(depth)]
-    for figures in in_rounds(all_servers, words.rounds, measure):
-        rates, costs = zip(*figures)
-        cells.append(f"{rounded(statistics.median(rates))} ({rounded(max(rates))}),"
-                     f" {statistics.median(costs):.2f}")
-    return cells
+    return cells + [rate_cell(figures) for figures in in_rounds(all_servers, words.rounds, measure)]
+
+
+def rate_cell(figures):
+    """The cell of some rates with their costs."""
+    rates, costs = zip(*figures)
+    return f"{rounded(statistics.median(rates))} ({rounded(max(rates))}), {statistics.median(costs):.2f}"
 
 
 def rounded(rate):

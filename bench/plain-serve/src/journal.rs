@@ -8,7 +8,8 @@ use std::io::{self, Write};
 use std::os::unix::fs::FileExt;
 use std::path::Path;
 
-const HEADING: &[u8] = b"ringd journal 1\n";
+/// The first line of life 1: this server does not count its lives.
+const HEADING: &[u8] = b"ringd journal 1 life 1 #ee26e62a\n";
 
 /// The bytes of a mark: a space, a hash and eight digits.
 const MARK: usize = 10;
