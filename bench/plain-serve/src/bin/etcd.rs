@@ -4,11 +4,13 @@
 //! before it puts the next value. It speaks HTTP, by the gateway that etcd has for clients without gRPC. One line is
 //! printed: the number of replies, and the seconds that they took.
 
+#[path = "../crowd.rs"]
+mod crowd;
+
 use std::io::{self, BufRead, BufReader, Read, Write};
 use std::net::TcpStream;
 use std::process::ExitCode;
 use std::sync::Barrier;
-use std::thread;
 use std::time::{Duration, Instant};
 
 // Values of 21 bytes in base64, about as long as a change of a journal.
@@ -75,24 +77,6 @@ fn ask(port: u16, connection: usize, time: Duration, begin: &Barrier) -> io::Res
     Ok(count)
 }
 
-/// All connections at once; the answer is how many replies they got, and the seconds that passed.
-fn run(port: u16, connections: usize, time: Duration) -> io::Result<(usize, f64)> {
-    let begin = Barrier::new(connections + 1);
-    thread::scope(|scope| {
-        let begin = &begin;
-        let asking: Vec<_> = (0..connections)
-            .map(|connection| scope.spawn(move || ask(port, connection, time, begin)))
-            .collect();
-        begin.wait();
-        let began = Instant::now();
-        let mut count = 0;
-        for each in asking {
-            count += each.join().expect("a connection doesn't panic")?;
-        }
-        Ok((count, began.elapsed().as_secs_f64()))
-    })
-}
-
 fn main() -> ExitCode {
     let words: Vec<String> = std::env::args().skip(1).collect();
     let [port, connections, seconds] = &words[..] else {
@@ -105,7 +89,8 @@ fn main() -> ExitCode {
         eprintln!("etcd: numbers are wanted");
         return ExitCode::from(2);
     };
-    match run(port, connections, Duration::from_secs_f64(seconds)) {
+    let time = Duration::from_secs_f64(seconds);
+    match crowd::ask_at_once(connections, |it, begin| ask(port, it, time, begin)) {
         Ok((count, took)) => {
             println!("{count} {took}");
             ExitCode::SUCCESS

@@ -10,13 +10,14 @@
 mod asking;
 #[path = "../client.rs"]
 mod client;
+#[path = "../crowd.rs"]
+mod crowd;
 
 use asking::Wanted;
 use client::Client;
 use std::io;
 use std::process::ExitCode;
 use std::sync::Barrier;
-use std::thread;
 use std::time::{Duration, Instant};
 
 struct Load {
@@ -62,19 +63,8 @@ impl Load {
     /// All connections at once; the answer is how many replies they got, and the seconds that passed.
     fn run(&self) -> io::Result<(usize, f64)> {
         self.wanted.prepare(self.port)?;
-        let begin = Barrier::new(self.connections + 1);
-        thread::scope(|scope| {
-            let begin = &begin;
-            let asking: Vec<_> = (0..self.connections)
-                .map(|connection| scope.spawn(move || self.ask(connection, begin)))
-                .collect();
-            begin.wait();
-            let began = Instant::now();
-            let mut count = 0;
-            for each in asking {
-                count += each.join().expect("a connection doesn't panic")?;
-            }
-            Ok((count, began.elapsed().as_secs_f64()))
+        crowd::ask_at_once(self.connections, |connection, begin| {
+            self.ask(connection, begin)
         })
     }
 }
