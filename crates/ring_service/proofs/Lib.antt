@@ -1,4 +1,7 @@
-pub mod Replying
-pub mod Speaking
+pub mod Lists
+pub mod Manning
+pub mod Meshing
 pub mod Placing
 pub mod Posting
+pub mod Replying
+pub mod Speaking

@@ -1,3 +1,4 @@
-pub mod Sessions
+pub mod Handing
 pub mod Places
+pub mod Sessions
 pub mod private

@@ -1,4 +1,6 @@
-ghost use Rattle.std.specs.Prelude.{◌≡◌, ◌+◌, ◌<◌, ◌≤◌, IfErr, IfOk, OnOk, vec_capacity, vec_len};
+ghost use Rattle.std.specs.Prelude.{◌≡◌, ◌+◌, ◌<◌, ◌≤◌, IfErr, IfOk, OnErr, OnOk, Some, map, slice_get, vec_capacity, vec_len};
+ghost use Rattle.ring_inbox.specs.Values.{fresh_sender};
+ghost use Rattle.ring_service.specs.Handing.{HandsFrom};
 
 use crate::service::StartFault;
 use ring_any::Any;
@@ -9,23 +11,44 @@ use ring_table::Access;
 use ring_workers::{Desk, Filed, Gate, Handed, Item, Worker, run_worker};
 use std::alloc::Global;
 use std::marker::Model;
+use std::snapshot::Snapshot;
 use std::sync::{Arc, Wait};
 use std::thread;
-use std::thread::{JoinHandle, Threads};
+use std::thread::{Promise, PromisedHandle, Threads};
 use std::time::Clock;
+
+/// The receivers of the workers' inboxes, in the order of the workers, as contracts see them. It has no
+/// bytes.
+pub(crate) type Inboxes = Snapshot<Vec<ReceiverPass<Item<Any>>>>;
+
+/// Whose work a thread does, among which inboxes. It has no bytes.
+#[derive(Drop)]
+pub(crate) struct Work {
+    worker: Snapshot<Worker<Any>>,
+    inboxes: Snapshot<Inboxes>,
+}
+
+impl Promise<Handed<Any>> for Work {
+    ghost use Rattle.ring_service.specs.private.Crews.{Keeps};
+
+    ghost kept_by = { Keeps };
+}
 
 /// The threads of the workers that were started, and room for what they hand over.
 #[derive(Drop)]
 pub(crate) struct Crew {
-    threads: Vec<JoinHandle<Handed<Any>>>,
+    pub(crate) threads: Vec<PromisedHandle<Handed<Any>, Work>>,
     handed: Vec<Handed<Any>>,
-    ghost room: { vec_len threads + vec_len handed ≤ vec_capacity handed },
+    ghost none: { vec_len handed ≡ 0 },
+    ghost room: { vec_len threads ≤ vec_capacity handed },
 }
 
 impl Crew {
+    ghost use Rattle.ring_service.specs.private.Crews.{Joins, StartsOne};
+
     /// No threads, and room for so many.
     pub(crate) fn new(alloc: Global, workers: usize) -> Result<Crew, NoMemory>
-        ensures { IfOk result (λ crew. (vec_len crew.threads ≡ 0) × (workers ≤ vec_capacity crew.threads) × (workers ≤ vec_capacity crew.handed) × (vec_len crew.handed ≡ 0)) }
+        ensures { IfOk result (λ crew. (vec_len crew.threads ≡ 0) × (workers ≤ vec_capacity crew.threads) × (workers ≤ vec_capacity crew.handed)) }
     {
         let Ok(threads) = Vec::with_capacity(alloc, workers) else {
             return Err(NoMemory);
@@ -36,23 +59,31 @@ impl Crew {
         Ok(Crew { threads, handed })
     }
 
-    /// Starts a worker in a thread of its own. Where no thread can be made, what it would have had is
-    /// let go.
+    /// Starts a worker in a thread of its own. It has the receiver of its own inbox, and at each place a
+    /// sender of the inbox of the worker with that number. Where no thread can be made, what it would have
+    /// had is let go.
     pub(crate) fn start<
         A: Access<Any> + Send + Sync + Drop + 'static,
         G: Gate + Send + Sync + Drop + 'static,
         R: Threads + Wait + Clock + Copy + Send + Drop + 'static,
-    >(&mut self, kit: Kit<A, G, R>) -> Result<(), StartFault>
+    >(&mut self, kit: Kit<A, G, R>, inboxes: &Inboxes) -> Result<(), StartFault>
     where
         A::Seat: Send + 'static,
+        requires receiver { slice_get inboxes.now.value.items kit.worker.owner.number ≡ Some kit.receiver }
+        requires senders { kit.senders.items ≡ map (λ receiver. fresh_sender receiver.inbox kit.worker.owner.number) inboxes.now.value.items }
         requires threads { vec_len self.old.threads < vec_capacity self.old.threads }
-        requires handed { vec_len self.old.threads + vec_len self.old.handed < vec_capacity self.old.handed }
-        ensures started { OnOk result (vec_len self.new.threads ≡ vec_len self.old.threads + 1) }
-        ensures refused { IfErr result (λ fault. (fault ≡ StartFault.Thread) × (vec_len self.new.threads ≡ vec_len self.old.threads)) }
-        ensures room { (vec_capacity self.new.threads ≡ vec_capacity self.old.threads) × (vec_capacity self.new.handed ≡ vec_capacity self.old.handed) × (vec_len self.new.handed ≡ vec_len self.old.handed) }
+        requires handed { vec_len self.old.threads < vec_capacity self.old.handed }
+        ensures started { OnOk result (StartsOne inboxes.now.value.items kit.worker.owner.number self.old.threads.items self.new.threads.items) }
+        ensures refused { IfErr result (λ fault. fault ≡ StartFault.Thread) }
+        ensures same { OnErr result (self.new.threads.items ≡ self.old.threads.items) }
+        ensures room { (vec_capacity self.new.threads ≡ vec_capacity self.old.threads) × (vec_capacity self.new.handed ≡ vec_capacity self.old.handed) }
     {
         let rt = kit.rt;
-        match thread::spawn(&rt, move || kit.run()) {
+        let work = Work {
+            worker: Snapshot::of(&kit.worker),
+            inboxes: Snapshot::of(inboxes),
+        };
+        match thread::spawn_with(&rt, work, move || kit.run()) {
             Ok(thread) => {
                 self.threads.push_reserved(thread);
                 Ok(())
@@ -65,9 +96,10 @@ impl Crew {
         }
     }
 
-    /// Waits for each thread to end: what they hand over. Takes no memory.
+    /// Waits for each thread to end, from the last one that was started to the first: what they hand over.
+    /// Takes no memory.
     pub(crate) fn join<R: Threads + Wait>(self, rt: &R) -> Vec<Handed<Any>>
-        ensures { vec_len result ≡ vec_len self.threads + vec_len self.handed }
+        ensures { Joins self.threads.items result.items }
     {
         let Crew { threads, handed } = self;
         let (mut threads, mut handed) = (threads, handed);
@@ -92,7 +124,9 @@ pub(crate) struct Kit<A: Access<Any> + Drop, G: Drop, R: Drop> {
 
 impl<A: Access<Any> + Drop, G: Gate + Drop, R: Wait + Clock + Drop> Kit<A, G, R> {
     // Runs the worker to its end, and lets its passes go.
-    fn run(self) -> Handed<Any> {
+    fn run(self) -> Handed<Any>
+        ensures { HandsFrom self.worker.owner.number self.worker.owner.workers self.receiver self.senders.items result }
+    {
         let Kit {
             rt,
             worker,

@@ -1,4 +1,5 @@
 ghost use Rattle.std.specs.Prelude.{◌≡◌, ◌+◌, ◌<◌, ◌^◌, All, IfOk, OnOk, vec_len};
+ghost use Rattle.ring_service.specs.private.Meshes.{IsFresh, LastsOf, SendersOf};
 
 use ring_any::Any;
 use ring_id::NoMemory;
@@ -20,7 +21,9 @@ pub(crate) fn open(alloc: Global, workers: usize, capacity: usize) -> Result<Mes
     requires workers { workers < 2 ^ 32 }
     ensures receivers { IfOk result (λ mesh. vec_len mesh.receivers ≡ workers) }
     ensures senders { IfOk result (λ mesh. vec_len mesh.senders ≡ workers) }
-    ensures left { IfOk result (λ mesh. All (λ senders. vec_len senders ≡ workers + 1) mesh.senders.items) }
+    ensures left { IfOk result (λ mesh. SendersOf (workers + 1) mesh.receivers.items mesh.senders.items) }
+    ensures fresh { IfOk result (λ mesh. All IsFresh mesh.receivers.items) }
+    ensures capacity { IfOk result (λ mesh. All (λ receiver. receiver.inbox.capacity ≡ capacity) mesh.receivers.items) }
 {
     let Ok(mut receivers) = Vec::with_capacity(alloc, workers) else {
         return Err(NoMemory);
@@ -47,7 +50,7 @@ pub(crate) fn take_last<T: Drop>(
     requires { All (λ senders. vec_len senders ≡ left + 1) inboxes.old.items }
     ensures one { IfOk result (λ taken. vec_len taken ≡ vec_len inboxes.old) }
     ensures count { vec_len inboxes.new ≡ vec_len inboxes.old }
-    ensures left { OnOk result (All (λ senders. vec_len senders ≡ left) inboxes.new.items) }
+    ensures lasts { IfOk result (λ taken. LastsOf inboxes.old.items inboxes.new.items taken.items) }
 {
     let Ok(mut taken) = Vec::with_capacity(alloc, inboxes.len()) else {
         return Err(NoMemory);

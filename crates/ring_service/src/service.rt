@@ -1,6 +1,10 @@
-ghost use Rattle.std.specs.Prelude.{◌≡◌, ◌≤◌, ◌+◌, All, IfOk, OnOk, length, vec_capacity, vec_len};
+ghost use Rattle.std.specs.Prelude.{◌≡◌, ◌≤◌, ◌+◌, All, IfOk, OnOk, length, map, vec_capacity, vec_len};
+ghost use Rattle.ring_inbox.specs.Values.{fresh_sender};
+ghost use Rattle.ring_service.specs.Handing.{AllHand};
+ghost use Rattle.ring_service.specs.private.Crews.{IsManned, IsWhole, Joins};
+ghost use Rattle.ring_service.specs.private.Meshes.{IsFresh, SendersOf};
 
-use crate::crew::{Crew, Kit, SeatDesk};
+use crate::crew::{Crew, Inboxes, Kit, SeatDesk};
 use crate::front::Front;
 use crate::mesh::{Mesh, open, take_last};
 use crate::posts::{Posts, Waiting};
@@ -12,6 +16,7 @@ use ring_workers::{Gate, Handed, OpenGate, Worker};
 use std::alloc::Global;
 use std::collections::VecDeque;
 use std::marker::Model;
+use std::snapshot::Snapshot;
 use std::sync::{Arc, Wait};
 use std::thread::Threads;
 use std::time::Clock;
@@ -30,7 +35,7 @@ pub enum StartFault {
 pub struct Closing<A: Drop> {
     /// The access to its table.
     pub access: Arc<A>,
-    /// What each worker handed over.
+    /// What each worker handed over, in the order of their numbers.
     pub handed: Vec<Handed<Any>>,
     /// The begins that no inbox ever stored, in order.
     pub waiting: VecDeque<Waiting>,
@@ -44,9 +49,13 @@ pub struct Service<A: Access<Any> + Drop> {
 }
 
 impl<A: Access<Any> + Drop> Model for Service<A> {
+    ghost use Rattle.ring_service.specs.private.Crews.{IsWhole};
+
     ghost Value = { A };
 
     ghost view = { λ service. service.front };
+
+    ghost invariant = { λ service. IsWhole service.crew.threads.items };
 }
 
 impl<A: Access<Any> + Send + Sync + Drop + 'static> Service<A>
@@ -104,14 +113,11 @@ where
         drop(mesh);
         drop(seats);
         drop(gate);
-        let service = Service {
-            front: Front::new(alloc, access, posts),
-            crew,
-        };
+        let front = Front::new(alloc, access, posts);
         match started {
-            Ok(()) => Ok(service),
+            Ok(()) => Ok(Service { front, crew }),
             Err(fault) => {
-                drop(service.close(rt));
+                drop(end(rt, front, crew));
                 Err(fault)
             }
         }
@@ -141,18 +147,27 @@ where
     /// Ends the service. The begins that wait are tried once, each worker is told to stop, and what they
     /// hand over is gathered. Takes no memory. Waits for the workers.
     pub fn close<R: Threads + Wait>(self, rt: &R) -> Closing<A>
-        ensures { result.access.value ≡ self }
+        ensures access { result.access.value ≡ self }
+        ensures handed { AllHand result.handed.items }
     {
         let Service { front, crew } = self;
-        let (access, mut posts) = front.into_parts();
-        posts.try_waiting(rt);
-        let waiting = posts.stop(rt);
-        let handed = crew.join(rt);
-        Closing {
-            access,
-            handed,
-            waiting,
-        }
+        end(rt, front, crew)
+    }
+}
+
+// Ends what these workers do for this front, as a service that is closed.
+fn end<A: Access<Any> + Drop, R: Threads + Wait>(rt: &R, front: Front<A>, crew: Crew) -> Closing<A>
+    ensures access { result.access.value ≡ front }
+    ensures handed { Joins crew.threads.items result.handed.items }
+{
+    let (access, mut posts) = front.into_parts();
+    posts.try_waiting(rt);
+    let waiting = posts.stop(rt);
+    let handed = crew.join(rt);
+    Closing {
+        access,
+        handed,
+        waiting,
     }
 }
 
@@ -169,10 +184,11 @@ struct Ready {
 fn prepare(alloc: Global, workers: usize, inbox: usize) -> Result<Ready, StartFault>
     requires workers { workers ≤ 8 }
     requires inbox { 1 ≤ inbox }
-    ensures threads { IfOk result (λ made. (vec_len made.crew.threads ≡ 0) × (workers ≤ vec_capacity made.crew.threads)) }
-    ensures handed { IfOk result (λ made. (vec_len made.crew.handed ≡ 0) × (workers ≤ vec_capacity made.crew.handed)) }
+    ensures threads { IfOk result (λ made. (vec_len made.crew.threads ≡ 0) × (workers ≤ vec_capacity made.crew.threads) × (workers ≤ vec_capacity made.crew.handed)) }
     ensures inboxes { IfOk result (λ made. (vec_len made.mesh.receivers ≡ workers) × (vec_len made.mesh.senders ≡ workers)) }
-    ensures senders { IfOk result (λ made. All (λ senders. vec_len senders ≡ workers) made.mesh.senders.items) }
+    ensures senders { IfOk result (λ made. SendersOf workers made.mesh.receivers.items made.mesh.senders.items) }
+    ensures fresh { IfOk result (λ made. All IsFresh made.mesh.receivers.items) }
+    ensures posts { IfOk result (λ made. made.posts.passes.items ≡ map (λ receiver. fresh_sender receiver.inbox workers) made.mesh.receivers.items) }
 {
     let Ok(crew) = Crew::new(alloc, workers) else {
         return Err(StartFault::NoMemory);
@@ -205,13 +221,16 @@ where
     A::Seat: Send + 'static,
     requires receivers { vec_len mesh.old.receivers ≡ vec_len seats.old }
     requires inboxes { vec_len mesh.old.senders ≡ vec_len seats.old }
-    requires senders { All (λ senders. vec_len senders ≡ vec_len seats.old) mesh.old.senders.items }
+    requires senders { SendersOf (vec_len seats.old) mesh.old.receivers.items mesh.old.senders.items }
     requires seats { All (A.has_seat access.now.value) seats.old.items }
-    requires threads { vec_len crew.old.threads + vec_len seats.old ≤ vec_capacity crew.old.threads }
-    requires handed { vec_len crew.old.threads + vec_len crew.old.handed + vec_len seats.old ≤ vec_capacity crew.old.handed }
-    ensures started { OnOk result (vec_len crew.new.threads ≡ vec_len crew.old.threads + vec_len seats.old) }
+    requires none { vec_len crew.old.threads ≡ 0 }
+    requires threads { vec_len seats.old ≤ vec_capacity crew.old.threads }
+    requires handed { vec_len seats.old ≤ vec_capacity crew.old.handed }
+    ensures manned { OnOk result (IsManned mesh.old.receivers.items crew.new.threads.items) }
+    ensures started { OnOk result (vec_len crew.new.threads ≡ vec_len seats.old) }
 {
     let workers = seats.len();
+    let inboxes: Inboxes = Snapshot::of(&mesh.receivers);
     while let Some(seat) = seats.pop() {
         let number = seats.len();
         let Ok(gate) = Arc::try_clone(gate) else {
@@ -223,14 +242,15 @@ where
         let Ok(senders) = take_last(alloc, &mut mesh.senders, number) else {
             return Err(StartFault::NoMemory);
         };
-        crew.start(Kit {
+        let kit = Kit {
             rt: *rt,
             worker: Worker::new(alloc, number, workers),
             receiver: mesh.receivers.pop().unwrap(),
             senders,
             gate,
             desk: SeatDesk::new(*rt, access, seat),
-        })?;
+        };
+        crew.start(kit, &inboxes)?;
     }
     Ok(())
 }

@@ -1,7 +1,7 @@
 -- Each inbox has lost its last sender once its turn was, and the other inboxes stay as they were.
-use Rattle.std.proofs.Common.{◌≡◌, ℕ, ◌+◌, ◌≢◌, List, ◌++◌, length, drop, take, subst, sym, ◌∙◌, arith, vec_len, All}
-use Rattle.std.proofs.lemmas.List.{get_or-set_other, length-set, take-append-le, take_all}
-use Rattle.std.proofs.lemmas.List.Elements.{All-from_all_within, AllWithin-more_set, AllWithin-upto}
+use Rattle.std.proofs.Common.{◌≡◌, ℕ, List, [], ◌∷◌, ◌++◌, get_or, length, drop, take, subst, sym, ◌∙◌, arith}
+use Rattle.std.proofs.lemmas.List.{length-set, take-append-le, take_all}
+use Rattle.ring_service.proofs.Meshing.{takes_more}
 use Rattle.ring_service.proofs.mesh.take_last.Goals as goal
 
 -- of a list with another behind it, as many as the first has are the first
@@ -9,22 +9,15 @@ take-whole : {X : Type 0} (xs ys : List X) (n : ℕ) → n ≡ length xs → tak
 take-whole xs ys n e = take-append-le n xs ys (omega (arith, e)) ∙ take_all n xs (omega (arith, e))
 
 pub loop-senders-preserved : goal.loop-senders-preserved
-loop-senders-preserved g c =
-    let before : vec_len c.senders-item.result ≡ c.args.left + 1 = rw c.senders-item.is (c.loop-senders.invariant.rest c.loop-senders.senders-index c.senders-item.result (omega arith) (omega arith)) in
-    let after : vec_len c.pop.new.self ≡ c.args.left = omega (arith, before, rw (c.unwrap.ensures, ← c.senders-item.is) at c.pop.ensures.len) in
-    record {
-      done = AllWithin-more_set c.loop-senders.senders-items c.loop-senders.senders-index c.pop.new.self (omega arith) (λ senders. vec_len senders ≡ c.args.left) c.loop-senders.invariant.done after;
-      rest = λ k d low high.
-          let other : k ≢ c.loop-senders.senders-index = omega arith in
-          rw (get_or-set_other c.loop-senders.senders-items c.loop-senders.senders-index k c.pop.new.self d other) (c.loop-senders.invariant.rest k d (omega arith) (omega (arith, simp length-set at high)));
-      count = omega (arith, c.push_reserved.ensures.len, c.loop-senders.invariant.count);
-      room = omega (arith, length-set c.loop-senders.senders-items c.loop-senders.senders-index c.pop.new.self, c.push_reserved.ensures.capacity, c.loop-senders.invariant.room);
-    }
+loop-senders-preserved g c = record {
+  takes = takes_more c.loop-senders.senders-index c.args.inboxes.now.items c.loop-senders.senders-items c.loop-senders.taken.items c.push_reserved.new.self.items c.senders-item.result c.pop.new.self
+      c.unwrap.result c.loop-senders.invariant.takes (omega arith) c.senders-item.is (rw (c.unwrap.ensures, ← c.senders-item.is) at c.pop.ensures.items) c.push_reserved.ensures.items;
+  room = omega (arith, length-set c.loop-senders.senders-items c.loop-senders.senders-index c.pop.new.self, c.push_reserved.ensures.capacity, c.loop-senders.invariant.room);
+}
 
-pub returns-clause-left : goal.returns-clause-left
-returns-clause-left g c =
+pub returns-clause-lasts : goal.returns-clause-lasts
+returns-clause-lasts g c = λ v list last within.
     let whole : take c.args.inboxes.now.len (c.loop-senders.senders-items ++ drop (length c.loop-senders.senders-items) c.args.inboxes.now.items) ≡ c.loop-senders.senders-items =
     take-whole c.loop-senders.senders-items _ c.args.inboxes.now.len (omega arith) in
-    subst (All (λ senders. vec_len senders ≡ c.args.left)) (sym whole)
-    (All-from_all_within (λ senders. vec_len senders ≡ c.args.left) c.loop-senders.senders-items
-    (AllWithin-upto (λ senders. vec_len senders ≡ c.args.left) c.loop-senders.senders-items 0 c.loop-senders.senders-index (length c.loop-senders.senders-items) (omega arith) c.loop-senders.invariant.done))
+    subst (λ lists. (get_or c.args.inboxes.now.items v list).items ≡ (get_or lists v list).items ++ get_or c.loop-senders.taken.items v last ∷ []) (sym whole)
+    (c.loop-senders.invariant.takes.lasts v list last (omega (arith, within, c.loop-senders.invariant.takes.count)))
