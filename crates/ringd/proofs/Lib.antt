@@ -1,3 +1,4 @@
+pub mod Causes
 mod Taking
 mod Replaying
 mod Telling

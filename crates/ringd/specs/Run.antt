@@ -1,5 +1,7 @@
 -- What `replay` answers, and what `serve` and `run` tell, from their file to their end.
-use Rattle.std.specs.Prelude.{◌≡◌, ◌⊎◌, List, ℕ}
+use Rattle.std.specs.Prelude.{◌≡◌, ◌≤◌, ◌⊎◌, List, ℕ, length}
+use Rattle.ring_config.specs.Reading.{Spells}
+use Rattle.ring_config.specs.declared.config.Config.{Config}
 use Rattle.ring_lines.specs.declared.answers.LineFault.{LineFault}
 use Rattle.ring_lines.specs.Ends.{Writing, Wrote}
 use Rattle.ring_door.specs.Faults.{told_as}
@@ -13,17 +15,24 @@ use Rattle.ring_server.specs.Running.{FirstOrNone}
 abbrev pub IsOfLines : ProgramFault → Type 0
 IsOfLines told = (fault : LineFault) × (told ≡ told_as fault)
 
--- What was written at a fault of `serve`: nothing before the port is listened on, and then what `BothAt` says.
+-- Some text that is no longer than a configuration may be spells none.
+pub record SpellsNone : Type 0 where
+  pub text : List ℕ
+  pub short : length text ≤ 65536
+  pub none : (config : Config) → Spells text config → ⊥
+
+-- What was written at a fault of `serve`: nothing before the port is listened on, and then what `BothAt` says. A bad
+-- configuration was a text that spells none.
 abbrev pub ServedAt : {V : Type 0} → (V → Writing → V → Type 0) → V → List ℕ → List ℕ → ProgramFault → V → Type 0
 ServedAt gives from first last Unreadable to = to ≡ from
-ServedAt gives from first last Bad to = to ≡ from
+ServedAt gives from first last Bad to = (to ≡ from) × SpellsNone
 ServedAt gives from first last Listen to = to ≡ from
 ServedAt gives from first last fault to = BothAt gives from first last fault to
 
 -- What was written at a fault of `run`, in the same way.
 abbrev pub RanAt : {V : Type 0} → (V → Writing → V → Type 0) → V → List ℕ → ProgramFault → V → Type 0
 RanAt gives from first Unreadable to = to ≡ from
-RanAt gives from first Bad to = to ≡ from
+RanAt gives from first Bad to = (to ≡ from) × SpellsNone
 RanAt gives from first Listen to = to ≡ from
 RanAt gives from first fault to = FirstOrNone gives from first fault to
 

@@ -1,12 +1,14 @@
 //! What the program does with the world: its standard streams, its file and its port.
-ghost use Rattle.std.specs.Prelude.{◌≡◌, ◌≤◌, ◌++◌, ◌⊎◌, ℕ, List, IfErr, IfOk, IfSome, MatchResult, length};
+ghost use Rattle.std.specs.Prelude.{◌≡◌, ◌≤◌, ◌++◌, ◌⊎◌, ℕ, List, IfErr, IfOk, IfSome, MatchResult, Ok, Err, length};
 ghost use Rattle.ring_lines.specs.Ends.{Wrote, WroteFront};
+ghost use Rattle.ring_config.specs.Reading.{Spells};
+ghost use Rattle.ring_config.specs.declared.config.Config.{Config};
 ghost use Rattle.ring_door.specs.Telling.{closed_line, listening_line};
-ghost use Rattle.ringd.specs.private.Run.{IsOfFile, Replayed};
+ghost use Rattle.ringd.specs.private.Run.{IsOfFile, IsOfReading, Replayed};
 ghost use Rattle.ringd.specs.Run.{IsOfLines, KeptAt, RanAt, ServedAt};
 
 use crate::journal;
-use ring_config::{Config, read_config};
+use ring_config::{Config, ConfigFault, read_config};
 use ring_lines::{FromRead, Intake, Outlet, ToWrite};
 use ring_server::{Limits, ProgramFault, accept_loop, resume_loop, run_loop, tell};
 use std::alloc::Global;
@@ -70,6 +72,7 @@ pub fn tell_version<O: Outlet>(
 ///
 /// Its faults, in this order: the file can't be read, is too long or spells no configuration; the port
 /// can't be listened on; and those of `accept_loop`.
+#[tactic(auto, using(crate::proofs::Causes::served_unloaded))]
 pub fn serve<R, O>(rt: &R, path: &str, connections: u32, out: &mut O) -> Result<(), ProgramFault>
 where
     R: Files
@@ -97,6 +100,7 @@ where
 ///
 /// Its faults, in this order: the file can't be read, is too long or spells no configuration; the port
 /// can't be listened on; and those of `run_loop`.
+#[tactic(auto, using(crate::proofs::Causes::ran_unloaded))]
 pub fn run<R, O>(rt: &R, path: &str, limits: Limits, out: &mut O) -> Result<(), ProgramFault>
 where
     R: Files
@@ -125,6 +129,7 @@ where
 ///
 /// Its faults, in this order: those of the configuration; those of taking up the journal; the port can't be
 /// listened on; and those of `resume_loop`.
+#[tactic(auto, using(crate::proofs::Causes::kept_unloaded))]
 pub fn run_kept<R, O>(
     rt: &R,
     path: &str,
@@ -160,7 +165,14 @@ where
 fn listen<R: Net>(rt: &R, port: u16) -> Result<R::Listener, ProgramFault>
     ensures { IfErr result (λ fault. fault ≡ ProgramFault.Listen) }
 {
-    match rt.bind(SocketAddr::from((Ipv4Addr::LOCALHOST, port))) {
+    listening(rt.bind(SocketAddr::from((Ipv4Addr::LOCALHOST, port))))
+}
+
+// What is told of a port that was to be listened on: a fault exactly if that failed.
+fn listening<L: Drop>(bound: io::Result<L>) -> Result<L, ProgramFault>
+    ensures { MatchResult bound (λ listener. result ≡ Ok listener) (λ _. result ≡ Err ProgramFault.Listen) }
+{
+    match bound {
         Ok(listener) => Ok(listener),
         Err(_) => Err(ProgramFault::Listen),
     }
@@ -176,14 +188,28 @@ fn load<R: Files + AllocGlobal>(rt: &R, path: &str) -> Result<Config, ProgramFau
         Err(_) => return Err(ProgramFault::Unreadable),
     };
     let text = read_whole(rt.alloc(), file)?;
-    Ok(read_config(rt.alloc(), text.as_slice())?)
+    config_in(rt.alloc(), text.as_slice())
+}
+
+// The configuration that a text spells. It is refused as bad only if it spells none.
+fn config_in(alloc: Global, text: &[u8]) -> Result<Config, ProgramFault>
+    requires { length text.now ≤ 65536 }
+    ensures spelled { IfOk result (Spells text.now) }
+    ensures bad { result ≡ Err ProgramFault.Bad → (config : Config) → Spells text.now config → ⊥ }
+    ensures fault { IfErr result IsOfFile }
+{
+    match read_config(alloc, text) {
+        Ok(config) => Ok(config),
+        Err(ConfigFault::Bad) => Err(ProgramFault::Bad),
+        Err(ConfigFault::NoMemory) => Err(ProgramFault::NoMemory),
+    }
 }
 
 // All that a reader has left, where it is not too long for a configuration.
 fn read_whole<R: Read + Drop>(alloc: Global, reader: R) -> Result<Vec<u8>, ProgramFault>
     ensures short { IfOk result (λ text. length text.items ≤ 65536) }
     ensures whole { IfOk result (λ text. IfSome (R.remaining reader) (λ left. text.items ≡ left)) }
-    ensures fault { IfErr result IsOfFile }
+    ensures fault { IfErr result IsOfReading }
 {
     let mut text = Vec::new(alloc);
     match reader.take(LONGEST as u64 + 1).read_to_end(&mut text) {

@@ -6,6 +6,7 @@ use Rattle.ring_door.specs.Faults.{told_as}
 use Rattle.ring_door.specs.declared.fault.ProgramFault.{ProgramFault}
 use Rattle.ring_door.specs.declared.fault.ProgramFault.TheVariants.{Bad, NoMemory, Unreadable}
 use Rattle.ring_schedule.specs.Replay.{Replays}
+use Rattle.ringd.specs.Run.{SpellsNone}
 
 -- a replay of all lines, or one that ended by a fault, which is told as the program's fault of its kind
 abbrev pub Replayed : {S V A : Type 0} → (S → Reading → S → Type 0) → (V → Writing → V → Type 0) → S → V → ℕ → Result A ProgramFault → S → V → Type 0
@@ -13,7 +14,10 @@ Replayed reading writing reader writer reads (Ok done) reader_now writer_now = (
 Replayed reading writing reader writer reads (Err told) reader_now writer_now =
     (fault : LineFault) × (told ≡ told_as fault) × Replays reading writing reader writer reads (Err fault) reader_now writer_now
 
--- a fault of a configuration's file: it can't be read or is too long, it spells no configuration, or memory
--- was refused
+-- a fault of reading a file: it can't be read or is too long, or memory was refused
+abbrev pub IsOfReading : ProgramFault → Type 0
+IsOfReading fault = (fault ≡ Unreadable) ⊎ (fault ≡ NoMemory)
+
+-- a fault of a configuration's file: one of reading it, or its text spells no configuration
 abbrev pub IsOfFile : ProgramFault → Type 0
-IsOfFile fault = (fault ≡ Unreadable) ⊎ ((fault ≡ Bad) ⊎ (fault ≡ NoMemory))
+IsOfFile fault = IsOfReading fault ⊎ ((fault ≡ Bad) × SpellsNone)
