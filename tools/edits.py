@@ -52,6 +52,10 @@ class Edit:
         self.pairs.append((file, after, old, new))
         self.texts[file] = text[:at] + new + text[at + len(old) :]
 
+    def label(self):
+        """What it is called where the tools say what became of it."""
+        return f"{'control' if 'verdict' in self.words else 'wrong'} {self.crate}/{self.name}"
+
     def apply(self, folder):
         """Changes a copy of the crate."""
         for file, after, old, new in self.pairs:
@@ -71,9 +75,11 @@ def place_of(text, after, old, file):
     return at
 
 
-def check(crate, folder, *words):
-    """Checks a copy of a crate over the libraries of this tree: the status, and what was said. What else runs goes first."""
-    ran = subprocess.run(["nice", kit() / "bin/rattle", "check", *words_of(crate), *words], cwd=folder,
+def check(crate, folder, *words, instead=None):
+    """Checks a copy of a crate over the libraries of this tree: the status, and what was said. What else runs goes first.
+    A command of the shell may run instead of the prover."""
+    command = ["sh", "-c", instead] if instead else [kit() / "bin/rattle", "check", *words_of(crate), *words]
+    ran = subprocess.run(["nice", *command], cwd=folder,
                          stdin=subprocess.DEVNULL, stdout=subprocess.PIPE, stderr=subprocess.STDOUT,
                          text=True, errors="replace", check=False)
     return ran.returncode, ran.stdout

@@ -3,7 +3,8 @@
 import re
 
 FN = re.compile(r"( *)(?:pub(?:\([^)]*\))? )?(?:const |unsafe )*fn (\w+)")
-IMPL = re.compile(r"impl(?:<(?P<own>.*?)>)? (?:(?P<of>\w.*?) for )?(?P<for>[&\w].*?)(?: where .*)? \{$")
+IMPL = re.compile(r"impl(?:<(?P<own>.*?)>)? (?:(?P<of>\w.*?) for )?(?P<for>[&\w].*?)(?: where .*)? \{\}?$")
+HEAD = re.compile(r"impl\b|(?:pub(?:\([^)]*\))? )?trait ")
 OWN = re.compile(r"(?:^|, )(\w+)(?=:|,|$)")
 TYPE = re.compile(r"^(?:pub(?:\([^)]*\))? )?(?:struct|enum) (\w+)(<[^{(;]*)?", re.M)
 WORD = re.compile(r"\w+")
@@ -63,8 +64,18 @@ def of_itself(text, own, taken):
     return "+".join([name, *WORD.findall(", ".join(given))])
 
 
+def whole_head(lines, at):
+    """The head of an `impl` or of a `trait` as one line, with what goes on below it, such as `where`, and the line behind
+    it; of any other item its first line."""
+    last = at
+    while HEAD.match(lines[at]) and not lines[last].endswith(("{", "}", ";")) and last + 1 < len(lines):
+        last += 1
+    joined = " ".join(it.strip() for it in lines[at : last + 1])
+    return re.sub(r",? ([>)])", r"\1", re.sub(r"([<(]) ", r"\1", joined)) if last > at else lines[at], last + 1
+
+
 def owner_of(line, module, types):
-    """The path that an `impl` line or a `trait` line gives its functions; what a type has by itself
+    """The path that the head of an `impl` or of a `trait` gives its functions; what a type has by itself
     stands where the type does."""
     if found := IMPL.match(line):
         own = OWN.findall(found["own"] or "")
@@ -92,10 +103,11 @@ def head_of(lines, at):
 
 def functions_in(file, text, types):
     """The functions of a source file that have a body, without those of its modules, such as tests."""
-    lines, found, owner, module = text.split("\n"), [], [], module_of(file)
+    lines, found, owner, module, inside = text.split("\n"), [], [], module_of(file), 0
     for at, line in enumerate(lines):
-        if line[:1].strip() and line[0] not in "})":
-            owner = owner_of(line, module, types)
+        if at >= inside and line[:1].strip() and line[0] not in "})":
+            item, inside = whole_head(lines, at)
+            owner = owner_of(item, module, types)
         head = FN.match(line)
         if not head or len(head[1]) != (4 if owner else 0):
             continue

@@ -1,0 +1,174 @@
+"""What a check says of the functions that an edit changed: each is refused, not refused, or not judged.
+
+A function is refused where a goal of it is false: the prover's own search does not prove the goal, or an answer by hand
+does not. An answer may also fail for its form alone: it cites a name that the new body has no more, or an equation that
+has another form there. So where nothing but such answers failed, the verdict is left to a second check without them.
+There the goal is false if the prover finds values that break it; it is not refused if the search proves it; else nothing
+is known of it.
+
+A function is not refused where the prover says that its proof has no holes. In every other case it is not judged: its
+text can't be read, the borrow checker refuses it or does not cover it, an invariant fits no more, or the prover was
+killed, met a limit or a fault of its own.
+"""
+
+import re
+import signal
+
+REFUSED, PASSED, UNJUDGED, UNCLEAR = "refused", "not refused", "not judged", "unclear"
+
+PLACE = r"(?:\./)?((?:src|specs|proofs)/\S+?)(?::(\d+):(\d+))?: "
+ERROR = re.compile(PLACE + r"error(?:\[([\w-]+)\])?: (?:`([^`]*)`: )?(.*)")
+OPEN = re.compile(r"note: " + PLACE + r"(it is not proved that .*?\(`([^`]+)`\).*)")
+UNASKED = re.compile(r"note: " + PLACE + r"`([^`]+)` is (no name that rattle asks for .*)")
+END = re.compile(r"fn \w+::(\S+): (.*)")
+LEFT = re.compile(r"no proof: expected answers in \S+; `search` did not prove (.*)")
+UNTRIED = re.compile(r"note: `search` has not tried the goals of (.*), which wait")
+LAST = re.compile(r"(?:only|logic|holes)=")
+# How the proof of a function ended of which each own goal is proved, whatever it calls.
+PROVED = re.compile(r"no holes|proved|depends on a hole in |not proved; it calls ")
+# What the prover says where it is at fault itself, and where it gave up.
+FAULT = re.compile(r"internal (?:compiler )?error|\binternal: |panicked at|please report|bug in rattle|bug of antt")
+LIMIT = re.compile(r"antt ran out of (?:stack|the (?:steps|memory))|(?:outgrew the memory limit|stopped at the step limit) \(")
+# What only follows from another error.
+FOLLOWS = re.compile(r"\d+ declarations? that depend|(?:was|is) not admitted")
+SEARCH = re.compile(r"`(?:search|grind|omega|auto)`: ")
+BREAKS = re.compile(r"values at which this goal is false")
+
+
+class Error:
+    """What was refused: the file and the place in it, the word of the compiler's error, the name of the goal, and what was
+    said."""
+
+    def __init__(self, file, line, column, code, name, said):
+        self.file, self.line, self.column = file, int(line or 0) - 1, int(column or 0) - 1
+        self.code, self.name, self.said = code, name, said
+        self.follows = bool(FOLLOWS.search(said))
+
+    def is_at(self, function):
+        """Whether it stands in a function, in its closures or in the files of its proof."""
+        if self.file == function.file:
+            return function.first <= self.line <= function.last
+        at = self.file.removeprefix("proofs/")
+        return at.startswith((f"{function.folder()}/", f"{function.closures()}/"))
+
+    def is_answer(self):
+        """Whether it is at an answer by hand."""
+        return bool(self.name) and self.file.endswith(("/Answers.antt", "/Proof.antt"))
+
+    def shown(self):
+        return f"{self.file}: {self.name or self.code or ''}: {self.said[:300]}"
+
+
+class Said:
+    """What a check said: its errors, the goals that the search left open, how the proof of each function ended, and why no
+    function was judged, if so."""
+
+    def __init__(self, status, text):
+        self.status, self.errors, self.goals, self.ends, self.faults, self.untried = status, [], [], {}, [], ""
+        lines = text.rstrip("\n").split("\n")
+        for line in lines:
+            self.take(line)
+        self.stop = self.why_stopped(lines[-1])
+
+    def take(self, line):
+        """Takes one line."""
+        if at := ERROR.fullmatch(line):
+            self.errors.append(Error(*at.groups()))
+        elif at := OPEN.match(line):
+            self.goals.append(Error(*at.groups()[:3], None, at[5], at[4]))
+        elif at := UNASKED.match(line):
+            self.errors.append(Error(*at.groups()[:3], None, at[4], at[5]))
+        elif at := END.fullmatch(line):
+            self.ends[at[1]] = at[2]
+        elif at := UNTRIED.match(line):
+            self.untried += at[1]
+        elif FAULT.search(line):
+            self.faults.append(line)
+
+    def why_stopped(self, last):
+        """Why no function was judged; nothing if they were."""
+        if self.status < 0:
+            return f"the prover was killed by {signal.Signals(-self.status).name}"
+        if self.status not in (0, 1):
+            return f"the prover ended with status {self.status}: {[*self.faults, last][0][:300]}"
+        if refused := next((it for it in self.errors if it.code), None):
+            return f"the compiler refuses it: {refused.shown()}"
+        return "" if LAST.match(last) else f"the prover came to no end: {last[:300]}"
+
+    def uncompiled(self, function):
+        """What the compiler or its borrow checker refuses in a function."""
+        return next((f"the compiler refuses it: {it.shown()}" for it in self.errors if it.code and it.is_at(function)), "")
+
+    def ended(self, function):
+        """How the proofs of a function and of its closures ended."""
+        inner = function.closures().replace("/", "::") + "::"
+        return [end for path, end in self.ends.items() if path == function.path or path.startswith(inner)]
+
+    def open_goals(self, function):
+        """The goals of a function that the search did not prove, each with what was said of it; first those that values
+        break."""
+        found = {it.name: f"{it.file}: {it.name}: {it.said}" for it in self.goals if it.is_at(function)}
+        for end in self.ended(function):
+            if at := LEFT.match(end):
+                found = {**{it: f"{function.file}: {it}: `search` did not prove it" for it in re.findall(r"`([^`]+)`", at[1])}, **found}
+        return sorted(found.values(), key=lambda it: not BREAKS.search(it))
+
+    def why_unjudged(self, function):
+        """Why the goals of a function say nothing, or it has none that failed and isn't proved; nothing if it is proved."""
+        if fault := next((it for it in self.faults if f"::{function.path}`" in it), ""):
+            return f"the prover is at fault itself: {fault[:300]}"
+        if function.path not in self.ends:
+            return "the prover says nothing of it"
+        if f"::{function.path}`" in self.untried:
+            return "the search did not try its goals"
+        return next((f"{function.path}: {it[:300]}" for it in self.ended(function) if not PROVED.match(it)), "")
+
+
+def is_whole(error, text):
+    """Whether an answer that failed is one search for its goal, by the text of its file."""
+    lines = text.split("\n")
+    if not SEARCH.match(error.said) or not 0 <= error.line < len(lines):
+        return False
+    before = lines[error.line][: error.column].strip()
+    return bool(re.fullmatch(r"\S+(?: \w+)* =", before or lines[error.line - 1].strip()))
+
+
+def judged(said, function, text_of):
+    """The verdict on a function, and what to say. `text_of` gives the text of a file that was checked."""
+    own = [it for it in said.errors if it.is_at(function) and not it.follows]
+    if unfit := next((it for it in own if not it.is_answer() and not it.file.endswith("/Answers.antt")), None):
+        return UNJUDGED, f"what its goals rest on is not read: {unfit.shown()}"
+    if goals := said.open_goals(function):
+        return REFUSED, goals[0]
+    own = [it for it in own if "no name that rattle asks for" not in it.said]
+    gave_up = [it for it in own if LIMIT.search(it.said) or FAULT.search(it.said)]
+    failed = [it for it in own if it not in gave_up]
+    if whole := next((it for it in failed if is_whole(it, text_of(it.file))), None):
+        return REFUSED, whole.shown()
+    if failed:
+        return UNCLEAR, failed[0].shown()
+    why = f"the prover gave up: {gave_up[0].shown()}" if gave_up else said.why_unjudged(function)
+    return (UNJUDGED, why) if why else (PASSED, f"{function.path}: {said.ends[function.path]}")
+
+
+def judged_again(said, function, text_of, before):
+    """The verdict on a function by a second check, without the answers of which it was said before that they failed."""
+    kind, why = judged(said, function, text_of)
+    if kind in (UNJUDGED, PASSED) or kind == REFUSED and BREAKS.search(why):
+        return kind, why
+    return UNJUDGED, f"an answer fits no more, and nothing says that its goal is false: {before}"
+
+
+def failed_answers(said, function):
+    """The names of the answers of a function that failed."""
+    return {it.name for it in said.errors if it.is_at(function) and it.is_answer() and not it.follows}
+
+
+def without_answers(text, names):
+    """The text of a file of answers without those of these names."""
+    kept, is_out = [], False
+    for line in text.split("\n"):
+        if line[:1].strip():
+            is_out = re.sub(r"^pub ", "", line).split(" ")[0].rstrip(":") in names
+        kept += [] if is_out else [line]
+    return "\n".join(kept)
