@@ -1,16 +1,18 @@
 """What a check says of the functions that an edit changed: each is refused, not refused, or not judged.
 
 A function is refused where a goal of it is false: the prover's own search does not prove the goal, or an answer by hand
-does not. An answer may also fail for its form alone: it cites a name that the new body has no more, or an equation that
-has another form there. So where nothing but such answers failed, the verdict is left to a second check without them.
-There the goal is false if the prover finds values that break it; it is not refused if the search proves it; else nothing
-is known of it.
+does not. But an answer may also fail for its form alone: it cites a name that the new body has no more, or an equation
+that has another form there. So it counts at once only where it is one search for its goal, where the prover names values
+that break it, or where the goal speaks of other things than the answer. Where nothing but other answers failed, the
+verdict is left to a second check without them. There the goal is false if the prover names values that break it; it
+is not refused if the search proves it; else nothing is known of it.
 
 A function is not refused where the prover says that its proof has no holes. In every other case it is not judged: its
 text can't be read, the borrow checker refuses it or does not cover it, an invariant fits no more, or the prover was
 killed, met a limit or a fault of its own.
 """
 
+import collections
 import re
 import signal
 
@@ -31,8 +33,12 @@ FAULT = re.compile(r"internal (?:compiler )?error|\binternal: |panicked at|pleas
 LIMIT = re.compile(r"antt ran out of (?:stack|the (?:steps|memory))|(?:outgrew the memory limit|stopped at the step limit) \(")
 # What only follows from another error.
 FOLLOWS = re.compile(r"\d+ declarations? that depend|(?:was|is) not admitted")
-SEARCH = re.compile(r"`(?:search|grind|omega|auto)`: ")
-BREAKS = re.compile(r"values at which this goal is false")
+SEARCH = re.compile(r"`(?:search|grind|omega)`: ")
+BREAKS = re.compile(r"values at which this goal is false|the goal fails")
+# The parts by which the type of a goal and that of its answer differ, and what a term speaks of: values, and names where it has none.
+DIFFER = re.compile(r"differ.*? where one has `(.*?)`\s+\(expected\).*?the other has `(.*?)`\s+\(found\)|expected type `(.*?)`\s+but this has type `(.*?)`")
+VALUE = re.compile(r"(?<![\w.])c\.[^\s()\[\]`,]+|(?<![\w.-])\d+(?![\w.-])")
+NAME = re.compile(r"[^\s()\[\]`,]+")
 
 
 class Error:
@@ -66,8 +72,15 @@ class Said:
     def __init__(self, status, text):
         self.status, self.errors, self.goals, self.ends, self.faults, self.untried = status, [], [], {}, [], ""
         lines = text.rstrip("\n").split("\n")
+        is_error = False
         for line in lines:
+            if line.startswith("  "):
+                if is_error:
+                    self.errors[-1].said += line[1:]
+                continue
+            before = len(self.errors)
             self.take(line)
+            is_error = len(self.errors) > before
         self.stop = self.why_stopped(lines[-1])
 
     def take(self, line):
@@ -127,10 +140,25 @@ class Said:
 def is_whole(error, text):
     """Whether an answer that failed is one search for its goal, by the text of its file."""
     lines = text.split("\n")
-    if not SEARCH.match(error.said) or not 0 <= error.line < len(lines):
+    if not 0 <= error.line < len(lines):
         return False
     before = lines[error.line][: error.column].strip()
     return bool(re.fullmatch(r"\S+(?: \w+)* =", before or lines[error.line - 1].strip()))
+
+
+def speaks_of(term):
+    """The values of which a term speaks, each as often as it does; its names where it has none."""
+    return collections.Counter(VALUE.findall(term) or NAME.findall(term))
+
+
+def is_clear(error, text):
+    """Whether an answer failed for what its goal says, and not for its own form."""
+    if SEARCH.match(error.said):
+        return bool(BREAKS.search(error.said)) or is_whole(error, text)
+    if at := DIFFER.search(error.said):
+        wanted, found = filter(None, at.groups())
+        return speaks_of(wanted) != speaks_of(found)
+    return False
 
 
 def judged(said, function, text_of):
@@ -143,8 +171,8 @@ def judged(said, function, text_of):
     own = [it for it in own if "no name that rattle asks for" not in it.said]
     gave_up = [it for it in own if LIMIT.search(it.said) or FAULT.search(it.said)]
     failed = [it for it in own if it not in gave_up]
-    if whole := next((it for it in failed if is_whole(it, text_of(it.file))), None):
-        return REFUSED, whole.shown()
+    if clear := next((it for it in failed if is_clear(it, text_of(it.file))), None):
+        return REFUSED, clear.shown()
     if failed:
         return UNCLEAR, failed[0].shown()
     why = f"the prover gave up: {gave_up[0].shown()}" if gave_up else said.why_unjudged(function)
