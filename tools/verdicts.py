@@ -35,8 +35,10 @@ LIMIT = re.compile(r"antt ran out of (?:stack|the (?:steps|memory))|(?:outgrew t
 FOLLOWS = re.compile(r"\d+ declarations? that depend|(?:was|is) not admitted")
 SEARCH = re.compile(r"`(?:search|grind|omega)`: ")
 BREAKS = re.compile(r"values at which this goal is false|the goal fails")
-# The parts by which the type of a goal and that of its answer differ, and what a term speaks of: values, and names where it has none.
-DIFFER = re.compile(r"differ.*? where one has `(.*?)`\s+\(expected\).*?the other has `(.*?)`\s+\(found\)|expected type `(.*?)`\s+but this has type `(.*?)`")
+# By which parts the type of a goal and that of its answer differ, or else the two types.
+DIFFER = re.compile(r"differ.*? where one has `(.*?)`\s+\(expected\).*?the other has `(.*?)`\s+\(found\)"
+                    r"|expected type `(.*?)`\s+but this has type `(.*?)`")
+# The values of which a term speaks, and any name in it.
 VALUE = re.compile(r"(?<![\w.])c\.[^\s()\[\]`,]+|(?<![\w.-])\d+(?![\w.-])")
 NAME = re.compile(r"[^\s()\[\]`,]+")
 
@@ -123,16 +125,19 @@ class Said:
         found = {it.name: f"{it.file}: {it.name}: {it.said}" for it in self.goals if it.is_at(function)}
         for end in self.ended(function):
             if at := LEFT.match(end):
-                found = {**{it: f"{function.file}: {it}: `search` did not prove it" for it in re.findall(r"`([^`]+)`", at[1])}, **found}
+                for name in re.findall(r"`([^`]+)`", at[1]):
+                    found.setdefault(name, f"{function.file}: {name}: `search` did not prove it")
         return sorted(found.values(), key=lambda it: not BREAKS.search(it))
 
-    def why_unjudged(self, function):
-        """Why the goals of a function say nothing, or it has none that failed and isn't proved; nothing if it is proved."""
-        if fault := next((it for it in self.faults if f"::{function.path}`" in it), ""):
-            return f"the prover is at fault itself: {fault[:300]}"
+    def fault_at(self, function):
+        """What the prover says of its own fault at a function; nothing if there is none."""
+        return next((it for it in self.faults if f"{function.path}`" in it or f"{function.folder()}/" in it), "")
+
+    def why_unproved(self, function):
+        """Why a function of which no goal failed is not known to be proved; nothing if it is."""
         if function.path not in self.ends:
             return "the prover says nothing of it"
-        if f"::{function.path}`" in self.untried:
+        if f"{function.path}`" in self.untried:
             return "the search did not try its goals"
         return next((f"{function.path}: {it[:300]}" for it in self.ended(function) if not PROVED.match(it)), "")
 
@@ -166,6 +171,8 @@ def judged(said, function, text_of):
     own = [it for it in said.errors if it.is_at(function) and not it.follows]
     if unfit := next((it for it in own if not it.is_answer() and not it.file.endswith("/Answers.antt")), None):
         return UNJUDGED, f"what its goals rest on is not read: {unfit.shown()}"
+    if fault := said.fault_at(function):
+        return UNJUDGED, f"the prover is at fault itself: {fault[:300]}"
     if goals := said.open_goals(function):
         return REFUSED, goals[0]
     own = [it for it in own if "no name that rattle asks for" not in it.said]
@@ -175,7 +182,7 @@ def judged(said, function, text_of):
         return REFUSED, clear.shown()
     if failed:
         return UNCLEAR, failed[0].shown()
-    why = f"the prover gave up: {gave_up[0].shown()}" if gave_up else said.why_unjudged(function)
+    why = f"the prover gave up: {gave_up[0].shown()}" if gave_up else said.why_unproved(function)
     return (UNJUDGED, why) if why else (PASSED, f"{function.path}: {said.ends[function.path]}")
 
 
