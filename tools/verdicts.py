@@ -3,9 +3,9 @@
 A function is refused where a goal of it is false: the prover's own search does not prove the goal, or an answer by hand
 does not. But an answer may also fail for its form alone: it cites a name that the new body has no more, or an equation
 that has another form there. So it counts at once only where it is one search for its goal, where the prover names values
-that break it, or where the goal speaks of other things than the answer. Where nothing but other answers failed, the
-verdict is left to a second check without them. There the goal is false if the prover names values that break it; it
-is not refused if the search proves it; else nothing is known of it.
+that break it, or where the goal speaks of other values than the answer. Where nothing but other answers failed, the
+verdict is left to a second check, with a search over the lemmas of each in its place. There the goal is true if the
+search proves it, and false if the prover names values that break it or has tried every way; else nothing is known.
 
 A function is not refused where the prover says that its proof has no holes. In every other case it is not judged: its
 text can't be read, the borrow checker refuses it or does not cover it, an invariant fits no more, or the prover was
@@ -35,6 +35,9 @@ LIMIT = re.compile(r"antt ran out of (?:stack|the (?:steps|memory))|(?:outgrew t
 FOLLOWS = re.compile(r"\d+ declarations? that depend|(?:was|is) not admitted")
 SEARCH = re.compile(r"`(?:search|grind|omega)`: ")
 BREAKS = re.compile(r"values at which this goal is false|the goal fails")
+ALL_TRIED = re.compile(r"Every way was tried")
+# That an answer is for no goal any more.
+GONE = re.compile(r"has no `[^`]+` that can be named from here|is no name|no name that rattle asks for")
 # By which parts the type of a goal and that of its answer differ, or else the two types.
 DIFFER = re.compile(r"differ.*? where one has `(.*?)`\s+\(expected\).*?the other has `(.*?)`\s+\(found\)"
                     r"|expected type `(.*?)`\s+but this has type `(.*?)`")
@@ -50,7 +53,7 @@ class Error:
     def __init__(self, file, line, column, code, name, said):
         self.file, self.line, self.column = file, int(line or 0) - 1, int(column or 0) - 1
         self.code, self.name, self.said = code, name, said
-        self.follows = bool(FOLLOWS.search(said))
+        self.follows, self.is_unasked = bool(FOLLOWS.search(said)), False
 
     def is_at(self, function):
         """Whether it stands in a function, in its closures or in the files of its proof."""
@@ -64,7 +67,7 @@ class Error:
         return bool(self.name) and self.file.endswith(("/Answers.antt", "/Proof.antt"))
 
     def shown(self):
-        return f"{self.file}: {self.name or self.code or ''}: {self.said[:300]}"
+        return f"{self.file}: {self.name or self.code or ''}: {self.said}"
 
 
 class Said:
@@ -93,6 +96,7 @@ class Said:
             self.goals.append(Error(*at.groups()[:3], None, at[5], at[4]))
         elif at := UNASKED.match(line):
             self.errors.append(Error(*at.groups()[:3], None, at[4], at[5]))
+            self.errors[-1].is_unasked = True
         elif at := END.fullmatch(line):
             self.ends[at[1]] = at[2]
         elif at := UNTRIED.match(line):
@@ -166,44 +170,49 @@ def is_clear(error, text):
     return False
 
 
+def failures(said, function):
+    """What failed of the answers by hand of a function."""
+    return [it for it in said.errors if it.is_at(function) and it.is_answer() and not it.follows]
+
+
+def refusals(said, function, text_of):
+    """What was said of the goals of a function that are false, those first that values break."""
+    clear = [it.shown() for it in failures(said, function) if is_clear(it, text_of(it.file))]
+    return sorted([*said.open_goals(function), *clear], key=lambda it: not BREAKS.search(it))
+
+
 def judged(said, function, text_of):
     """The verdict on a function, and what to say. `text_of` gives the text of a file that was checked."""
     own = [it for it in said.errors if it.is_at(function) and not it.follows]
-    if unfit := next((it for it in own if not it.is_answer() and not it.file.endswith("/Answers.antt")), None):
+    if unfit := next((it for it in own if not it.file.endswith("/Answers.antt") and not it.is_answer()), None):
         return UNJUDGED, f"what its goals rest on is not read: {unfit.shown()}"
-    if fault := said.fault_at(function):
-        return UNJUDGED, f"the prover is at fault itself: {fault[:300]}"
-    if goals := said.open_goals(function):
-        return REFUSED, goals[0]
-    own = [it for it in own if "no name that rattle asks for" not in it.said]
-    gave_up = [it for it in own if LIMIT.search(it.said) or FAULT.search(it.said)]
-    failed = [it for it in own if it not in gave_up]
-    if clear := next((it for it in failed if is_clear(it, text_of(it.file))), None):
-        return REFUSED, clear.shown()
+    if fault := said.fault_at(function) or next((it.shown() for it in own if FAULT.search(it.said)), ""):
+        return UNJUDGED, f"the prover is at fault itself: {fault}"
+    if refused := refusals(said, function, text_of):
+        return REFUSED, refused[0]
+    failed = [it for it in own if not it.is_unasked]
+    if limit := next((it for it in failed if LIMIT.search(it.said)), None):
+        return UNJUDGED, f"the prover gave up: {limit.shown()}"
     if failed:
         return UNCLEAR, failed[0].shown()
-    why = f"the prover gave up: {gave_up[0].shown()}" if gave_up else said.why_unproved(function)
+    why = said.why_unproved(function)
     return (UNJUDGED, why) if why else (PASSED, f"{function.path}: {said.ends[function.path]}")
 
 
 def judged_again(said, function, text_of, before):
-    """The verdict on a function by a second check, without the answers of which it was said before that they failed."""
+    """The verdict on a function by a second check, with a search in the place of each answer of which it was said before
+    that it failed."""
     kind, why = judged(said, function, text_of)
-    if kind in (UNJUDGED, PASSED) or kind == REFUSED and BREAKS.search(why):
-        return kind, why
+    if kind == PASSED:
+        return PASSED, f"an answer fits no more, and its goal is true: {before}"
+    if sure := [it for it in refusals(said, function, text_of) if BREAKS.search(it) or ALL_TRIED.search(it)]:
+        return REFUSED, sure[0]
     return UNJUDGED, f"an answer fits no more, and nothing says that its goal is false: {before}"
 
 
 def failed_answers(said, function):
-    """The names of the answers of a function that failed."""
-    return {it.name for it in said.errors if it.is_at(function) and it.is_answer() and not it.follows}
-
-
-def without_answers(text, names):
-    """The text of a file of answers without those of these names."""
-    kept, is_out = [], False
-    for line in text.split("\n"):
-        if line[:1].strip():
-            is_out = re.sub(r"^pub ", "", line).split(" ")[0].rstrip(":") in names
-        kept += [] if is_out else [line]
-    return "\n".join(kept)
+    """The names of the answers of a function that failed, and of each whether it is for no goal any more."""
+    found = {}
+    for it in failures(said, function):
+        found[it.name] = found.get(it.name, False) or bool(GONE.search(it.said))
+    return found
