@@ -38,9 +38,9 @@ BREAKS = re.compile(r"values at which this goal is false|the goal fails")
 ALL_TRIED = re.compile(r"Every way was tried")
 # That an answer is for no goal any more.
 GONE = re.compile(r"has no `[^`]+` that can be named from here|is no name|no name that rattle asks for")
-# By which parts the type of a goal and that of its answer differ, or else the two types.
-DIFFER = re.compile(r"differ.*? where one has `(.*?)`\s+\(expected\).*?the other has `(.*?)`\s+\(found\)"
-                    r"|expected type `(.*?)`\s+but this has type `(.*?)`")
+# By which parts the type that is wanted and that of an answer differ, and the two types.
+DIFFER = (re.compile(r"differ.*? where one has `(.*?)`\s+\(expected\).*?the other has `(.*?)`\s+\(found\)"),
+          re.compile(r"expected type `(.*?)`\s+but this has type `(.*?)`"))
 # The values of which a term speaks, and any name in it.
 VALUE = re.compile(r"(?<![\w.])c\.[^\s()\[\]`,]+|(?<![\w.-])\d+(?![\w.-])")
 NAME = re.compile(r"[^\s()\[\]`,]+")
@@ -164,10 +164,8 @@ def is_clear(error, text):
     """Whether an answer failed for what its goal says, and not for its own form."""
     if SEARCH.match(error.said):
         return bool(BREAKS.search(error.said)) or is_whole(error, text)
-    if at := DIFFER.search(error.said):
-        wanted, found = filter(None, at.groups())
-        return speaks_of(wanted) != speaks_of(found)
-    return False
+    pairs = [at.groups() for it in DIFFER if (at := it.search(error.said))]
+    return bool(pairs) and all(speaks_of(wanted) != speaks_of(found) for wanted, found in pairs)
 
 
 def failures(said, function):
