@@ -35,23 +35,34 @@ def lemmas_of(text):
     return found
 
 
-def searching(lines, lemmas):
-    """The lines of an answer with a search over those of these lemmas that it cites."""
-    at = next((it for it, line in enumerate(lines) if it and HEAD.match(line)), 0)
-    if not at:
-        return []
+def search_of(lines, lemmas):
+    """A search over those of these lemmas that some lines cite."""
     cited = {word for line in lines for word in WORD.findall(line)} & lemmas
-    return [*lines[:at], f"{HEAD.match(lines[at])[1]} = search ({', '.join(['rules', *sorted(cited - {'rules'})])})", ""]
+    return f"search ({', '.join(['rules', *sorted(cited - {'rules'})])})"
 
 
-def searched(text, failed):
-    """The text of a file of answers in which a search stands in the place of each that failed, by its name; and nothing
-    where that is the name of no goal any more."""
-    lemmas, kept = lemmas_of(text), []
+def searching(lines, lemmas):
+    """The lines of an answer with a search in the place of what it says."""
+    at = next((it for it, line in enumerate(lines) if it and HEAD.match(line)), 0)
+    return [*lines[:at], f"{HEAD.match(lines[at])[1]} = {search_of(lines, lemmas)}", ""] if at else []
+
+
+def answering(names, lines, lemmas):
+    """The lines of answers for these goals, each a search, in the place of the answers of these lines."""
+    head = next(filter(None, map(HEAD.match, lines)), None)
+    words = f"{head[1].partition(' ')[2]} = {search_of(lines, lemmas)}" if head else ""
+    return [it for name in names for it in (f"pub {name} : goal.{name}", f"{name} {words}", "")] if head else []
+
+
+def searched(text, failed, opened=()):
+    """The text of a file of answers in which a search is in the place of each that failed, by its name; those that are for
+    no goal any more are left out, and these goals that are open have a search over what those cite."""
+    lemmas, kept, gone = lemmas_of(text) - set(failed), [], []
     for name, lines in blocks_of(text):
-        if name in failed:
-            lines = [] if failed[name] else searching(lines, lemmas - set(failed))
-        kept += lines
-    if failed and not re.search(r"^use .*Common\.\{(.*, )?rules[,}]", text, re.M):
+        if failed.get(name):
+            gone += lines
+        else:
+            kept += searching(lines, lemmas) if name in failed else lines
+    if not re.search(r"^use .*Common\.\{(.*, )?rules[,}]", text, re.M):
         kept.insert(0, f"use {COMMON}.{{rules}}")
-    return "\n".join(kept)
+    return "\n".join([*kept, *answering(opened, gone, lemmas)])

@@ -124,14 +124,13 @@ class Said:
         return [end for path, end in self.ends.items() if path == function.path or path.startswith(inner)]
 
     def open_goals(self, function):
-        """The goals of a function that the search did not prove, each with what was said of it; first those that values
-        break."""
-        found = {it.name: f"{it.file}: {it.name}: {it.said}" for it in self.goals if it.is_at(function)}
+        """The goals of a function that the search did not prove, by their names, with what was said of each."""
+        found = {it.name: it.shown() for it in self.goals if it.is_at(function)}
         for end in self.ended(function):
             if at := LEFT.match(end):
                 for name in re.findall(r"`([^`]+)`", at[1]):
                     found.setdefault(name, f"{function.file}: {name}: `search` did not prove it")
-        return sorted(found.values(), key=lambda it: not BREAKS.search(it))
+        return found
 
     def fault_at(self, function):
         """What the prover says of its own fault at a function; nothing if there is none."""
@@ -174,9 +173,12 @@ def failures(said, function):
 
 
 def refusals(said, function, text_of):
-    """What was said of the goals of a function that are false, those first that values break."""
+    """What was said of the goals of a function that are false, those first that values break. An open goal may have
+    another name than an answer that is for no goal any more, and then only values break it."""
+    is_gone = any(GONE.search(it.said) for it in failures(said, function))
+    left = [it for it in said.open_goals(function).values() if not is_gone or BREAKS.search(it)]
     clear = [it.shown() for it in failures(said, function) if is_clear(it, text_of(it.file))]
-    return sorted([*said.open_goals(function), *clear], key=lambda it: not BREAKS.search(it))
+    return sorted([*left, *clear], key=lambda it: not BREAKS.search(it))
 
 
 def judged(said, function, text_of):
@@ -188,10 +190,9 @@ def judged(said, function, text_of):
         return UNJUDGED, f"the prover is at fault itself: {fault}"
     if refused := refusals(said, function, text_of):
         return REFUSED, refused[0]
-    failed = [it for it in own if not it.is_unasked]
-    if limit := next((it for it in failed if LIMIT.search(it.said)), None):
+    if limit := next((it for it in own if LIMIT.search(it.said)), None):
         return UNJUDGED, f"the prover gave up: {limit.shown()}"
-    if failed:
+    if failed := [it for it in own if not it.is_unasked or said.open_goals(function)]:
         return UNCLEAR, failed[0].shown()
     why = said.why_unproved(function)
     return (UNJUDGED, why) if why else (PASSED, f"{function.path}: {said.ends[function.path]}")
@@ -209,8 +210,9 @@ def judged_again(said, function, text_of, before):
 
 
 def failed_answers(said, function):
-    """The names of the answers of a function that failed, and of each whether it is for no goal any more."""
+    """The names of the answers of a function that failed, and of each whether it is for no goal any more; and the names of
+    the goals that are open."""
     found = {}
     for it in failures(said, function):
         found[it.name] = found.get(it.name, False) or bool(GONE.search(it.said))
-    return found
+    return found, list(said.open_goals(function))
