@@ -37,7 +37,7 @@ SEARCH = re.compile(r"`(?:search|grind|omega)`: ")
 BREAKS = re.compile(r"values at which this goal is false|the goal fails")
 ALL_TRIED = re.compile(r"Every way was tried")
 # That an answer is for no goal any more.
-GONE = re.compile(r"has no `[^`]+` that can be named from here|is no name|no name that rattle asks for")
+GONE = re.compile(r"Goals` has no `[^`]+` that can be named from here|no name that rattle asks for")
 # By which parts the type that is wanted and that of an answer differ, and the two types.
 DIFFER = (re.compile(r"differ.*? where one has `(.*?)`\s+\(expected\).*?the other has `(.*?)`\s+\(found\)"),
           re.compile(r"expected type `(.*?)`\s+but this has type `(.*?)`"))
