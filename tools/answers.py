@@ -16,7 +16,7 @@ def blocks_of(text):
     found = []
     for line in text.split("\n"):
         name = line.removeprefix("pub ").split(" ")[0]
-        if found and (not line[:1].strip() or name == found[-1][0]):
+        if found and (not line[:1].strip() or line[0] in ")}]" or name == found[-1][0]):
             found[-1][1].append(line)
         else:
             found.append((name, [line]))
