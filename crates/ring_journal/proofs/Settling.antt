@@ -3,7 +3,7 @@ use Rattle.std.proofs.Common.{◌≡◌, ◌+◌, ◌≤◌, ℕ, Bool, false, L
 use Rattle.std.proofs.lemmas.List.{length-take-le, take_all}
 use Rattle.ring_journal.specs.Moments.{Grows, MayFind, Moment}
 use Rattle.ring_journal.specs.Lines.{text_of, whole_lines_of}
-use Rattle.ring_journal.specs.Journals.{Finds, HasAll}
+use Rattle.ring_journal.specs.Journals.{Finds, FindsAll, HasAll}
 use Rattle.ring_journal.specs.private.Invariant.{IsJournal}
 use Rattle.ring_journal.proofs.Finding.{HasNoZero, no_zero_front, no_zero_text}
 use Rattle.ring_journal.proofs.Lining.{finds_first, kept_lines, lines_of_text}
@@ -81,4 +81,15 @@ new_journal disk batch none has kept =
       synced = λ _. kept;
       near = omega (arith, kept);
       short = omega (arith, ap length none);
+    }
+
+-- a text of which all is kept: a restart finds all of its lines
+pub finds_all : (text : List ℕ) → HasAll text → FindsAll text
+finds_all text has found find =
+    let lines = whole_lines_of text in
+    let whole : text ++ [] ≡ text_of lines = append-nil text ∙ has.all in
+    let all : length (text_of (take (length lines) lines)) ≡ length text = ap (λ (l : List (List ℕ)). length (text_of l)) (take_all (length lines) lines (omega arith)) ∙ ap length (sym has.all) in
+    record {
+      first = finds_first lines text [] (length lines) (length text) found has.are whole (omega arith) (omega (arith, all)) find;
+      whole = whole_find found text (length text) (subst HasNoZero (sym has.all) (no_zero_text lines has.are)) find (omega arith);
     }

@@ -1,5 +1,6 @@
--- The text after a call that writes.
-use Rattle.std.specs.Prelude.{ℕ, List, ◌++◌, Result, Ok, Err}
+-- What a call that writes leaves.
+use Rattle.std.specs.Prelude.{ℕ, List, ◌++◌, Option, Some, None, Result, Ok, Err, length}
+use Rattle.ring_journal.specs.Moments.{Moment}
 use Rattle.ring_journal.specs.declared.medium.Fault.{Fault}
 use Rattle.ring_journal.specs.declared.medium.Fault.TheVariants.{NoMemory, Failed}
 
@@ -9,3 +10,14 @@ abbrev pub appended : Result (Unit {0}) Fault → List ℕ → List ℕ → List
 appended (Ok done) text batch = text ++ batch
 appended (Err Failed) text batch = text ++ batch
 appended (Err NoMemory) text batch = text
+
+-- a moment at which a restart may find this other text, all of it synced
+abbrev pub with_other : Moment → List ℕ → Moment
+with_other moment other = record { text = moment.text; kept = moment.kept; other = Some other }
+
+-- A text takes the place of the old one, all of it synced. If the disk failed, a restart may find either
+-- text. If an allocation failed, nothing was written.
+abbrev pub replaced : Result (Unit {0}) Fault → Moment → List ℕ → Moment
+replaced (Ok done) old text = record { text = text; kept = length text; other = None }
+replaced (Err Failed) old text = with_other old text
+replaced (Err NoMemory) old text = old

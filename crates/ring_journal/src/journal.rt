@@ -1,6 +1,7 @@
 //! A journal: lines, of which every restart finds the settled ones.
-ghost use Rattle.std.specs.Prelude.{◌≡◌, ◌↔◌, ◌+◌, ◌-◌, ◌<◌, ◌≤◌, ◌++◌, ◌∷◌, [], true, length, Err, IsErr, IsTrue, OnErr, OnOk};
-ghost use Rattle.ring_journal.specs.Journals.{Adds, FindsFirst, HasAll, IsSame, settled};
+ghost use Rattle.std.specs.Prelude.{◌≡◌, ◌↔◌, ◌+◌, ◌-◌, ◌<◌, ◌≤◌, ◌++◌, ◌∷◌, [], false, true, length, Err, IsErr, IsTrue, OnErr, OnOk};
+ghost use Rattle.ring_journal.specs.Appending.{replaced};
+ghost use Rattle.ring_journal.specs.Journals.{Adds, FindsEither, FindsFirst, HasAll, IsSame, settled};
 ghost use Rattle.ring_journal.specs.Lines.{AreLines, IsLine, text_of, whole_lines_of};
 ghost use Rattle.ring_journal.specs.Moments.{Grows};
 ghost use Rattle.ring_journal.specs.declared.journal.RoomFault.TheVariants as room_fault;
@@ -131,6 +132,38 @@ impl<D: Medium + Drop> Journal<D> {
         self.reserve(line.len().saturating_add(1))?;
         self.add_reserved(line);
         Ok(())
+    }
+
+    /// Replaces the lines by those of `text`, all of them settled. Lines that are pending are dropped.
+    ///
+    /// If a crash comes inside the call, a restart finds what it finds before, or all lines of `text`.
+    /// After `Failed` it may find either from then on, and no call settles a line any more.
+    pub fn replace(&mut self, text: &Batch) -> Result<(), Fault>
+        requires { HasAll text.now.bytes }
+        ensures lines { OnOk result (self.new.lines ≡ whole_lines_of text.now.bytes) }
+        ensures settled { OnOk result (settled self.new ≡ length self.new.lines) }
+        ensures pending { OnOk result (self.new.pending ≡ 0) }
+        ensures disk { self.old.is_broken ≡ false → self.new.disk ≡ replaced result self.old.disk text.now.bytes }
+        ensures err { OnErr result (self.new.lines ≡ self.old.lines) }
+        ensures failed { (result ≡ Err fault.Failed) ↔ IsTrue self.new.is_broken }
+        ensures broken { IsTrue self.old.is_broken → self.new.disk ≡ self.old.disk }
+        ensures no_memory { result ≡ Err fault.NoMemory → IsSame self.old self.new }
+        ensures any_moment { FindsEither self.old text.now.bytes }
+    {
+        if self.is_broken {
+            return Err(Fault::Failed);
+        }
+        match self.medium.replace(text) {
+            Ok(()) => {
+                self.batch.clear();
+                Ok(())
+            }
+            Err(Fault::NoMemory) => Err(Fault::NoMemory),
+            Err(Fault::Failed) => {
+                self.is_broken = true;
+                Err(Fault::Failed)
+            }
+        }
     }
 
     /// Writes the pending lines and syncs them. If there are none, nothing is written.

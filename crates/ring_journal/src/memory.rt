@@ -1,7 +1,7 @@
 //! A medium in memory.
 ghost use Rattle.std.specs.Prelude.{◌≡◌, length, Err, IsOk, OnErr};
-ghost use Rattle.ring_journal.specs.Appending.{appended};
-ghost use Rattle.ring_journal.specs.Memories.{memory_kept, memory_text};
+ghost use Rattle.ring_journal.specs.Appending.{appended, replaced};
+ghost use Rattle.ring_journal.specs.Memories.{memory_kept, memory_moment, memory_text};
 ghost use Rattle.ring_journal.specs.declared.medium.Fault.TheVariants as fault;
 
 use crate::batch::Batch;
@@ -40,7 +40,7 @@ impl MemoryMedium {
 }
 
 impl Medium for MemoryMedium {
-    ghost moment = { λ m. record { text = m.text.items; kept = m.kept } };
+    ghost moment = { memory_moment };
 
     /// Adds the bytes of the batch. Fails only if an allocation fails, and then the text is as
     /// before.
@@ -61,6 +61,22 @@ impl Medium for MemoryMedium {
         ensures kept { memory_kept self.new ≡ length (memory_text self.old) }
         ensures ok { IsOk result }
     {
+        self.kept = self.text.len();
+        Ok(())
+    }
+
+    /// Holds `text` from now on, and notes that it is synced. Fails only if an allocation fails, and
+    /// then the text is as before.
+    fn replace(&mut self, text: &Batch) -> Result<(), Fault>
+        ensures moment { memory_moment self.new ≡ replaced result (memory_moment self.old) text.now.bytes }
+        ensures err { OnErr result (result ≡ Err fault.NoMemory) }
+    {
+        let Ok(()) = self.text.reserve(text.len()) else {
+            return Err(Fault::NoMemory);
+        };
+        self.text.clear();
+        let is_put = self.text.extend_from_slice(text.bytes()).is_ok();
+        prove!(is_put);
         self.kept = self.text.len();
         Ok(())
     }
