@@ -1,5 +1,5 @@
 //! The place of a journal: a name in a folder, which is the name of one file after another.
-ghost use Rattle.std.specs.Prelude.{◌≡◌, length, IfErr, IfOk};
+ghost use Rattle.std.specs.Prelude.{◌≡◌, length, IfErr, IfOk, None};
 ghost use Rattle.ring_file.specs.Faults.{IsBeginFault, IsReadFault, IsTakeFault};
 ghost use Rattle.ring_file.specs.declared.place.PlaceFault.TheVariants as place_fault;
 
@@ -38,6 +38,8 @@ impl From<AllocError> for PlaceFault {
 #[derive(Drop)]
 pub struct Place {
     path: String,
+    // the name of a file that is to take the place of the journal's
+    new_path: String,
     // the lock is let go when this is closed
     lock: File,
 }
@@ -55,6 +57,7 @@ impl Place {
         ensures { IfErr result IsTakeFault }
     {
         let lock_path = format!(in rt.alloc(); "{path}.lock")?;
+        let new_path = format!(in rt.alloc(); "{path}.new")?;
         let path = format!(in rt.alloc(); "{path}")?;
         let opened = OpenOptions::new()
             .read(true)
@@ -63,7 +66,11 @@ impl Place {
             .open(rt, lock_path.as_str());
         let lock = opened.map_err(unreadable)?;
         match lock.try_lock() {
-            Ok(()) => Ok(Place { path, lock }),
+            Ok(()) => Ok(Place {
+                path,
+                new_path,
+                lock,
+            }),
             Err(TryLockError::WouldBlock) => Err(PlaceFault::InUse),
             Err(TryLockError::Error(_)) => Err(PlaceFault::Unreadable),
         }
@@ -96,37 +103,39 @@ impl Place {
     /// a new file `path.new`, `write` of the text and of zeros, and `fsync`. Then `rename` to
     /// `path`, `openat` of its folder and `fsync` of that. So `path` is the old file at each
     /// moment, or the new one with the whole text. After an error it may be either.
-    pub fn begin<R: Files<File = File> + AllocGlobal>(
+    pub fn begin<R: Files<File = File> + AllocGlobal + Copy + Drop>(
         self,
         rt: &R,
         text: &Batch,
-    ) -> Result<FileMedium, PlaceFault>
-        ensures ok { IfOk result (λ medium. medium ≡ record { text = text.now.bytes; kept = length text.now.bytes }) }
+    ) -> Result<FileMedium<R>, PlaceFault>
+        ensures ok { IfOk result (λ medium. medium ≡ record { text = text.now.bytes; kept = length text.now.bytes; other = None }) }
         ensures err { IfErr result IsBeginFault }
     {
         let zeros = vec![in rt.alloc(); 0; AHEAD]?;
-        match replace(rt, self.path.as_str(), text.bytes(), &zeros) {
+        match self.replace(rt, text.bytes(), &zeros) {
             Ok(file) => {
                 let tail = Tail::new(file, text.len(), zeros);
-                Ok(FileMedium::new(rt.alloc(), tail, self.lock, text)?)
+                Ok(FileMedium::new(rt.alloc(), *rt, self, tail, text)?)
             }
             Err(error) => Err(failed(error)),
         }
     }
-}
 
-// Makes a new file of this text and of zeros after it, and gives it the name of the journal.
-fn replace<R: Files<File = File> + AllocGlobal>(
-    rt: &R,
-    path: &str,
-    text: &[u8],
-    zeros: &[u8],
-) -> io::Result<File> {
-    let new_path = format!(in rt.alloc(); "{path}.new")?;
-    let file = write_new(rt, new_path.as_str(), text, zeros)?;
-    fs::rename(rt, new_path.as_str(), path)?;
-    File::open(rt, folder_of(path))?.sync_all()?;
-    Ok(file)
+    /// Makes a new file of this text and of zeros after it, and gives it the name of the journal. It makes
+    /// the system calls that `begin` names, in that order.
+    pub(crate) fn replace<R: Files<File = File>>(
+        &self,
+        rt: &R,
+        text: &[u8],
+        zeros: &[u8],
+    ) -> io::Result<File> {
+        let path = self.path.as_str();
+        let new_path = self.new_path.as_str();
+        let file = write_new(rt, new_path, text, zeros)?;
+        fs::rename(rt, new_path, path)?;
+        File::open(rt, folder_of(path))?.sync_all()?;
+        Ok(file)
+    }
 }
 
 // Makes a new file of this text and of zeros after it, and syncs it.

@@ -1,6 +1,7 @@
 //! The end of the text in the file, and the zeros after it.
 
-use std::fs::File;
+use crate::place::Place;
+use std::fs::{File, Files};
 use std::io;
 use std::os::unix::fs::FileExt;
 
@@ -49,6 +50,33 @@ impl Tail {
     pub(crate) fn sync(&mut self) -> bool {
         self.is_broken = self.is_broken || self.file.sync_data().is_err();
         !self.is_broken
+    }
+
+    /// Replaces the file at `place` by a new one that holds these bytes and zeros, and goes on with that
+    /// one. Returns whether it is on the disk under its name.
+    ///
+    /// After a failure, in this call or an earlier one, nothing is written any more.
+    pub(crate) fn replace<R: Files<File = File>>(
+        &mut self,
+        rt: &R,
+        place: &Place,
+        bytes: &[u8],
+    ) -> bool {
+        if self.is_broken {
+            return false;
+        }
+        match place.replace(rt, bytes, &self.zeros) {
+            Ok(file) => {
+                self.file = file;
+                self.end = bytes.len() as u64;
+                self.room = self.end.saturating_add(self.zeros.len() as u64);
+                true
+            }
+            Err(_) => {
+                self.is_broken = true;
+                false
+            }
+        }
     }
 
     fn try_put(&mut self, bytes: &[u8]) -> io::Result<()> {

@@ -156,12 +156,14 @@ impl<E: RingElection, H: Recorder<E> + Drop> Recorded<E, H> {
         self.recorder.is_settled()
     }
 
-    /// Has all entries kept for good. It may wait, and does not return if they cannot be kept.
+    /// Has all entries kept for good. It may wait, and does not return if they cannot be kept. Then the
+    /// recorder may keep them in less space.
     pub fn settle<R: Wait>(&mut self, rt: &R)
         ensures same { plain self.new ≡ plain self.old }
         ensures sure { self.old.sure ≤ self.new.sure }
         ensures all { length self.new.history ≤ self.new.sure }
     {
         self.recorder.settle(rt);
+        self.recorder.shorten(rt, self.alloc, &self.book);
     }
 }

@@ -1,5 +1,6 @@
 ghost use Rattle.std.specs.Prelude.{◌≡◌, ◌<◌, ◌≤◌, ◌++◌, ◌∷◌, [], length, ◌↔◌, IsTrue, OnOk};
 ghost use Rattle.ring_table.specs.Accesses.{filing};
+ghost use Rattle.ring_table.specs.Histories.{IsLegal};
 ghost use Rattle.ring_table.specs.declared.entry.Entry.TheVariants as entry;
 
 use crate::trace::Trace;
@@ -7,7 +8,7 @@ use ring_election::RingElection;
 use ring_events::{Command, Reply};
 use ring_id::NoMemory;
 use ring_node::Report;
-use ring_terms::Noting;
+use ring_terms::{Book, Noting};
 use std::alloc::Global;
 use std::marker::Model;
 use std::sync::Wait;
@@ -65,6 +66,13 @@ pub trait Recorder<E: RingElection> {
         ensures items { entries self.new ≡ entries self.old }
         ensures sure { sure self.old ≤ sure self.new }
         ensures all { length (entries self.new) ≤ sure self.new };
+
+    /// Keeps the entries in less space, if that is due: `book` is what they lead to. It may wait, and does
+    /// not return if they cannot be kept.
+    fn shorten<R: Wait>(&mut self, rt: &R, alloc: Global, book: &Book<E>)
+        requires { IsLegal E.is_two_way E.is_greatest (entries self.old) book.now }
+        ensures items { entries self.new ≡ entries self.old }
+        ensures sure { sure self.old ≤ sure self.new };
 }
 
 /// A recorder that keeps the number of entries and nothing else. Its size does not grow.
@@ -140,4 +148,6 @@ impl<E: RingElection> Recorder<E> for Unkept<E> {
     }
 
     fn settle<R: Wait>(&mut self, _rt: &R) {}
+
+    fn shorten<R: Wait>(&mut self, _rt: &R, _alloc: Global, _book: &Book<E>) {}
 }
