@@ -1,5 +1,5 @@
 -- A recorder with one entry more.
-use Rattle.std.proofs.Common.{◌≡◌, ◌<◌, ◌≤◌, ◌+◌, ◌-◌, ◌^◌, ℕ, min, List, [], ◌∷◌, ◌++◌, Option, Some, None, All, length, take, refl, ap, sym, ◌∙◌, subst, arith, append-nil, length-append}
+use Rattle.std.proofs.Common.{◌≡◌, ◌<◌, ◌≤◌, ◌+◌, ◌-◌, ◌^◌, ℕ, min, List, [], ◌∷◌, ◌++◌, Option, Some, None, All, length, take, refl, ap, sym, ◌∙◌, subst, arith, append-nil, append_assoc, length-append}
 use Rattle.std.proofs.lemmas.List.{take_all, take-append-le}
 use Rattle.std.proofs.lemmas.List.Elements.{All-push}
 use Rattle.ring_any.specs.declared.any.Any.{Any}
@@ -41,87 +41,148 @@ changes_of-none entries entry none = changes_of-push entries entry ∙ ap (λ (o
 still_first : (entries : List (Entry Any)) (entry : Entry Any) (sure : ℕ) → sure ≤ length entries → length (changes_of (take sure (entries ++ entry ∷ []))) ≡ length (changes_of (take sure entries))
 still_first entries entry sure within = ap (λ (first : List (Entry Any)). length (changes_of first)) (take-append-le sure entries (entry ∷ []) within)
 
+-- entries after those that the journal began with, and one more
+one_after : (entries first rest : List (Entry Any)) (entry : Entry Any) → entries ≡ first ++ rest → entries ++ entry ∷ [] ≡ first ++ (rest ++ entry ∷ [])
+one_after entries first rest entry all = ap (λ (l : List (Entry Any)). l ++ entry ∷ []) all ∙ append_assoc first rest (entry ∷ [])
+
 -- the entry of a change, whose line was added
 pub with_change : (life : ℕ) (entries : List (Entry Any)) (entry : Entry Any) (change : Change Any) (old new : JournalView) (check next sure : ℕ) → IsWritten life entries old check sure
     → length entries + 1 < 2 ^ 44 → change_in entry ≡ Some change → IsChange change → Adds old (marked_line check change) new → next ≡ check_behind check change → IsWritten life (entries ++ entry ∷ []) new next sure
 with_change life entries entry change old new check next sure written few some legal adds checked =
-    let changes = changes_of-change entries entry change some in
+    let held = written.begun ++ changes_of written.rest in
+    let changes : written.begun ++ changes_of (written.rest ++ entry ∷ []) ≡ held ++ change ∷ [] =
+    ap (λ (l : List (Change Any)). written.begun ++ l) (changes_of-change written.rest entry change some) ∙ sym (append_assoc written.begun (changes_of written.rest) (change ∷ [])) in
     record {
       counted = written.counted;
+      begun = written.begun;
+      first = written.first;
+      rest = written.rest ++ entry ∷ [];
+      all = one_after entries written.first written.rest entry written.all;
+      alike = written.alike;
       lines = adds.lines
           ∙ ap (λ (lines : List (List ℕ)). lines ++ marked_line check change ∷ []) written.lines
-          ∙ ap (λ (before : ℕ). journal_lines life (changes_of entries) ++ marked_line before change ∷ []) written.checked
-          ∙ sym (journal_lines-push life (changes_of entries) change)
+          ∙ ap (λ (before : ℕ). journal_lines life held ++ marked_line before change ∷ []) written.checked
+          ∙ sym (journal_lines-push life held change)
           ∙ ap (journal_lines life) (sym changes);
-      legal = subst (λ (all : List (Change Any)). All IsChange all) (sym changes) (All-push IsChange (changes_of entries) change written.legal legal);
-      checked = checked ∙ ap (λ (before : ℕ). check_behind before change) written.checked ∙ sym (check_of-push first_check (changes_of entries) change) ∙ ap (check_of first_check) (sym changes);
+      legal = subst (λ (all : List (Change Any)). All IsChange all) (sym changes) (All-push IsChange held change written.legal legal);
+      checked = checked ∙ ap (λ (before : ℕ). check_behind before change) written.checked ∙ sym (check_of-push first_check held change) ∙ ap (check_of first_check) (sym changes);
       few = omega (arith, few, length-append entries (entry ∷ []));
-      within = omega (arith, written.within, length-append entries (entry ∷ []));
-      kept = omega (arith, written.kept, still_first entries entry sure written.within, ap (λ (disk : Moment). length (whole_lines_of (take disk.kept disk.text))) adds.disk);
+      more = written.more;
+      surely = written.surely;
+      within = omega (arith, written.within, length-append written.rest (entry ∷ []));
+      kept = omega (arith, written.kept, still_first written.rest entry written.more written.within, ap (λ (disk : Moment). length (whole_lines_of (take disk.kept disk.text))) adds.disk);
     }
 
 -- an entry without a change
 pub without_change : (life : ℕ) (entries : List (Entry Any)) (entry : Entry Any) (journal : JournalView) (check sure : ℕ) → IsWritten life entries journal check sure
     → length entries + 1 < 2 ^ 44 → change_in entry ≡ None → IsWritten life (entries ++ entry ∷ []) journal check sure
 without_change life entries entry journal check sure written few none =
-    let changes = changes_of-none entries entry none in
+    let changes : written.begun ++ changes_of (written.rest ++ entry ∷ []) ≡ written.begun ++ changes_of written.rest = ap (λ (l : List (Change Any)). written.begun ++ l) (changes_of-none written.rest entry none) in
     record {
       counted = written.counted;
+      begun = written.begun;
+      first = written.first;
+      rest = written.rest ++ entry ∷ [];
+      all = one_after entries written.first written.rest entry written.all;
+      alike = written.alike;
       lines = written.lines ∙ ap (journal_lines life) (sym changes);
       legal = subst (λ (all : List (Change Any)). All IsChange all) (sym changes) written.legal;
       checked = written.checked ∙ ap (check_of first_check) (sym changes);
       few = omega (arith, few, length-append entries (entry ∷ []));
-      within = omega (arith, written.within, length-append entries (entry ∷ []));
-      kept = omega (arith, written.kept, still_first entries entry sure written.within);
+      more = written.more;
+      surely = written.surely;
+      within = omega (arith, written.within, length-append written.rest (entry ∷ []));
+      kept = omega (arith, written.kept, still_first written.rest entry written.more written.within);
     }
 
 -- an entry without a change, which is kept since all entries before it are
 pub with_question : (life : ℕ) (entries : List (Entry Any)) (entry : Entry Any) (journal : JournalView) (check sure now : ℕ) → IsWritten life entries journal check sure
     → length entries + 1 < 2 ^ 44 → change_in entry ≡ None → sure ≡ length entries → now ≡ length (entries ++ entry ∷ []) → IsWritten life (entries ++ entry ∷ []) journal check now
 with_question life entries entry journal check sure now written few none all is =
-    let more = without_change life entries entry journal check sure written few none in
-    let before : take sure entries ≡ entries = take_all sure entries (omega (arith, all)) in
-    let after : take now (entries ++ entry ∷ []) ≡ entries ++ entry ∷ [] = take_all now (entries ++ entry ∷ []) (omega (arith, is)) in
-    let same : length (changes_of (take now (entries ++ entry ∷ []))) ≡ length (changes_of (take sure entries)) =
-    ap (λ (l : List (Entry Any)). length (changes_of l)) after ∙ ap length (changes_of-none entries entry none) ∙ ap (λ (l : List (Entry Any)). length (changes_of l)) (sym before) in
+    let changes : written.begun ++ changes_of (written.rest ++ entry ∷ []) ≡ written.begun ++ changes_of written.rest = ap (λ (l : List (Change Any)). written.begun ++ l) (changes_of-none written.rest entry none) in
+    let all_are = one_after entries written.first written.rest entry written.all in
+    let long = ap length written.all ∙ length-append written.first written.rest in
+    let before : take written.more written.rest ≡ written.rest = take_all written.more written.rest (omega (arith, all, written.surely, long)) in
+    let rest = written.rest ++ entry ∷ [] in
+    let after : take (length rest) rest ≡ rest = take_all (length rest) rest (omega arith) in
+    let same : length (changes_of (take (length rest) rest)) ≡ length (changes_of (take written.more written.rest)) =
+    ap (λ (l : List (Entry Any)). length (changes_of l)) after ∙ ap length (changes_of-none written.rest entry none) ∙ ap (λ (l : List (Entry Any)). length (changes_of l)) (sym before) in
     record {
-      counted = more.counted;
-      lines = more.lines;
-      legal = more.legal;
-      checked = more.checked;
-      few = more.few;
-      within = omega (arith, is);
+      counted = written.counted;
+      begun = written.begun;
+      first = written.first;
+      rest = rest;
+      all = all_are;
+      alike = written.alike;
+      lines = written.lines ∙ ap (journal_lines life) (sym changes);
+      legal = subst (λ (all : List (Change Any)). All IsChange all) (sym changes) written.legal;
+      checked = written.checked ∙ ap (check_of first_check) (sym changes);
+      few = omega (arith, few, length-append entries (entry ∷ []));
+      more = length rest;
+      surely = is ∙ ap length all_are ∙ length-append written.first rest;
+      within = omega arith;
       kept = omega (arith, written.kept, same);
     }
+
+-- how many lines a journal has
+many_lines : (life : ℕ) (begun : List (Change Any)) (rest : List (Entry Any)) → length (journal_lines life (begun ++ changes_of rest)) ≡ 1 + (length begun + length (changes_of rest))
+many_lines life begun rest = omega (arith, marked_lines-length first_check (begun ++ changes_of rest), length-append begun (changes_of rest))
 
 -- all entries are kept where all lines are settled
 pub begun : (life : ℕ) (entries : List (Entry Any)) (journal : JournalView) (check sure : ℕ) → IsLife life → length entries < 2 ^ 44 → journal.lines ≡ journal_lines life (changes_of entries) → All IsChange (changes_of entries) → check ≡ check_of first_check (changes_of entries)
     → settled journal ≡ length journal.lines → sure ≡ length entries → IsWritten life entries journal check sure
-begun life entries journal check sure counted few lines legal checked all is =
-    let whole : take sure entries ≡ entries = take_all sure entries (omega (arith, is)) in
-    record {
-      counted = counted;
-      lines = lines;
-      legal = legal;
-      checked = checked;
-      few = few;
-      within = omega (arith, is);
-      kept = omega (arith, all, ap length lines, marked_lines-length first_check (changes_of entries), ap (λ (l : List (Entry Any)). length (changes_of l)) whole);
-    }
+begun life entries journal check sure counted few lines legal checked all is = record {
+  counted = counted;
+  begun = [];
+  first = [];
+  rest = entries;
+  all = refl;
+  alike = λ groups. (λ leads. leads, λ leads. leads);
+  lines = lines;
+  legal = legal;
+  checked = checked;
+  few = few;
+  more = length entries;
+  surely = omega (arith, is);
+  within = omega arith;
+  kept = omega (arith, all, ap length lines, many_lines life [] entries, ap (λ (l : List (Entry Any)). length (changes_of l)) (take_all (length entries) entries (omega arith)));
+}
 
 -- all entries, once all lines are settled
 pub all_kept : (life : ℕ) (entries : List (Entry Any)) (old new : JournalView) (check sure now : ℕ) → IsWritten life entries old check sure → new.lines ≡ old.lines → settled new ≡ length new.lines → now ≡ length entries
     → IsWritten life entries new check now
-all_kept life entries old new check sure now written lines all is = begun life entries new check now written.counted written.few (lines ∙ written.lines) written.legal written.checked all is
+all_kept life entries old new check sure now written lines all is = record {
+  counted = written.counted;
+  begun = written.begun;
+  first = written.first;
+  rest = written.rest;
+  all = written.all;
+  alike = written.alike;
+  lines = lines ∙ written.lines;
+  legal = written.legal;
+  checked = written.checked;
+  few = written.few;
+  more = length written.rest;
+  surely = is ∙ ap length written.all ∙ length-append written.first written.rest;
+  within = omega arith;
+  kept = omega (arith, all, ap length (lines ∙ written.lines), many_lines life written.begun written.rest, ap (λ (l : List (Entry Any)). length (changes_of l)) (take_all (length written.rest) written.rest (omega arith)));
+}
 
 -- the same lines, of which no fewer are settled
 pub same_lines : (life : ℕ) (entries : List (Entry Any)) (old new : JournalView) (check sure : ℕ) → IsWritten life entries old check sure → new.lines ≡ old.lines → settled new ≡ settled old → IsWritten life entries new check sure
 same_lines life entries old new check sure written lines settles = record {
   counted = written.counted;
+  begun = written.begun;
+  first = written.first;
+  rest = written.rest;
+  all = written.all;
+  alike = written.alike;
   lines = lines ∙ written.lines;
   legal = written.legal;
   checked = written.checked;
   few = written.few;
+  more = written.more;
+  surely = written.surely;
   within = written.within;
   kept = omega (arith, written.kept, settles);
 }

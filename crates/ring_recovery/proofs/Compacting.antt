@@ -27,7 +27,7 @@ use Rattle.ring_recovery.proofs.Adding.{changes_of-change}
 use Rattle.ring_recovery.proofs.Marking.{check_of-push, journal_lines-push, plain_line}
 
 -- the first of a list, with one more
-take_at : {X : Type 0} (xs : List X) (i : ℕ) (x : X) → slice_get xs i ≡ Some x → take (i + 1) xs ≡ take i xs ++ x ∷ []
+pub take_at : {X : Type 0} (xs : List X) (i : ℕ) (x : X) → slice_get xs i ≡ Some x → take (i + 1) xs ≡ take i xs ++ x ∷ []
 take_at xs i x at = rw add-one (take_here xs i x at)
   where
     take_here : {X : Type 0} (xs : List X) (i : ℕ) (x : X) → slice_get xs i ≡ Some x → take (suc i) xs ≡ take i xs ++ x ∷ []
@@ -36,7 +36,7 @@ take_at xs i x at = rw add-one (take_here xs i x at)
     take_here {X} (y ∷ xs) (suc i) x at = ap (λ (rest : List X). y ∷ rest) (take_here xs i x at)
 
 -- a text of lines, and a line more
-one_line_more : (text line new : List ℕ) → HasAll text → IsLine line → new ≡ text ++ (line ++ 10 ∷ []) → HasAll new × (whole_lines_of new ≡ whole_lines_of text ++ line ∷ [])
+pub one_line_more : (text line new : List ℕ) → HasAll text → IsLine line → new ≡ text ++ (line ++ 10 ∷ []) → HasAll new × (whole_lines_of new ≡ whole_lines_of text ++ line ∷ [])
 one_line_more text line new all is added =
     let lines = whole_lines_of text ++ line ∷ [] in
     let whole : new ≡ text_of lines = added ∙ ap (λ (t : List ℕ). t ++ (line ++ 10 ∷ [])) all.all ∙ sym (text_of-push (whole_lines_of text) line) in
@@ -116,7 +116,7 @@ resumes restarts life entries fewest found resumed finds is =
     let after = restarts life entries fewest found is.recovered finds is.recovers in
     let replays : Replays any_greatest [] (changes_of (take after.left entries)) resumed.book =
     subst (λ (book : Object Any). Replays any_greatest [] (changes_of (take after.left entries)) book) (sym is.keeps.same)
-    (subst (λ (changes : List (Change Any)). Replays any_greatest [] changes is.recovered.book) after.changes is.recovers.book) in
+    after.leads in
     record {
       next = is.keeps.life ∙ after.next;
       left = after.left;

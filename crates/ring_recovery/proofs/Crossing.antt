@@ -36,7 +36,7 @@ unkept_send =
 pub written_send : (D : RattleType) (m : medium.Ghosts D.Denot) → IsSend D → IsSend (written.the_row D m)
 written_send D m send =
     let T : Declared = written.TheInside.the_type D m in
-    let fields : AllSend (shape T).fields = (unkept_send, (journal_crosses.the_send D m send, (check_crosses.the_send, (search sendable, (life_crosses.the_send, (search (crosses, alarm_crosses.the_send, alarm_crosses.the_sync), tt)))))) in
+    let fields : AllSend (shape T).fields = (unkept_send, (journal_crosses.the_send D m send, (check_crosses.the_send, (search sendable, (life_crosses.the_send, (search sendable, (search sendable, (search (crosses, alarm_crosses.the_send, alarm_crosses.the_sync), tt)))))))) in
     let inside : IsSend (written.TheInside.the_row D m) = recorded_send (Struct (shape T)) T.D T.to T.to_one (struct_send (shape T) fields) in
     view_send (written.TheInside.the_row D m) _ _ _ _ inside
 

@@ -1,4 +1,5 @@
 pub mod Adding
+pub mod Alike
 pub mod Chartering
 pub mod Compacting
 pub mod Crossing
@@ -9,5 +10,6 @@ pub mod Reading
 pub mod Refusing
 pub mod Restarting
 pub mod Rising
+pub mod Shortening
 pub mod Spelling
 pub mod Winning

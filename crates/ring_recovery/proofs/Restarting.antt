@@ -54,15 +54,14 @@ module _ (law : HaveOneSpelling IsChange SpellsChange) where
 
   pub restarts : HaveTheirEffect any_two_way any_greatest → AreExact any_greatest → RestartsAfterFirst
   restarts effect exact life entries fewest found recovered finds recovers =
-      let same = same_changes found recovers.lives life (changes_of recovered.history) (changes_of (take finds.left entries)) finds.counted recovers.legal finds.legal recovers.found_changes finds.lines in
+      let same = same_changes found recovers.lives life (changes_of recovered.history) finds.lines.changes finds.counted recovers.legal finds.lines.legal recovers.found_changes finds.lines.are in
+      let leads : Replays any_greatest [] (changes_of (take finds.left entries)) recovered.book =
+      (finds.lines.alike recovered.book).0 (subst (λ (changes : List (Change Any)). Replays any_greatest [] changes recovered.book) same.1 recovers.book) in
       record {
         next = recovers.next ∙ ap (λ (n : ℕ). n + 1) same.0;
         left = finds.left;
         least = finds.least;
         most = finds.most;
-        changes = same.1;
-        groups = λ groups legal.
-            exact (changes_of (take finds.left entries)) [] recovered.book groups
-            (subst (λ (changes : List (Change Any)). Replays any_greatest [] changes recovered.book) same.1 recovers.book)
-            (effect (take finds.left entries) [] groups legal);
+        leads = leads;
+        groups = λ groups legal. exact (changes_of (take finds.left entries)) [] recovered.book groups leads (effect (take finds.left entries) [] groups legal);
       }

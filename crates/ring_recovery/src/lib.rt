@@ -25,6 +25,7 @@ mod recovery;
 mod replay;
 mod restart;
 mod resumption;
+mod short;
 mod written;
 
 pub use alarm::{Alarm, Ending};

@@ -128,13 +128,14 @@ impl Recovered {
             life,
             text,
         } = self;
+        let size = text.len();
         drop(text);
         let (book, entries) = table.into_parts();
         let journal = Journal::new(alloc, medium);
         Recorded::resume(
             alloc,
             book,
-            Written::new(entries, journal, check, life, alarm),
+            Written::new(entries, journal, check, life, size, alarm),
         )
     }
 }

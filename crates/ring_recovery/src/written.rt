@@ -9,18 +9,24 @@ ghost use Rattle.ring_change.specs.Lines.{check_behind, marked_line};
 ghost use Rattle.ring_change.specs.Spelling.{IsChange};
 ghost use Rattle.ring_lives.specs.Changes.{change_in, changes_of};
 ghost use Rattle.ring_recovery.specs.JournalLines.{check_of, journal_lines};
-ghost use Rattle.ring_recovery.specs.Written.{LeavesFirst};
+ghost use Rattle.ring_any.specs.Any.{any_greatest, any_two_way};
+ghost use Rattle.ring_table.specs.Histories.{IsLegal};
+ghost use Rattle.ring_recovery.specs.Written.{AreLinesOf, IsRewritten, LeavesEither, LeavesFirst};
+ghost use Rattle.ring_recovery.specs.private.Shortening.{IsReplacedBy, IsStandIn};
 
 use crate::alarm::{Alarm, Ending};
 use crate::life::Life;
+use crate::short::{Short, shorter};
 use ring_any::Any;
 use ring_change::{Change, Check, Line, change_of, change_of_filing, spell_line};
 use ring_events::{Command, Reply};
 use ring_id::NoMemory;
 use ring_journal::{Fault, Journal, Medium, RoomFault};
+use ring_lives::{follows_replays, replays_exact};
 use ring_node::Report;
 use ring_table::{Recorder, Unkept};
-use ring_terms::Noting;
+use ring_terms::{Book, Noting};
+use std::alloc::Global;
 use std::marker::Model;
 use std::sync::{Arc, Wait};
 
@@ -30,7 +36,13 @@ const LONGEST: usize = Line::LONGEST + 1;
 /// How many entries a life has at most, so that places of different lives differ.
 const ENTRIES: usize = (1 << 44) - 1;
 
+/// How many bytes a journal has at least before it is rewritten.
+const LEAST: usize = 1 << 18;
+
 /// A recorder that writes the changes of its entries to a journal. An entry takes no memory.
+///
+/// The journal is rewritten if it has grown to `LEAST` bytes and to twice the length that it had, and if the
+/// changes that lead to the groups take at most half of it.
 ///
 /// There are fewer than 2^44 entries: there is no room for one more then.
 ///
@@ -45,6 +57,10 @@ pub struct Written<D: Medium + Drop> {
     // how many of the first entries are kept for good
     sure: usize,
     life: Life,
+    // how many bytes the lines take, and how many they took when the journal was begun, or when it was
+    // tried last to rewrite it
+    size: usize,
+    mark: usize,
     alarm: Arc<Alarm>,
 }
 
@@ -60,8 +76,12 @@ impl<D: Medium + Drop> Model for Written<D> {
     ghost invariant = { λ a. IsWritten a.life a.entries.items a.journal a.check a.sure };
 }
 
-// Adds the line of a change to a journal that has room for it.
-fn add_line<D: Medium + Drop>(journal: &mut Journal<D>, check: &mut Check, change: &Change<Any>)
+// Adds the line of a change to a journal that has room for it. Returns how many bytes it takes.
+fn add_line<D: Medium + Drop>(
+    journal: &mut Journal<D>,
+    check: &mut Check,
+    change: &Change<Any>,
+) -> usize
     requires room { 71 ≤ journal.old.room }
     ensures added { Adds journal.old (marked_line check.old change.now) journal.new }
     ensures check { check.new ≡ check_behind check.old change.now }
@@ -69,16 +89,29 @@ fn add_line<D: Medium + Drop>(journal: &mut Journal<D>, check: &mut Check, chang
 {
     let line = spell_line(change, check);
     journal.add_reserved(line.as_slice());
+    line.as_slice().len() + 1
+}
+
+// Rings the alarm, and waits for good.
+fn fail<R: Wait>(rt: &R, alarm: &Alarm)
+    ensures { ⊥ }
+{
+    alarm.ring(rt, Ending::Failed);
+    for _ in rt.forever() {
+        alarm.doze(rt);
+    }
+    unreachable!()
 }
 
 impl<D: Medium + Drop> Written<D> {
-    /// Returns a recorder of entries whose changes are the lines of a journal, all of them settled.
-    /// Does not allocate.
+    /// Returns a recorder of entries whose changes are the lines of a journal, all of them settled. They take
+    /// `size` bytes. Does not allocate.
     pub(crate) fn new(
         entries: Unkept<Any>,
         journal: Journal<D>,
         check: Check,
         life: Life,
+        size: usize,
         alarm: Arc<Alarm>,
     ) -> Written<D>
         requires few { length entries.items < 2 ^ 44 }
@@ -100,6 +133,8 @@ impl<D: Medium + Drop> Written<D> {
             check,
             sure,
             life,
+            size,
+            mark: size,
             alarm,
         }
     }
@@ -108,7 +143,7 @@ impl<D: Medium + Drop> Written<D> {
     /// and what a restart finds if the crash comes now.
     pub fn journal(&self) -> &Journal<D>
         ensures value { result.now ≡ self.now.journal }
-        ensures lines { self.now.journal.lines ≡ journal_lines self.now.life (changes_of self.now.items) }
+        ensures lines { AreLinesOf self.now.life self.now.items self.now.journal.lines }
         ensures any_moment { LeavesFirst self.now self.now }
     {
         // the law of this call says what a crash leaves
@@ -129,6 +164,42 @@ impl<D: Medium + Drop> Written<D> {
         self.journal.settle()?;
         self.sure = self.entries.count();
         Ok(())
+    }
+
+    // Whether the journal has grown enough to be rewritten.
+    fn is_long(&self) -> bool {
+        self.size >= LEAST && self.size / 2 >= self.mark
+    }
+
+    // Puts a text in the place of the journal's. If the journal fails, it rings the alarm and does not return.
+    fn rewrite<R: Wait>(&mut self, rt: &R, short: Short)
+        requires { IsStandIn self.old.life self.old.items short.check short.text.bytes }
+        ensures items { self.new.items ≡ self.old.items }
+        ensures sure { self.old.sure ≤ self.new.sure }
+        ensures life { self.new.life ≡ self.old.life }
+        ensures lines { IsReplacedBy short.text.bytes self.old self.new }
+        ensures any_moment { LeavesEither self.old self.new }
+    {
+        // the law of this call says what a crash leaves before and after
+        let _before = self.journal();
+        match self.journal.replace(&short.text) {
+            Ok(()) => {}
+            Err(Fault::NoMemory) => {
+                drop(short);
+                let _same = self.journal();
+                return;
+            }
+            Err(Fault::Failed) => {
+                fail(rt, &self.alarm);
+                unreachable!()
+            }
+        }
+        self.check = short.check;
+        self.sure = self.entries.count();
+        self.size = short.text.len();
+        self.mark = short.text.len();
+        drop(short);
+        let _after = self.journal();
     }
 
     // Makes room for one more line. If the batch of the journal is full, its lines are settled first.
@@ -212,7 +283,10 @@ impl<D: Medium + Drop> Recorder<Any> for Written<D> {
         let was_settled = self.is_settled();
         self.entries.record_call(session, command, reply);
         match change_of(&command, reply) {
-            Some(change) => add_line(&mut self.journal, &mut self.check, &change),
+            Some(change) => {
+                let more = add_line(&mut self.journal, &mut self.check, &change);
+                self.size = self.size.saturating_add(more);
+            }
             None if was_settled => self.sure = self.entries.count(),
             None => {}
         }
@@ -234,7 +308,10 @@ impl<D: Medium + Drop> Recorder<Any> for Written<D> {
         let was_settled = self.is_settled();
         self.entries.record_filing(report, noting);
         match change_of_filing(report, noting) {
-            Some(change) => add_line(&mut self.journal, &mut self.check, &change),
+            Some(change) => {
+                let more = add_line(&mut self.journal, &mut self.check, &change);
+                self.size = self.size.saturating_add(more);
+            }
             None if was_settled => self.sure = self.entries.count(),
             None => {}
         }
@@ -267,5 +344,31 @@ impl<D: Medium + Drop> Recorder<Any> for Written<D> {
             self.alarm.doze(rt);
         }
         unreachable!()
+    }
+
+    /// Rewrites the journal by the changes that lead to `book`, if it has grown enough and these take at most
+    /// half of its bytes. The new text has the same life. If an allocation fails, the journal stays as it
+    /// is. If the journal fails, it rings the alarm and does not return.
+    fn shorten<R: Wait>(&mut self, rt: &R, alloc: Global, book: &Book<Any>)
+        requires { IsLegal any_two_way any_greatest self.old.items book.now }
+        ensures items { self.new.items ≡ self.old.items }
+        ensures sure { self.old.sure ≤ self.new.sure }
+        ensures life { self.new.life ≡ self.old.life }
+        ensures lines { IsRewritten self.old book.now self.new }
+        ensures any_moment { LeavesEither self.old self.new }
+    {
+        // the law of this call says what a crash leaves
+        let _journal = self.journal();
+        if !self.is_long() {
+            return;
+        }
+        // a history has the effect of its changes, which lead to one book
+        follows_replays::<Any>();
+        replays_exact::<Any>();
+        self.mark = self.size;
+        let Some(short) = shorter(alloc, self.life, book, self.size / 2) else {
+            return;
+        };
+        self.rewrite(rt, short);
     }
 }

@@ -8,7 +8,7 @@ use Rattle.ring_recovery.proofs.written.WrittenRecorderAny.record_filing.Goals a
 pub invariant_of-self : goal.invariant_of-self
 invariant_of-self g c =
     rw c.record_filing.ensures.added
-    (with_change _ _ (filing c.args.report.now c.args.noting) c.in-Some.change _ _ _ _ _ c.self.invariant (room_left _ _ (rw (← c.self.view_is) at c.requires)) (sym c.in-Some.ensures) c.add_line.ensures.legal c.add_line.ensures.added c.add_line.ensures.check)
+    (with_change _ _ (filing c.args.report.now c.args.noting) c.in-Some.change _ _ _ _ _ c.self.invariant (room_left _ _ (rw (← c.self.view_is) at c.requires)) (sym c.in-Some.ensures) c.add_line-more.ensures.legal c.add_line-more.ensures.added c.add_line-more.ensures.check)
 
 pub invariant_of-self-then-was_settled : goal.invariant_of-self-then-was_settled
 invariant_of-self-then-was_settled g c =
@@ -21,7 +21,7 @@ invariant_of-self-else-was_settled g c =
 
 pub returns-in-Some-clause-any_moment : goal.returns-in-Some-clause-any_moment
 returns-in-Some-clause-any_moment g c =
-    leaves_more c.args.self.now _ (filing c.args.report.now c.args.noting) _ _ c.is_settled-was_settled.ensures.any_moment (rw (← c.self.view_is) refl) (rw (← c.self.view_is) c.record_filing.ensures.added) (rw (← c.self.view_is) c.add_line.ensures.added.disk)
+    leaves_more c.args.self.now _ (filing c.args.report.now c.args.noting) _ _ c.is_settled-was_settled.ensures.any_moment (rw (← c.self.view_is) refl) (rw (← c.self.view_is) c.record_filing.ensures.added) (rw (← c.self.view_is) c.add_line-more.ensures.added.disk)
 
 pub returns-in-None-clause-any_moment : goal.returns-in-None-clause-any_moment
 returns-in-None-clause-any_moment g c =
