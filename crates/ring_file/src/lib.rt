@@ -10,4 +10,4 @@ mod place;
 mod tail;
 
 pub use medium::FileMedium;
-pub use place::{Place, PlaceFault};
+pub use place::{Place, PlaceFault, Replaces};

@@ -1,11 +1,10 @@
 //! The medium on a file.
 ghost use Rattle.std.specs.Prelude.{◌≡◌, length, IfOk, None};
 
-use crate::place::Place;
+use crate::place::{Place, Replaces};
 use crate::tail::Tail;
 use ring_journal::{Batch, Fault, Medium};
 use std::alloc::{AllocError, Global};
-use std::fs::{File, Files};
 use std::marker::Model;
 use std::snapshot::Snapshot;
 
@@ -39,7 +38,7 @@ impl<R> Model for FileMedium<R> {
     ghost invariant = { λ a. a.synced ≤ length a.pieces.items };
 }
 
-impl<R: Files<File = File> + Drop> FileMedium<R> {
+impl<R: Replaces + Drop> FileMedium<R> {
     /// Returns the medium of the file at `place`, which holds `text` and synced zeros. Makes no system call.
     pub(crate) fn new(
         alloc: Global,
@@ -63,7 +62,7 @@ impl<R: Files<File = File> + Drop> FileMedium<R> {
     }
 }
 
-impl<R: Files<File = File> + Drop> Medium for FileMedium<R> {
+impl<R: Replaces + Drop> Medium for FileMedium<R> {
     ghost moment = { λ a. a };
 
     /// Writes the batch at the end of the text (`pwrite`), over zeros that are synced.

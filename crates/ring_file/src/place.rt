@@ -34,6 +34,18 @@ impl From<AllocError> for PlaceFault {
     }
 }
 
+/// A handle by which a file takes the place of the journal's, in any thread.
+pub trait Replaces {
+    /// Puts a new file of this text and of zeros after it at a place, as `Place::begin` does, and returns it.
+    fn put_in_place(&self, place: &Place, text: &[u8], zeros: &[u8]) -> io::Result<File>;
+}
+
+impl Replaces for HostRuntime {
+    fn put_in_place(&self, place: &Place, text: &[u8], zeros: &[u8]) -> io::Result<File> {
+        place.replace(self, text, zeros)
+    }
+}
+
 /// The place of a journal, which no other process takes as long as this value lives.
 #[derive(Drop)]
 pub struct Place {
@@ -103,7 +115,7 @@ impl Place {
     /// a new file `path.new`, `write` of the text and of zeros, and `fsync`. Then `rename` to
     /// `path`, `openat` of its folder and `fsync` of that. So `path` is the old file at each
     /// moment, or the new one with the whole text. After an error it may be either.
-    pub fn begin<R: Files<File = File> + AllocGlobal + Copy + Drop>(
+    pub fn begin<R: Files<File = File> + Replaces + AllocGlobal + Copy + Drop>(
         self,
         rt: &R,
         text: &Batch,

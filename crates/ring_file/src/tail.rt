@@ -1,7 +1,7 @@
 //! The end of the text in the file, and the zeros after it.
 
-use crate::place::Place;
-use std::fs::{File, Files};
+use crate::place::{Place, Replaces};
+use std::fs::File;
 use std::io;
 use std::os::unix::fs::FileExt;
 
@@ -56,16 +56,11 @@ impl Tail {
     /// one. Returns whether it is on the disk under its name.
     ///
     /// After a failure, in this call or an earlier one, nothing is written any more.
-    pub(crate) fn replace<R: Files<File = File>>(
-        &mut self,
-        rt: &R,
-        place: &Place,
-        bytes: &[u8],
-    ) -> bool {
+    pub(crate) fn replace<R: Replaces>(&mut self, rt: &R, place: &Place, bytes: &[u8]) -> bool {
         if self.is_broken {
             return false;
         }
-        match place.replace(rt, bytes, &self.zeros) {
+        match rt.put_in_place(place, bytes, &self.zeros) {
             Ok(file) => {
                 self.file = file;
                 self.end = bytes.len() as u64;

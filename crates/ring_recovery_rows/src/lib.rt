@@ -9,3 +9,5 @@ mod faults;
 mod files;
 #[cfg(test)]
 mod lives;
+#[cfg(test)]
+mod rewriting;

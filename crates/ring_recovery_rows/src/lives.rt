@@ -26,18 +26,18 @@ know b 1 1 1 #586f1a8e\n";
 const MORE: &[u8] = b"join a 5 #0ec04bed\nstart a #47d07b85\n";
 
 // The room of a medium.
-const ROOM: usize = 200_000;
+const ROOM: usize = 1_000_000;
 
-// An alarm that was not rung.
-fn new_alarm(rt: &impl Abort, alloc: Global) -> Arc<Alarm> {
+/// An alarm that was not rung.
+pub(crate) fn new_alarm(rt: &impl Abort, alloc: Global) -> Arc<Alarm> {
     match Arc::new(alloc, Alarm::new()) {
         Ok(alarm) => alarm,
         Err(AllocFailed { value }) => Arc::new(alloc, value).expect(rt, TWICE),
     }
 }
 
-// A copy of these bytes, with room for more, so that no write of a journal allocates.
-fn copy(rt: &impl Abort, alloc: Global, bytes: &[u8]) -> Vec<u8>
+/// A copy of these bytes, with room for more, so that no write of a journal allocates.
+pub(crate) fn copy(rt: &impl Abort, alloc: Global, bytes: &[u8]) -> Vec<u8>
     ensures { result.items ≡ bytes.now }
 {
     let mut copy = match Vec::with_capacity(alloc, ROOM) {
@@ -48,8 +48,12 @@ fn copy(rt: &impl Abort, alloc: Global, bytes: &[u8]) -> Vec<u8>
     copy
 }
 
-// The table that is recovered from a journal, over a medium in memory.
-fn reopened(rt: &impl Abort, alloc: Global, tail: &[u8]) -> Recorded<Any, Written<MemoryMedium>> {
+/// The table that is recovered from a journal, over a medium in memory.
+pub(crate) fn reopened(
+    rt: &impl Abort,
+    alloc: Global,
+    tail: &[u8],
+) -> Recorded<Any, Written<MemoryMedium>> {
     let found = recovered(rt, alloc, &STARTED, tail).expect(rt, "no journal");
     let medium = MemoryMedium::new(copy(rt, alloc, found.text().bytes()));
     found.open(alloc, medium, new_alarm(rt, alloc))
@@ -82,8 +86,13 @@ fn answer<T: Tabled<Any>>(rt: &impl Abort, alloc: Global, table: &mut T, line: &
     text
 }
 
-// Asks each of these lines and compares the replies.
-fn tells<T: Tabled<Any>>(rt: &impl Abort, alloc: Global, table: &mut T, rows: &[(&[u8], &[u8])]) {
+/// Asks each of these lines and compares the replies.
+pub(crate) fn tells<T: Tabled<Any>>(
+    rt: &impl Abort,
+    alloc: Global,
+    table: &mut T,
+    rows: &[(&[u8], &[u8])],
+) {
     for (line, told) in rows {
         let reply = answer(rt, alloc, table, line);
         assert_eq!(rt; reply.as_slice(), *told);
@@ -158,9 +167,9 @@ struct BrokenMedium {
 }
 
 impl Medium for BrokenMedium {
-    ghost use Rattle.ring_journal.specs.Memories.{memory_kept, memory_text};
+    ghost use Rattle.ring_journal.specs.Memories.{memory_moment};
 
-    ghost moment = { λ m. record { text = memory_text m.memory; kept = memory_kept m.memory } };
+    ghost moment = { λ m. memory_moment m.memory };
 
     fn append(&mut self, batch: &Batch) -> Result<(), Fault> {
         self.memory.append(batch)
@@ -168,6 +177,10 @@ impl Medium for BrokenMedium {
 
     fn sync(&mut self) -> Result<(), Fault> {
         Err(Fault::Failed)
+    }
+
+    fn replace(&mut self, text: &Batch) -> Result<(), Fault> {
+        self.memory.replace(text)
     }
 }
 

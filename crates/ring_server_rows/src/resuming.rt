@@ -27,9 +27,9 @@ struct UnsyncedMedium {
 }
 
 impl Medium for UnsyncedMedium {
-    ghost use Rattle.ring_journal.specs.Memories.{memory_kept, memory_text};
+    ghost use Rattle.ring_journal.specs.Memories.{memory_moment};
 
-    ghost moment = { λ m. record { text = memory_text m.memory; kept = memory_kept m.memory } };
+    ghost moment = { λ m. memory_moment m.memory };
 
     fn append(&mut self, batch: &Batch) -> Result<(), Fault> {
         self.memory.append(batch)
@@ -37,6 +37,10 @@ impl Medium for UnsyncedMedium {
 
     fn sync(&mut self) -> Result<(), Fault> {
         Err(Fault::Failed)
+    }
+
+    fn replace(&mut self, text: &Batch) -> Result<(), Fault> {
+        self.memory.replace(text)
     }
 }
 

@@ -6,7 +6,7 @@ ghost use Rattle.ring_recovery.specs.Compacted.{Resumes};
 ghost use Rattle.ringd.specs.Journal.{IsOfJournal, IsTakenUp, ListedAt};
 ghost use Rattle.ringd.specs.private.Journal.{IsToldOf, place_told_as, recovery_told_as};
 
-use ring_file::{FileMedium, Place, PlaceFault};
+use ring_file::{FileMedium, Place, PlaceFault, Replaces};
 use ring_lines::{Outlet, put};
 use ring_listing::list_journal;
 use ring_recovery::{Alarm, RecoverFault, Recovered, resume};
@@ -24,9 +24,9 @@ use std::{fs, io};
 /// Faults, in this order: another process has the journal, its file cannot be read, it is no file, it
 /// is damaged or of another version, and the new file cannot be written. At all but the last one
 /// nothing has changed.
-pub fn take_up<R>(rt: &R, path: &str) -> Result<Resumed<FileMedium>, ProgramFault>
+pub fn take_up<R>(rt: &R, path: &str) -> Result<Resumed<FileMedium<R>>, ProgramFault>
 where
-    R: Files<File = File> + AllocGlobal,
+    R: Files<File = File> + Replaces + AllocGlobal + Copy + Drop,
     ensures ok { IfOk result (λ resumed. (found : List ℕ) × IsTakenUp found resumed.table resumed.life) }
     ensures fault { IfErr result IsOfJournal }
 {
@@ -41,9 +41,13 @@ where
 }
 
 // Begins the file of a resumed table anew, and opens the table over it.
-fn begin<R>(rt: &R, place: Place, resumed: Recovered) -> Result<Resumed<FileMedium>, ProgramFault>
+fn begin<R>(
+    rt: &R,
+    place: Place,
+    resumed: Recovered,
+) -> Result<Resumed<FileMedium<R>>, ProgramFault>
 where
-    R: Files<File = File> + AllocGlobal,
+    R: Files<File = File> + Replaces + AllocGlobal + Copy + Drop,
     ensures ok { IfOk result (λ begun. (begun.table.book ≡ resumed.book) × (begun.table.history ≡ resumed.history) × (begun.life ≡ resumed.life)) }
     ensures fault { IfErr result IsOfJournal }
 {

@@ -9,6 +9,7 @@ ghost use Rattle.ringd.specs.Run.{IsOfLines, KeptAt, RanAt, ServedAt};
 
 use crate::journal;
 use ring_config::{Config, ConfigFault, read_config};
+use ring_file::Replaces;
 use ring_lines::{FromRead, Intake, Outlet, ToWrite};
 use ring_server::{Limits, ProgramFault, accept_loop, resume_loop, run_loop, tell};
 use std::alloc::Global;
@@ -139,6 +140,7 @@ pub fn run_kept<R, O>(
 ) -> Result<(), ProgramFault>
 where
     R: Files<File = File>
+        + Replaces
         + Eprint
         + Clock
         + AllocGlobal

@@ -1,4 +1,5 @@
 use crate::failing::FailingMedium;
+use crate::file::batch_of;
 use ring_journal::{Journal, LONGEST_BATCH, MemoryMedium, RoomFault, is_line};
 use std::alloc::Global;
 use std::process::Abort;
@@ -10,6 +11,7 @@ fn failing_journal(alloc: Global, fault_at: u32) -> Journal<FailingMedium> {
         alloc,
         FailingMedium {
             memory,
+            other: None,
             fault_at,
             calls: 0,
         },
@@ -65,4 +67,25 @@ fn a_batch_is_full_at_its_last_byte(rt: HostRuntime) {
     assert_eq!(rt; journal.settle(), Ok(()));
     assert_eq!(rt; add(&rt, &mut journal, &line), Ok(()));
     assert_eq!(rt; journal.pending(), 4096);
+}
+
+// The first line takes two calls of the medium, so the third one replaces the text. A line that is pending
+// then is dropped.
+#[test]
+fn a_text_takes_the_place_of_the_lines(rt: HostRuntime) {
+    let texts: [(u32, &[u8]); 2] = [(0, b"b\nc\nd\n"), (3, b"a\n")];
+    for (fault_at, text) in texts {
+        let mut journal = failing_journal(rt.alloc(), fault_at);
+        assert_eq!(rt; add(&rt, &mut journal, b"a"), Ok(()));
+        assert_eq!(rt; journal.settle(), Ok(()));
+        assert_eq!(rt; add(&rt, &mut journal, b"x"), Ok(()));
+        let new = batch_of(&rt, rt.alloc(), b"b\nc\n");
+        assert_eq!(rt; journal.replace(&new).is_ok(), fault_at == 0);
+        drop(new);
+        assert_eq!(rt; add(&rt, &mut journal, b"d"), Ok(()));
+        assert_eq!(rt; journal.settle().is_ok(), fault_at == 0);
+        assert_eq!(rt; journal.medium().memory.text(), text);
+        assert_eq!(rt; journal.medium().memory.kept(), text.len());
+        assert_eq!(rt; journal.is_broken(), fault_at != 0);
+    }
 }
