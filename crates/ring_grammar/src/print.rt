@@ -15,6 +15,7 @@ use ring_id::{GroupName, NodeId};
 /// Puts the line of a reply: its one spelling and an LF. What is put whole is a reply of the grammar.
 ///
 /// At `Err` a front of it was put. Takes no memory.
+#[inline(always)]
 pub fn print_reply<W: Sink>(reply: &Reply, out: &mut W) -> Result<(), SinkFailed>
     ensures ok { OnOk result (W.takes out.old (reply_line reply.now) out.new) }
     ensures err { OnErr result (W.takes_front out.old (reply_line reply.now) out.new) }
@@ -25,6 +26,7 @@ pub fn print_reply<W: Sink>(reply: &Reply, out: &mut W) -> Result<(), SinkFailed
 }
 
 // The words of a reply, joined by one space.
+#[inline(always)]
 fn put_words<W: Sink>(reply: &Reply, out: &mut W) -> Result<(), SinkFailed>
     ensures ok { OnOk result (W.takes out.old (line_of (reply_words reply.now)) out.new) }
     ensures err { OnErr result (W.takes_front out.old (line_of (reply_words reply.now)) out.new) }
