@@ -76,7 +76,9 @@ impl<D: Medium + Drop> Model for Written<D> {
     ghost invariant = { λ a. IsWritten a.life a.entries.items a.journal a.check a.sure };
 }
 
-// Adds the line of a change to a journal that has room for it. Returns how many bytes it takes.
+// Adds the line of a change to a journal that has room for it. Returns how many bytes it takes. It is not
+// inlined, so that the way of a question stays short.
+#[inline(never)]
 fn add_line<D: Medium + Drop>(
     journal: &mut Journal<D>,
     check: &mut Check,
@@ -253,6 +255,7 @@ impl<D: Medium + Drop> Recorder<Any> for Written<D> {
 
     /// Finds room for one more entry and its line. If the batch of the journal is full, its lines are
     /// written and synced first. Returns `NoMemory` too if there are 2^44 - 1 entries.
+    #[inline(never)]
     fn reserve(&mut self) -> Result<(), NoMemory>
         ensures items { self.new.items ≡ self.old.items }
         ensures room { OnOk result (0 < self.new.room) }
@@ -271,6 +274,7 @@ impl<D: Medium + Drop> Recorder<Any> for Written<D> {
     ///
     /// The line of its change is pending then. If it makes no change, it is kept for good if all entries
     /// before it are.
+    #[inline(never)]
     fn record_call(&mut self, session: u32, command: Command<Any>, reply: &Reply)
         requires { 0 < self.old.room }
         ensures added { self.new.items ≡ self.old.items ++ entry.Call session command reply.now ∷ [] }

@@ -99,6 +99,7 @@ impl<E: RingElection, H: Recorder<E> + Drop> Recorded<E, H> {
     ///
     /// The room for the entry is found first. If that allocation or one of the command fails, the reply
     /// is `NoMemory`, no entry is added and nothing has changed. Every other refusal is an entry.
+    #[inline(always)]
     pub fn call(&mut self, session: u32, command: Command<E>) -> Reply
         ensures called { Calls E.is_two_way E.is_greatest session command (plain self.old) result (plain self.new) }
         ensures sure { self.old.sure ≤ self.new.sure }
