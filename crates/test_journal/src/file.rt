@@ -1,6 +1,6 @@
 ghost use Rattle.ring_journal.specs.Journals.{HasAll};
 
-use ring_file::{Place, PlaceFault};
+use ring_file::{Place, PlaceFault, Replaces};
 use ring_journal::{Batch, Journal, Lines, is_line, read_lines, whole_len};
 use std::alloc::Global;
 use std::fs;
@@ -45,7 +45,7 @@ fn count_of(lines: Lines<'_>) -> u32 {
 
 // Settles a line in the journal of this place, after those that its file has. Returns how many
 // lines there were.
-fn settle_line<R: Abort + Files<File = File> + AllocGlobal + Copy + Drop>(
+fn settle_line<R: Abort + Files<File = File> + Replaces + AllocGlobal + Copy + Drop>(
     rt: &R,
     path: &str,
     line: &[u8],
