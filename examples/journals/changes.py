@@ -206,8 +206,8 @@ class Versions:
 
 
 class History:
-    """The groups after each number of changes, from a journal that only grows, as it does between two starts. `life` is
-    the number of its life."""
+    """The groups after each number of changes, from a journal that grows, as it does between two starts or rewritings.
+    `life` is the number of its life."""
 
     def __init__(self):
         self.count, self.check, self.size, self.life = 0, 0, 0, 0
@@ -225,6 +225,13 @@ class History:
         for line in lines_after_first(text)[self.size:].splitlines(True):
             self.add(line)
             self.size += len(line)
+
+    def go_on_after(self, begun):
+        """Notes that a text takes the place of the journal's, whose changes lead to the same groups. What is read next
+        begins with it. The changes are counted on."""
+        self.size, self.check = len(lines_after_first(begun)), 0
+        for line in lines_after_first(begun).splitlines():
+            self.check = marked(line.rpartition(b" #")[0], self.check)[1]
 
     def add(self, line):
         """Takes one more line."""

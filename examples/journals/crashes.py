@@ -10,15 +10,15 @@ from typing import NamedTuple
 from journals.changes import KINDS, History, history_of, life_of, line_of, whole_text
 from journals.lives import asked, client_of, compare, go_on, listing, living
 from journals.recording import Disk, read_recording
-from journals.shortening import see_start
+from journals.shortening import see_rewriting, see_start
 from journals.talkers import SHARED, Grower, Log, Talker, counts_of, talk_all
 from serving import Client, Differs, same
 
 NAME = "ring.journal"
 CLIENTS = 8
-# How many replies each client waits for in a life, and the one by which the file grows past its zeros. The next start
-# can spare most changes of that one.
-REPLIES, GROWING = 150, 2000
+# How many replies each client waits for in a life, and the one by which the file grows past its zeros, and so long that
+# the service rewrites it. A start and a rewriting can spare most changes of that one.
+REPLIES, GROWING = 150, 7000
 LIVES = 3
 # The journal of the next life is one of some images of moments in the last part of this one.
 SOME, LAST_PART = 400, 0.9
@@ -28,18 +28,35 @@ GOING_ON = 4
 AT_ONCE = 64
 
 
+class Epoch(NamedTuple):
+    """A text that the journal had in a life until another took its place: its begin, and the whole of it. `spared` is
+    the number of changes of the life that it has in fewer lines, less these lines."""
+
+    begun: bytes
+    text: bytes
+    spared: int
+
+
 class Recorded:
     """A recorded life: the files that it began with, its events, and its journal. `found` is the history of the text
-    that it found, `before`. `history` is that of its own text, which has `count` changes at first. A reply *needs* a
-    number of these changes: it is right after them, and not before."""
+    that it found, `before`. `history` is that of its own texts, which have `count` changes at first. There is one text,
+    and one more after each time that the service rewrote it. A reply *needs* a number of these changes: it is right
+    after them, and not before."""
 
-    def __init__(self, files, events, before, text):
+    def __init__(self, files, events, before, texts):
         self.files, self.events, self.before = files, events, before
-        self.found, self.history = history_of(before), history_of(see_start(before, text))
+        begun = see_start(before, texts[0])
+        self.found, self.history = history_of(before), history_of(begun)
         self.count = self.history.count
         if self.found.last_groups() != self.history.last_groups():
             raise Differs("a start changed groups")
-        self.history.read(text)
+        self.history.read(texts[0])
+        self.epochs = [Epoch(begun, texts[0], 0)]
+        for earlier, text in zip(texts, texts[1:]):
+            begun = see_rewriting(earlier, text)
+            self.epochs.append(Epoch(begun, text, self.history.count - changes_in(begun)))
+            self.history.go_on_after(begun)
+            self.history.read(text)
         # of each port, the replies that were sent to it: how many changes each needs, and its line
         self.replies = {}
 
@@ -57,8 +74,12 @@ class Recorded:
         return self.count < self.found.count
 
     def of_text(self, text):
-        """Returns the history of a text that the journal had before or in this life, and the number of its changes."""
-        return (self.found if text == self.before else self.history), max(text.count(b"\n") - 1, 0)
+        """Returns the history of a text that the journal had before or in this life, and the number of its changes. These
+        are the changes of the life that its lines stand for."""
+        if text == self.before:
+            return self.found, changes_in(text)
+        spared = [it.spared for it in self.epochs if it.text.startswith(text) and text.startswith(it.begun)]
+        return self.history, changes_in(text) + max(spared, default=0)
 
     def kept(self, text):
         """Returns how many changes of this life such a text has. The text that was found has those of the begin."""
@@ -76,6 +97,11 @@ class Recorded:
                 most = max([most, *self.replies[event.key][first:sent[event.key]]], key=lambda it: it[0])
             needed.append(most)
         return needed
+
+
+def changes_in(text):
+    """Returns how many changes the lines of a text are."""
+    return max(text.count(b"\n") - 1, 0)
 
 
 def sent_text(events, port):
@@ -100,8 +126,7 @@ def record_life(program, library, folder, files, before, seed):
         maker = make_shared(life.port)
         talk_all(talkers, life.port, lambda it: it.count() >= (GROWING if isinstance(it, Grower) else REPLIES))
     events = read_recording(recording)
-    text = whole_text(see_all(folder, files, events))
-    recorded = Recorded(files, events, before, text)
+    recorded = Recorded(files, events, before, see_all(folder, files, events))
     for log in [maker, *(log for talker in talkers for log in talker.logs)]:
         recorded.hear(log)
     return recorded
@@ -119,7 +144,7 @@ def make_shared(port):
 
 def see_all(folder, files, events):
     """Sees that the files are as the recording says: it has all calls that changed them. A call that never ended was
-    carried out or not. The answer is the journal's file with such calls."""
+    carried out or not. The answer is the texts that the journal had in this life, one after another, with such calls."""
     whole, without = Disk(files), Disk(files)
     for event in events:
         whole.apply(event)
@@ -130,7 +155,9 @@ def see_all(folder, files, events):
         found = path.read_bytes() if path.exists() else None
         if found not in (whole.now().get(name), without.now().get(name)):
             raise Differs(f"the recording does not have all calls that changed {name}")
-    return whole.now()[NAME]
+    # the start replaced the first file, if there was one
+    replaced = [data for name, data in whole.replaced if name == NAME][1 if NAME in files else 0:]
+    return [whole_text(data) for data in [*replaced, whole.now()[NAME]]]
 
 
 class Image(NamedTuple):
@@ -221,14 +248,15 @@ def write_image(image, folder):
 
 
 def listing_of(history, count, found):
-    """Returns what `ringd journal` prints of a file whose journal has `count` changes."""
+    """Returns what `ringd journal` prints of a file whose lines stand for `count` changes of its life."""
     lines = []
     for name in history.names.at(count):
         group = history.group_at(name, count)
         lines += [f"group {name} {group.kind}", f"  {group.reply(('members',))}", f"  {group.reply(('terms',))}"]
     end = len(whole_text(found))
     torn = max(len(found.rstrip(b"\0")) - end, 0)
-    lines.append(f"whole: life {life_of(whole_text(found))}, {count} changes end at byte {end}, {torn} bytes of a torn tail are dropped")
+    lines.append(f"whole: life {life_of(whole_text(found))}, {changes_in(whole_text(found))} changes end at byte {end},"
+                 f" {torn} bytes of a torn tail are dropped")
     return "\n".join([*lines, ""]).encode()
 
 
@@ -279,18 +307,19 @@ def next_files(life, dice):
 
 def check_images(program, library, images, restart, dice, pool, lives=LIVES):
     """Records lives, one after a crash of the other, and has a restart over images of each. The answer is a line about
-    them, and the last life whose start shortened the journal."""
-    files, before, torn, replies, shortened = {}, b"", 0, 0, []
+    them, and the last life whose start shortened the journal, which was rewritten later."""
+    files, before, torn, replies, shortened, rewritten = {}, b"", 0, 0, [], 0
     for number in range(lives):
         with tempfile.TemporaryDirectory() as folder:
             life = record_life(program, library, pathlib.Path(folder), files, before, dice.random())
         torn += judge_all(life, restart, -(-images // lives), dice, pool)
         replies += sum(map(len, life.replies.values()))
-        shortened += [life] if life.is_shortened() else []
+        shortened += [life] if life.is_shortened() and len(life.epochs) > 1 else []
+        rewritten += len(life.epochs) - 1
         files = next_files(life, dice)
         before = whole_text(files[NAME])
     if not shortened:
-        raise Differs("no start shortened the journal")
+        raise Differs("no start shortened a journal that was rewritten later")
     return (f"{-(-images // lives) * lives} crash images of {lives} lives under {CLIENTS} clients, {torn} of them with"
-            f" a torn end, after {len(shortened)} starts that shortened the journal: each of {replies} replies holds"
-            " after each crash"), shortened[-1]
+            f" a torn end, after {len(shortened)} starts that shortened the journal and {rewritten} times that it was"
+            f" rewritten: each of {replies} replies holds after each crash"), shortened[-1]

@@ -4,14 +4,17 @@ A kill leaves all that the process wrote, synced or not. So this check finds rep
 and restarts that read a journal in a wrong way. Only crash images find a missing sync.
 """
 
+import contextlib
+import os
 import pathlib
 import tempfile
+import threading
 import time
 
 from journals.changes import History, history_of, life_of, lines_after_first, whole_text
 from journals.crashes import NAME, make_shared
 from journals.lives import asked, client_of, compare, kill_in_the_start, living
-from journals.shortening import see_start
+from journals.shortening import see_rewriting, see_start
 from journals.talkers import Grower, Talker, counts_of, talk_all
 from serving import Differs
 
@@ -26,6 +29,37 @@ LONGEST = 0.6
 # In the first life, and in one of so many others, a client has the journal grow by changes that a start can spare, and
 # few others talk.
 GROWING, FEW = 4, 3
+# How many seconds pass between two looks whether the service has rewritten the journal.
+LOOK = 0.002
+
+
+@contextlib.contextmanager
+def watching(file):
+    """Watches a journal while its service runs. The value is a list, which gets the text of each file that another took
+    the place of."""
+    texts, is_over = [], threading.Event()
+
+    def watch():
+        found = open(file, "rb")
+        while True:
+            was_over = is_over.is_set()
+            if os.fstat(found.fileno()).st_ino != os.stat(file).st_ino:
+                texts.append(whole_text(found.read()))
+                found.close()
+                found = open(file, "rb")
+            elif was_over:
+                break
+            else:
+                time.sleep(LOOK)
+        found.close()
+
+    thread = threading.Thread(target=watch)
+    thread.start()
+    try:
+        yield texts
+    finally:
+        is_over.set()
+        thread.join()
 
 
 class Chain:
@@ -33,7 +67,8 @@ class Chain:
 
     def __init__(self, program, folder, dice):
         self.program, self.file, self.dice = program, pathlib.Path(folder, NAME), dice
-        self.history, self.text, self.leaders, self.replies, self.shortened = History(), b"", {}, 0, 0
+        self.history, self.text, self.leaders, self.replies = History(), b"", {}, 0
+        self.shortened, self.rewritten = 0, 0
         self.talkers = [Talker(number, dice.random()) for number in range(CLIENTS)]
         self.grower = Grower(CLIENTS, dice.random())
 
@@ -65,17 +100,24 @@ class Chain:
             logs = [make_shared(life.port)]
             is_growing = not self.text or self.dice.randrange(GROWING) == 0
             talkers = [*self.talkers[:FEW], self.grower] if is_growing else self.talkers
-            talk_all(talkers, life.port, lambda _: False, lambda: self.kill_soon(life))
-        self.explain(logs + [log for talker in talkers for log in talker.take_logs()])
+            with watching(self.file) as texts:
+                talk_all(talkers, life.port, lambda _: False, lambda: self.kill_soon(life))
+        self.explain(logs + [log for talker in talkers for log in talker.take_logs()], texts)
 
     def kill_soon(self, life):
         """Kills a life some time from now."""
         time.sleep(self.dice.uniform(0, LONGEST))
         life.run.kill()
 
-    def explain(self, logs):
-        """Sees that the journal of a life explains each reply of that life, and names no second leader."""
-        count = self.begin(whole_text(self.file.read_bytes()))
+    def explain(self, logs, texts):
+        """Sees that the journal of a life explains each reply of that life, and names no second leader. `texts` are those
+        that the service has replaced."""
+        texts = [*texts, whole_text(self.file.read_bytes())]
+        count = self.begin(texts[0])
+        for text in texts[1:]:
+            self.history.go_on_after(see_rewriting(self.text, text))
+            self.history.read(text)
+            self.text, self.rewritten = text, self.rewritten + 1
         for log in logs:
             counts_of(self.history, log.asked, log.replies, count)
             self.replies += len(log.replies)
@@ -104,7 +146,7 @@ class Chain:
 
 def kill_often(program, dice, lives, seconds):
     """Kills `lives` lives, and goes on until `seconds` seconds are over. The answer is a line about them."""
-    until, count, replies, leaders, shortened = time.monotonic() + seconds, 0, 0, 0, 0
+    until, count, replies, leaders, shortened, rewritten = time.monotonic() + seconds, 0, 0, 0, 0, 0
     while count < lives or time.monotonic() < until:
         with tempfile.TemporaryDirectory() as folder:
             chain = Chain(program, folder, dice)
@@ -115,6 +157,6 @@ def kill_often(program, dice, lives, seconds):
                 count += 1
             chain.end()
         replies, leaders = replies + chain.replies, leaders + len(chain.leaders)
-        shortened += chain.shortened
-    return (f"{count} lives were killed under {CLIENTS} clients, and {shortened} starts shortened the journal:"
+        shortened, rewritten = shortened + chain.shortened, rewritten + chain.rewritten
+    return (f"{count} lives were killed under {CLIENTS} clients, {shortened} starts shortened the journal and it was rewritten {rewritten} times:"
             f" {replies} replies, {leaders} leaders")

@@ -6,7 +6,7 @@ The recording of a life is doctored as if the program had made the mistake, or a
 from typing import NamedTuple
 
 from journals.changes import after_words, answer, whole_text
-from journals.crashes import NAME, draw_images, judge, moments_of
+from journals.crashes import NAME, changes_in, draw_images, judge, moments_of
 from journals.lives import compare
 from journals.recording import FOLDER, Disk, Event
 from serving import Differs
@@ -51,9 +51,14 @@ def syncs_of(life, events, name):
     return found
 
 
-def rename_of(events):
-    """Returns the places of the begin and the end of the rename."""
-    return min(ends_of(events, "R").items())
+def rename_of(events, which):
+    """Returns the places of the begin and the end of a rename: 0 for that of the start, -1 for the last one."""
+    return sorted(ends_of(events, "R").items())[which]
+
+
+def synced_before(life, events, begin):
+    """Returns the sync of the new file before its rename, which begins there."""
+    return [sync for sync in syncs_of(life, events, NAME + ".new") if sync.end < begin][-1]
 
 
 def with_reply(life, events):
@@ -89,16 +94,24 @@ def sync_left_out(life, events):
     return without(events, (sync.begin, sync.end)), sync.begin
 
 
-def rename_before_the_sync_of_the_new_file(life, events):
-    begin, end = rename_of(events)
-    sync = syncs_of(life, events, NAME + ".new")[-1]
+def rename_before_the_sync_of_the_new_file(life, events, which=0):
+    begin, end = rename_of(events, which)
+    sync = synced_before(life, events, begin)
     return moved(events, (sync.begin, sync.end), end + 1), begin - 2
 
 
-def sync_of_the_new_file_left_out(life, events):
-    begin, _ = rename_of(events)
-    sync = syncs_of(life, events, NAME + ".new")[-1]
+def rename_before_the_sync_while_the_service_runs(life, events):
+    return rename_before_the_sync_of_the_new_file(life, events, -1)
+
+
+def sync_of_the_new_file_left_out(life, events, which=0):
+    begin, _ = rename_of(events, which)
+    sync = synced_before(life, events, begin)
     return without(events, (sync.begin, sync.end)), begin - 2
+
+
+def sync_left_out_while_the_service_runs(life, events):
+    return sync_of_the_new_file_left_out(life, events, -1)
 
 
 def sync_of_the_folder_left_out(life, events):
@@ -107,15 +120,21 @@ def sync_of_the_folder_left_out(life, events):
     return rest, len(rest) - MOMENTS
 
 
-def old_file_removed_before_the_rename(life, events):
-    begin, _ = rename_of(events)
+def old_file_removed_before_the_rename(life, events, which=0):
+    begin, _ = rename_of(events, which)
     thread = events[begin].thread
     removal = [Event(kind, thread, 0, 0, NAME.encode() if kind == "U" else b"", 0) for kind in "Uu"]
     return events[:begin] + removal + events[begin:], begin
 
 
+def old_file_removed_while_the_service_runs(life, events):
+    return old_file_removed_before_the_rename(life, events, -1)
+
+
 DOCTORED = [reply_before_its_sync, sync_left_out, rename_before_the_sync_of_the_new_file,
-            sync_of_the_new_file_left_out, sync_of_the_folder_left_out, old_file_removed_before_the_rename]
+            rename_before_the_sync_while_the_service_runs, sync_of_the_new_file_left_out,
+            sync_left_out_while_the_service_runs, sync_of_the_folder_left_out, old_file_removed_before_the_rename,
+            old_file_removed_while_the_service_runs]
 
 
 def as_it_is(found):
@@ -143,7 +162,8 @@ def restart_by(reading):
     def restart(life, image):
         same = max(image.count - 1, 0)
         groups = {name: image.history.group_at(name, same) for name in image.history.names.at(same)}
-        for line in reading(image.files.get(NAME, b"")).splitlines()[1 + same:]:
+        there = max(changes_in(whole_text(image.files.get(NAME, b""))) - 1, 0)
+        for line in reading(image.files.get(NAME, b"")).splitlines()[1 + there:]:
             words = line.partition(b" #")[0].decode().split(" ")
             name = words[1] if len(words) > 1 else ""
             group = after_words(groups.get(name), words)

@@ -97,6 +97,8 @@ class Disk:
     def __init__(self, files):
         self.kept = {name: File(data) for name, data in files.items()}
         self.names, self.moves, self.by_inode = dict(self.kept), [], {}
+        # of each file that another one took the place of, its name and its bytes then
+        self.replaced = []
         # what each thread is at: a write, or the writes and moves that its sync will have kept
         self.calls = {}
 
@@ -144,6 +146,8 @@ class Disk:
         source, target = event.data.decode().split("\0")
         if event.done == 0:
             rest = {name: file for name, file in self.names.items() if name != source}
+            if target in rest:
+                self.replaced.append((target, rest[target].now()))
             self.move({**rest, target: self.names[source]})
 
     def on_U(self, event):

@@ -1,4 +1,5 @@
-"""What a start makes of the changes that it finds: it keeps them, or puts a shorter list in their place.
+"""What a start makes of the changes that it finds: it keeps them, or puts a shorter list in their place. A running
+service does so too, when its journal is long.
 
 The shorter list leads to the same groups, terms, leaders and informed members. Of each group it has the creation, what
 each term needs, and what makes the present members of those of the last term. A start takes it if it has at most half
@@ -7,6 +8,9 @@ as many changes as were found.
 
 from journals.changes import life_of, lines_after_first, text_of_changes
 from serving import Differs
+
+# How many bytes of text a journal has at least when a running service rewrites it.
+LEAST = 1 << 18
 
 
 class Shorter:
@@ -81,4 +85,18 @@ def see_start(found, text):
     begun = text_of_changes(changes_at_start(changes), life_of(text))
     if not text.startswith(begun):
         raise Differs("a start left other changes in the journal than it has to")
+    return begun
+
+
+def see_rewriting(found, text):
+    """Sees that a text, of the same life, begins as a running service leaves it that rewrites a journal with the text
+    `found`. The answer is this begin."""
+    if life_of(text) != life_of(found):
+        raise Differs(f"a journal of life {life_of(found)} was rewritten with life {life_of(text)}")
+    changes = [line.rpartition(b" #")[0] for line in lines_after_first(found).splitlines()]
+    begun = text_of_changes(shorter(changes), life_of(text))
+    if not text.startswith(begun):
+        raise Differs("a journal was rewritten by other changes than those that lead to its groups")
+    if len(found) < LEAST or 2 * len(begun) > len(found):
+        raise Differs(f"a journal of {len(found)} bytes was rewritten with {len(begun)} bytes")
     return begun

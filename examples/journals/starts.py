@@ -1,9 +1,10 @@
-"""Checks of starts that shorten a journal, one by one."""
+"""Checks of starts and of running services that shorten a journal, one by one."""
 
 from journals.changes import text_of_changes, whole_text
 from journals.lives import asked, client_of, living
 from journals.restarts import say, until
-from serving import same
+from journals.shortening import LEAST
+from serving import Differs, same
 
 CHECKS = []
 # How often members come and go.
@@ -75,3 +76,22 @@ def a_start_spares_half_of_the_changes_or_none(program, file):
         see_starts(program, file, few if is_short else found, [("a", ("members",))],
                    [" ".join(["members", *map(str, range(1, members + 1))])])
 
+
+@check
+def a_running_service_keeps_its_journal_short(program, file):
+    came_and_went = b"join a 4294967295/65535\nleave a 4294967295\n" * OFTEN
+    few = [b"create a chang", b"join a 4", b"join a 1/9"]
+    with living(program, file) as life:
+        say(life, b"create a chang\njoin a 4\njoin a 1/9\n", b"ok\n" * 3)
+        for _ in range(20):
+            say(life, came_and_went, b"ok\n" * (2 * OFTEN))
+            if len(whole_text(file.read_bytes())) > LEAST + 65536:
+                raise Differs("a running service lets its journal grow")
+        same("the files beside the journal", sorted(path.name for path in file.parent.glob(file.name + "*")),
+             [file.name, file.name + ".lock"])
+        say(life, b"members a\n", b"members 4 1/9\n")
+    text = whole_text(file.read_bytes())
+    if not text.startswith(text_of_changes(few, 1)):
+        raise Differs("a running service left other changes in its journal than it has to")
+    with living(program, file) as life, client_of(life) as client:
+        same("members", asked(client, [("a", ("members",))]), ["members 4 1/9"])
