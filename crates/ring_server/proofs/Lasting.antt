@@ -36,7 +36,7 @@ unkept_sync =
 written_sync : (D : RattleType) (m : medium.Ghosts D.Denot) → IsSync D → IsSync (written.the_row D m)
 written_sync D m sync =
     let T : Declared = written.TheInside.the_type D m in
-    let fields : AllSync (shape T).fields = (unkept_sync, (journal_crosses.the_sync D m sync, (check_crosses.the_sync, (search sendable, (life_crosses.the_sync, (search (crosses, alarm_crosses.the_send, alarm_crosses.the_sync), tt)))))) in
+    let fields : AllSync (shape T).fields = (unkept_sync, (journal_crosses.the_sync D m sync, (check_crosses.the_sync, (search sendable, (life_crosses.the_sync, (search sendable, (search sendable, (search (crosses, alarm_crosses.the_send, alarm_crosses.the_sync), tt)))))))) in
     let inside : IsSync (written.TheInside.the_row D m) = recorded_sync (Struct (shape T)) T.D T.to T.to_one (struct_sync (shape T) fields) in
     view_sync (written.TheInside.the_row D m) _ _ _ _ inside
 
