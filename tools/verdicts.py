@@ -36,6 +36,8 @@ FOLLOWS = re.compile(r"\d+ declarations? that depend|(?:was|is) not admitted")
 SEARCH = re.compile(r"`(?:search|grind|omega)`: ")
 BREAKS = re.compile(r"values at which this goal is false|the goal fails")
 ALL_TRIED = re.compile(r"Every way was tried")
+# That the values do not keep all equations that the search knows.
+UNSURE = re.compile(r"these may not break the goal")
 # That an answer is for no goal any more.
 GONE = re.compile(r"Goals` has no `[^`]+` that can be named from here|no name that rattle asks for")
 # By which parts the type that is wanted and that of an answer differ, and the two types.
@@ -67,6 +69,7 @@ class Error:
         return bool(self.name) and self.file.endswith(("/Answers.antt", "/Proof.antt"))
 
     def shown(self):
+        """The error as it is printed."""
         return f"{self.file}: {self.name or self.code or ''}: {self.said}"
 
 
@@ -198,13 +201,18 @@ def judged(said, function, text_of):
     return (UNJUDGED, why) if why else (PASSED, f"{function.path}: {said.ends[function.path]}")
 
 
+def is_sure(said):
+    """Whether what a search said shows that its goal is false: values break it, or it tried every way."""
+    return bool(BREAKS.search(said) and not UNSURE.search(said) or ALL_TRIED.search(said))
+
+
 def judged_again(said, function, text_of, before):
     """The verdict on a function by a second check, with a search in the place of each answer of which it was said before
     that it failed."""
     kind, why = judged(said, function, text_of)
     if kind == PASSED:
         return PASSED, f"an answer fits no more, and its goal is true: {before}"
-    if sure := [it for it in refusals(said, function, text_of) if BREAKS.search(it) or ALL_TRIED.search(it)]:
+    if sure := [it for it in refusals(said, function, text_of) if is_sure(it)]:
         return REFUSED, sure[0]
     return UNJUDGED, f"an answer fits no more, and nothing says that its goal is false: {before}"
 
