@@ -5,6 +5,9 @@
 //! knows how many of the entries are kept for good. If a crash comes at any moment of any call, the
 //! changes of the first entries are left, and at least of those that were kept for good.
 //!
+//! A journal that has grown long is rewritten while its table is in use, by the changes that lead to the
+//! present groups. A crash leaves the old text or the new one, which lead to the same groups.
+//!
 //! Each recovery begins a new life of the journal, whose number is in the first line. So the places that
 //! replies tell rise over all lives.
 //!
