@@ -1,4 +1,5 @@
-"""Calls on the journal's files that go wrong in turn in `ringd run --journal`, and growths refused in its start.
+"""Calls on the journal's files that go wrong in turn in `ringd run --journal`, and growths refused in its start. In some
+runs the service rewrites the journal while it runs.
 
 The program begins with a journal that has a torn end and that its start shortens. One client asks line by line, and then sends many changes at
 once, so that the file grows. A call fails, is interrupted or moves one byte, or the process ends at it. Then the
@@ -31,8 +32,10 @@ BEFORE = (b"create a chang", b"join a 1", b"start a", b"know a 1 1 1")
 SPARED = (b"join a 9998", b"leave a 9998") * 40
 TORN, ZEROS = b"join a 9999 #0000", 100
 GROUP = b"group-of-16-byte"
-# As many changes as fill the zeros ahead of the text.
-MANY = 1500
+# As many changes as fill the zeros ahead of the text, and as many as make it so long that the service rewrites it. The
+# calls that a rewriting makes.
+MANY, LONG = 1500, 6000
+REWRITING = ("unlink", "open", "write", "fsync", "rename")
 # How many lines are sent at once.
 AT_ONCE = 100
 CONFIG, UNREADABLE = b"ringd: config unreadable\n", b"ringd: journal unreadable\n"
@@ -56,13 +59,13 @@ def text_of(changes):
     return b"".join(lines)
 
 
-def steps():
-    """The lines that the client asks, each with its reply."""
+def steps(many=MANY):
+    """The lines that the client asks, each with its reply. The last `many` are sent some at once."""
     for line, reply in [(b"create b lelann", b"ok"), (b"join b 2", b"ok"), (b"join b 3/7", b"ok"),
                         (b"join b 3", b"no member"), (b"start b", b"term 1"), (b"leave b 2", b"ok"),
                         (b"create %s chang" % GROUP, b"ok"), (b"join a 2", b"ok"), (b"start a", b"term 2")]:
         yield line, reply
-    for number in range(MANY // 2):
+    for number in range(many // 2):
         yield b"join %s %d/65535" % (GROUP, 4294967000 - number % 200), b"ok"
         yield b"leave %s %d" % (GROUP, 4294967000 - number % 200), b"ok"
 
@@ -108,13 +111,13 @@ def shown_by(server):
     return shown
 
 
-def talk(server, lines):
-    """Asks the lines, as far as the session goes. The answer is how many replies came, and how many lines were
-    sent."""
+def talk(server, lines, many):
+    """Asks the lines, as far as the session goes, and the last `many` of them some at once. The answer is how many
+    replies came, and how many lines were sent."""
     client, sent = None, 0
     try:
         client = Client(server.port)
-        for line, reply in lines[:len(lines) - MANY]:
+        for line, reply in lines[:len(lines) - many]:
             sent += 1
             expect(line, client.ask(line), reply)
         while sent < len(lines):
@@ -165,16 +168,16 @@ def expect_end(server, call, how):
         raise Bad(f"status {status}, {out!r}, {error!r}")
 
 
-def goes_wrong(library, program, call, number, how, error):
+def goes_wrong(library, program, call, number, how, error, many=MANY):
     """One run of `run` with a journal in which that call goes wrong, and a restart after it; whether such a call was
     made."""
-    lines = list(steps())
+    lines = list(steps(many))
     wrong = {call: number, "how": how, **({"error": error} if error else {})}
     name = errno.errorcode.get(error, "")
     journal = text_of(BEFORE + SPARED) + TORN + bytes(ZEROS)
     with serving(library, program, ["run"], f"run, {call} {number}, {how} {name}", journal=journal, **wrong) as server:
         has_begun = server.listens()
-        told, sent = talk(server, lines) if has_begun else (0, 0)
+        told, sent = talk(server, lines, many) if has_begun else (0, 0)
         expect_end(server, call, how)
         was_made = bool(server.told())
         if not was_made and told != len(lines):
