@@ -4,10 +4,10 @@ ghost use Rattle.std.specs.Prelude.{◌≡◌, ◌^◌, ◌<◌, []};
 ghost use Rattle.ring_turn.specs.Seats.{IsSameSeat, fresh_seats};
 
 use crate::memory::{TWICE, with_room};
-use crate::rings_of_one::{elect, is_spelled, told_by};
+use crate::rings_of_one::{Spelled, elect, is_spelled, told_by};
 use ring_any::Any;
+use ring_election::RingElection;
 use ring_id::{GroupName, Refusal};
-use ring_lines::parse_command;
 use ring_node::{Charter, Report};
 use ring_table::{Answer, Filed, Table};
 use ring_turn::{Seat, TurnLock};
@@ -16,7 +16,11 @@ use std::process::Abort;
 use std::sync::{Arc, Wait};
 
 // A turn lock over a table without groups, and its one seat, which has so many turns.
-fn opened(rt: &impl Abort, alloc: Global, turns: u64) -> (TurnLock<Any>, Vec<Seat<Any>>)
+fn opened<E: RingElection>(
+    rt: &impl Abort,
+    alloc: Global,
+    turns: u64,
+) -> (TurnLock<E>, Vec<Seat<E>>)
     requires turns { (0 < turns) × (turns < 2 ^ 64) }
     ensures one { result.0.seats ≡ 1 }
     ensures seats { result.1.items ≡ fresh_seats result.0.id turns [] 1 }
@@ -28,7 +32,12 @@ fn opened(rt: &impl Abort, alloc: Global, turns: u64) -> (TurnLock<Any>, Vec<Sea
 }
 
 // How many entries the table of a lock has that is closed with its one seat.
-fn entries_of(rt: &impl Abort, alloc: Global, lock: TurnLock<Any>, seat: Seat<Any>) -> usize
+fn entries_of<E: RingElection>(
+    rt: &impl Abort,
+    alloc: Global,
+    lock: TurnLock<E>,
+    seat: Seat<E>,
+) -> usize
     requires { (lock.seats ≡ 1) × (seat.lock ≡ lock.id) × (seat.number ≡ 0) }
 {
     let mut all = with_room(rt, alloc, 1);
@@ -40,26 +49,26 @@ fn entries_of(rt: &impl Abort, alloc: Global, lock: TurnLock<Any>, seat: Seat<An
 }
 
 // What is answered to a line of a session.
-fn ask<R: Wait + Abort>(
+fn ask<E: Spelled, R: Wait + Abort>(
     rt: &R,
-    lock: &TurnLock<Any>,
-    seat: &mut Seat<Any>,
+    lock: &TurnLock<E>,
+    seat: &mut Seat<E>,
     session: u32,
     line: &[u8],
 ) -> Answer
     requires { seat.old.lock ≡ lock.now.id }
     ensures { IsSameSeat seat.old seat.new }
 {
-    let command = parse_command(line).expect(rt, "no command");
+    let command = E::parse(line).expect(rt, "no command");
     lock.call(rt, seat, session, command)
 }
 
 // A line of a session is answered so, with its place, though it may be refused memory once.
-fn tells<R: Wait + Abort>(
+fn tells<E: Spelled, R: Wait + Abort>(
     rt: &R,
     alloc: Global,
-    lock: &TurnLock<Any>,
-    seat: &mut Seat<Any>,
+    lock: &TurnLock<E>,
+    seat: &mut Seat<E>,
     line: (u32, &[u8]),
     told: &[u8],
 )
@@ -75,12 +84,12 @@ fn tells<R: Wait + Abort>(
 }
 
 // The charter of the term of the group `a` that starts at the third place.
-fn starts<R: Wait + Abort>(
+fn starts<E: RingElection, R: Wait + Abort>(
     rt: &R,
     alloc: Global,
-    lock: &TurnLock<Any>,
-    seat: &mut Seat<Any>,
-) -> Vec<Arc<Charter<Any>>>
+    lock: &TurnLock<E>,
+    seat: &mut Seat<E>,
+) -> Vec<Arc<Charter<E>>>
     requires { seat.old.lock ≡ lock.now.id }
     ensures { IsSameSeat seat.old seat.new }
 {
@@ -95,11 +104,11 @@ fn starts<R: Wait + Abort>(
 }
 
 // This becomes of a report, though it may be refused memory once.
-fn files<R: Wait + Abort>(
+fn files<E: RingElection, R: Wait + Abort>(
     rt: &R,
-    lock: &TurnLock<Any>,
-    seat: &mut Seat<Any>,
-    report: &Report<Any>,
+    lock: &TurnLock<E>,
+    seat: &mut Seat<E>,
+    report: &Report<E>,
     became: Filed,
 )
     requires { seat.old.lock ≡ lock.now.id }
@@ -113,12 +122,12 @@ fn files<R: Wait + Abort>(
 }
 
 // The report of the one member of the group `a`, whose term starts at the third place.
-fn elected<R: Wait + Abort>(
+fn elected<E: Spelled, R: Wait + Abort>(
     rt: &R,
     alloc: Global,
-    lock: &TurnLock<Any>,
-    seat: &mut Seat<Any>,
-) -> Report<Any>
+    lock: &TurnLock<E>,
+    seat: &mut Seat<E>,
+) -> Report<E>
     requires { seat.old.lock ≡ lock.now.id }
     ensures { IsSameSeat seat.old seat.new }
 {
@@ -133,29 +142,33 @@ fn elected<R: Wait + Abort>(
     report
 }
 
+// A seat makes eight calls: how many entries they leave.
+fn eight_calls<E: Spelled, R: Wait + Abort>(rt: &R, alloc: Global) -> usize {
+    let (lock, mut seats) = opened::<E>(rt, alloc, 10);
+    let mut seat = seats.pop().expect(rt, "no seat");
+    drop(seats);
+    let report = elected(rt, alloc, &lock, &mut seat);
+    files(rt, &lock, &mut seat, &report, Filed::Noted);
+    files(rt, &lock, &mut seat, &report, Filed::Known);
+    let (who, start) = (b"who a 7".as_slice(), b"start a".as_slice());
+    tells(rt, alloc, &lock, &mut seat, (2, who), b"6 leader 1 7\n");
+    tells(rt, alloc, &lock, &mut seat, (1, start), b"7 term 2\n");
+    files(rt, &lock, &mut seat, &report, Filed::Stale);
+    drop(report);
+    entries_of(rt, alloc, lock, seat)
+}
+
 #[test]
 fn eight_calls_of_a_seat_leave_eight_entries(rt: HostRuntime) {
-    let alloc = rt.alloc();
-    let (lock, mut seats) = opened(&rt, alloc, 10);
-    let mut seat = seats.pop().expect(&rt, "no seat");
-    drop(seats);
-    let report = elected(&rt, alloc, &lock, &mut seat);
-    files(&rt, &lock, &mut seat, &report, Filed::Noted);
-    files(&rt, &lock, &mut seat, &report, Filed::Known);
-    let (who, start) = (b"who a 7".as_slice(), b"start a".as_slice());
-    tells(&rt, alloc, &lock, &mut seat, (2, who), b"6 leader 1 7\n");
-    tells(&rt, alloc, &lock, &mut seat, (1, start), b"7 term 2\n");
-    files(&rt, &lock, &mut seat, &report, Filed::Stale);
-    drop(report);
-    assert!(rt; entries_of(&rt, alloc, lock, seat) == 8);
+    assert!(rt; eight_calls::<Any, HostRuntime>(&rt, rt.alloc()) == 8);
 }
 
 // Whether a line of session 1 is answered so, with its place. None where memory is refused, which uses a turn.
-fn is_told<R: Wait + Abort>(
+fn is_told<E: Spelled, R: Wait + Abort>(
     rt: &R,
     alloc: Global,
-    lock: &TurnLock<Any>,
-    seat: &mut Seat<Any>,
+    lock: &TurnLock<E>,
+    seat: &mut Seat<E>,
     line: &[u8],
     told: &[u8],
 ) -> Option<bool>
@@ -170,8 +183,8 @@ fn is_told<R: Wait + Abort>(
 }
 
 // A seat with two turns has them: how many entries they leave. None where a call is refused memory.
-fn two_turns<R: Wait + Abort>(rt: &R, alloc: Global) -> Option<usize> {
-    let (lock, mut seats) = opened(rt, alloc, 2);
+fn two_turns<E: Spelled, R: Wait + Abort>(rt: &R, alloc: Global) -> Option<usize> {
+    let (lock, mut seats) = opened::<E>(rt, alloc, 2);
     let mut seat = seats.pop().expect(rt, "no seat");
     drop(seats);
     let created = is_told(rt, alloc, &lock, &mut seat, b"create a chang", b"1 ok\n");
@@ -195,11 +208,16 @@ fn two_turns<R: Wait + Abort>(rt: &R, alloc: Global) -> Option<usize> {
     Some(entries)
 }
 
+// The same, once more where memory was refused.
+fn entries_of_two_turns<E: Spelled, R: Wait + Abort>(rt: &R, alloc: Global) -> Option<usize> {
+    let entries = two_turns::<E, R>(rt, alloc);
+    if entries.is_none() {
+        return two_turns::<E, R>(rt, alloc);
+    }
+    entries
+}
+
 #[test]
 fn a_seat_has_as_many_turns_as_it_was_given(rt: HostRuntime) {
-    let mut entries = two_turns(&rt, rt.alloc());
-    if entries.is_none() {
-        entries = two_turns(&rt, rt.alloc());
-    }
-    assert!(rt; entries == Some(2));
+    assert!(rt; entries_of_two_turns::<Any, HostRuntime>(&rt, rt.alloc()) == Some(2));
 }

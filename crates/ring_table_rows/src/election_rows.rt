@@ -4,11 +4,11 @@ ghost use Rattle.std.specs.Prelude.{◌≤◌};
 use crate::grounds::{Ended, Ground};
 use crate::meetings::{Meeting, new_meeting, reaches};
 use crate::memory::shared;
+use crate::rings_of_one::Spelled;
 use crate::telling::{FOUR, FOUR_ITEMS, FOUR_TOLD, all_know_two, nodes_of, repeated};
 use ring_any::Any;
 use ring_election::RingElection;
 use ring_id::GroupName;
-use ring_lines::parse_command;
 use ring_node::{Charter, Node};
 use ring_service::Waiting;
 use ring_table::{Entry, Table};
@@ -102,10 +102,10 @@ const FOUR_MADE: [&[u8]; 5] = [
 ];
 
 // A table in which the term of four members was started, with its charter.
-fn started(rt: &impl Abort, alloc: Global) -> (Table<Any>, Vec<Arc<Charter<Any>>>) {
+fn started<E: Spelled>(rt: &impl Abort, alloc: Global) -> (Table<E>, Vec<Arc<Charter<E>>>) {
     let mut table = Table::new(alloc);
     for line in FOUR_MADE {
-        let command = parse_command(line).expect(rt, "no command");
+        let command = E::parse(line).expect(rt, "no command");
         drop(table.call(1, command));
     }
     let group = GroupName::from_bytes(b"a").expect(rt, "no name");
@@ -119,7 +119,7 @@ fn started(rt: &impl Abort, alloc: Global) -> (Table<Any>, Vec<Arc<Charter<Any>>
 #[test]
 fn two_workers_decide_a_term_that_was_running(rt: HostRuntime) {
     let alloc = rt.alloc();
-    let (table, charters) = started(&rt, alloc);
+    let (table, charters) = started::<Any>(&rt, alloc);
     let gate = new_meeting(&rt, alloc);
     let copy = Arc::try_clone(&gate).expect(&rt, "no copy");
     let ground = Ground::over(&rt, alloc, table, 2, 64, copy).expect(&rt, "no service");

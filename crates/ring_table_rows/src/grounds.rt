@@ -2,8 +2,8 @@
 ghost use Rattle.std.specs.Prelude.{◌≤◌, All};
 
 use crate::memory::shared;
-use crate::telling::tells;
 use ring_any::Any;
+use ring_lines::{FromRead, Intake, LineFault, Outlet, ToWrite};
 use ring_service::{Closing, Service, StartFault, Waiting};
 use ring_table::{Access, LockedSeat, LockedTable, Table};
 use ring_workers::{Gate, Handed};
@@ -138,6 +138,19 @@ impl Ground {
         }
     }
 
+    /// What a session over these ends comes to, with so many read calls.
+    pub fn serves<R: Wait, I: Intake, O: Outlet>(
+        &mut self,
+        rt: &R,
+        session: u32,
+        reader: &mut I,
+        writer: &mut O,
+        reads: u32,
+    ) -> Result<u64, LineFault> {
+        let front = self.service.front();
+        front.serve(rt, &mut self.seat, session, reader, writer, reads)
+    }
+
     /// A session over memory comes to its end and is told this.
     pub fn tells<R: Abort + Wait>(
         &mut self,
@@ -147,8 +160,11 @@ impl Ground {
         lines: &[u8],
         told: &[u8],
     ) {
-        let front = self.service.front();
-        tells(rt, alloc, front, &mut self.seat, session, lines, told);
+        let mut writer = ToWrite(Vec::new(alloc));
+        let served = self.serves(rt, session, &mut FromRead(lines), &mut writer, 1000);
+        assert!(rt; served.is_ok());
+        assert!(rt; writer.0.as_slice() == told);
+        drop(writer);
     }
 
     /// Ends the service: what it leaves. Nobody shares the table then.

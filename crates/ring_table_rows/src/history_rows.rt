@@ -5,6 +5,7 @@ use ring_election::RingElection;
 use ring_events::{Command, Reply};
 use ring_id::{GroupName, Refusal};
 use ring_table::{Entry, History, Table};
+use std::alloc::Global;
 use std::ops::Range;
 use std::process::Abort;
 
@@ -51,15 +52,20 @@ fn has_calls<E: RingElection>(history: &History<E>, count: u32) -> bool {
     session == count && history.len() == count as usize
 }
 
-#[test]
-fn entries_stand_in_order_over_several_chunks(rt: HostRuntime) {
-    let group = GroupName::from_bytes(b"a").expect(&rt, "no name");
-    let mut table = Table::<Any>::new(rt.alloc());
+// Calls of ten thousand sessions stand in order, over several chunks.
+fn stand_in_order<E: RingElection>(rt: &impl Abort, alloc: Global) {
+    let group = GroupName::from_bytes(b"a").expect(rt, "no name");
+    let mut table = Table::<E>::new(alloc);
     assert!(rt; table.history().is_empty() && table.history().last().is_none());
-    ask(&rt, &mut table, group, 1..8193);
+    ask(rt, &mut table, group, 1..8193);
     // a full chunk ends the history
     assert!(rt; table.history().get(8192).is_none());
-    ask(&rt, &mut table, group, 8193..10_001);
+    ask(rt, &mut table, group, 8193..10_001);
     assert!(rt; has_calls(table.history(), 10_000) && is_call(table.history().last(), 10_000));
     drop(table);
+}
+
+#[test]
+fn entries_stand_in_order_over_several_chunks(rt: HostRuntime) {
+    stand_in_order::<Any>(&rt, rt.alloc());
 }

@@ -2,13 +2,28 @@
 //! is refused memory is asked for once more; whatever else goes wrong stops the test where it does.
 
 use crate::memory::{TWICE, with_room};
+use ring_any::Any;
 use ring_election::RingElection;
+use ring_events::Command;
 use ring_id::{NoMemory, Side};
-use ring_lines::Spell;
+use ring_lines::{Spell, parse_command};
 use ring_node::{Charter, Node, Report, TakeFault};
 use std::alloc::Global;
 use std::process::Abort;
 use std::sync::Arc;
+
+/// An election whose commands lines spell. Rows are for any such election: so their proofs don't see what `Any` consists
+/// of.
+pub trait Spelled: RingElection {
+    /// The command that a line spells, if it spells one.
+    fn parse(line: &[u8]) -> Option<Command<Self>>;
+}
+
+impl Spelled for Any {
+    fn parse(line: &[u8]) -> Option<Command<Any>> {
+        parse_command(line)
+    }
+}
 
 /// Whether a reply or an answer is spelled by this line.
 pub fn is_spelled<S: Spell>(rt: &impl Abort, alloc: Global, told: &S, line: &[u8]) -> bool {

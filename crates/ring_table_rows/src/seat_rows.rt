@@ -3,10 +3,10 @@
 ghost use Rattle.std.specs.Prelude.{◌≡◌, ◌*◌, ◌^◌, ◌<◌};
 
 use crate::memory::TWICE;
-use crate::rings_of_one::{elect, is_spelled, told_by};
+use crate::rings_of_one::{Spelled, elect, is_spelled, told_by};
 use ring_any::Any;
+use ring_election::RingElection;
 use ring_id::{GroupName, NoMemory, Refusal};
-use ring_lines::parse_command;
 use ring_node::{Charter, Report};
 use ring_table::{Access, Answer, Filed, LockedTable, Table};
 use ring_turn::TurnLock;
@@ -17,13 +17,13 @@ use std::sync::{Arc, Wait};
 
 /// An access to a table that had no groups, a seat of it, and whether a call was made once more by that seat.
 #[derive(Drop)]
-struct Bench<A: Access<Any> + Drop> {
+struct Bench<E: RingElection, A: Access<E> + Drop> {
     access: A,
     seat: A::Seat,
     again: bool,
 }
 
-impl<A: Access<Any> + Drop> Model for Bench<A> {
+impl<E: RingElection, A: Access<E> + Drop> Model for Bench<E, A> {
     ghost Value = { A };
 
     ghost view = { λ bench. bench.access };
@@ -31,10 +31,10 @@ impl<A: Access<Any> + Drop> Model for Bench<A> {
     ghost invariant = { λ bench. A.has_seat bench.access bench.seat };
 }
 
-impl<A: Access<Any> + Drop> Bench<A> {
+impl<E: Spelled, A: Access<E> + Drop> Bench<E, A> {
     // What is answered to a line of a session.
     fn ask<R: Wait + Abort>(&mut self, rt: &R, session: u32, line: &[u8]) -> Answer {
-        let command = parse_command(line).expect(rt, "no command");
+        let command = E::parse(line).expect(rt, "no command");
         self.access.call(rt, &mut self.seat, session, command)
     }
 
@@ -64,7 +64,7 @@ impl<A: Access<Any> + Drop> Bench<A> {
         rt: &R,
         alloc: Global,
         told: &[u8],
-    ) -> Vec<Arc<Charter<Any>>> {
+    ) -> Vec<Arc<Charter<E>>> {
         let group = GroupName::from_bytes(b"a").expect(rt, "no name");
         let mut started = self.access.begin(rt, &mut self.seat, 1, group, 1);
         if matches!(started.0, Answer::Unplaced(Refusal::NoMemory)) {
@@ -79,7 +79,7 @@ impl<A: Access<Any> + Drop> Bench<A> {
     }
 
     // This becomes of a report.
-    fn files<R: Wait + Abort>(&mut self, rt: &R, report: &Report<Any>, became: Filed) {
+    fn files<R: Wait + Abort>(&mut self, rt: &R, report: &Report<E>, became: Filed) {
         let filed = match self.access.report(rt, &mut self.seat, report) {
             Filed::Refused(Refusal::NoMemory) => {
                 self.again = true;
@@ -92,11 +92,11 @@ impl<A: Access<Any> + Drop> Bench<A> {
 }
 
 // Starts a term of one member after a start that is refused and has no charter: the report that it comes to.
-fn begin<R: Wait + Abort, A: Access<Any> + Drop>(
+fn begin<E: Spelled, R: Wait + Abort, A: Access<E> + Drop>(
     rt: &R,
     alloc: Global,
-    bench: &mut Bench<A>,
-) -> Report<Any> {
+    bench: &mut Bench<E, A>,
+) -> Report<E> {
     let none = bench.starts(rt, alloc, b"1 no no-group\n");
     assert!(rt; none.is_empty());
     drop(none);
@@ -112,10 +112,10 @@ fn begin<R: Wait + Abort, A: Access<Any> + Drop>(
 }
 
 // The row of ten calls, of which each is an entry at its place: the seat after it, and whether a call was made once more.
-fn row<R: Wait + Abort, A: Access<Any> + Drop>(
+fn row<E: Spelled, R: Wait + Abort, A: Access<E> + Drop>(
     rt: &R,
     alloc: Global,
-    mut bench: Bench<A>,
+    mut bench: Bench<E, A>,
 ) -> (A::Seat, bool) {
     let report = begin(rt, alloc, &mut bench);
     bench.files(rt, &report, Filed::Noted);
@@ -135,11 +135,11 @@ fn row<R: Wait + Abort, A: Access<Any> + Drop>(
 }
 
 // A turn lock with one seat, which has so many turns.
-fn opened_in_turn(
+fn opened_in_turn<E: RingElection>(
     rt: &impl Abort,
     alloc: Global,
     turns: u64,
-) -> Result<Bench<TurnLock<Any>>, NoMemory>
+) -> Result<Bench<E, TurnLock<E>>, NoMemory>
     requires { (0 < turns) × (turns < 2 ^ 64) }
 {
     let Ok((access, mut seats)) = TurnLock::new(alloc, Table::new(alloc), 1, turns) else {
@@ -156,7 +156,7 @@ fn opened_in_turn(
 }
 
 // The same, asked for once more where memory was refused.
-fn in_turn(rt: &impl Abort, alloc: Global, turns: u64) -> Bench<TurnLock<Any>>
+fn in_turn<E: RingElection>(rt: &impl Abort, alloc: Global, turns: u64) -> Bench<E, TurnLock<E>>
     requires { (0 < turns) × (turns < 2 ^ 64) }
 {
     match opened_in_turn(rt, alloc, turns) {
@@ -166,7 +166,7 @@ fn in_turn(rt: &impl Abort, alloc: Global, turns: u64) -> Bench<TurnLock<Any>>
 }
 
 // A locked table with one seat.
-fn under_lock(rt: &impl Abort, alloc: Global) -> Bench<LockedTable<Any>> {
+fn under_lock<E: RingElection>(rt: &impl Abort, alloc: Global) -> Bench<E, LockedTable<E>> {
     let (access, mut seats) = match LockedTable::new(alloc, Table::new(alloc), 1) {
         Ok(made) => made,
         Err(NoMemory) => LockedTable::new(alloc, Table::new(alloc), 1).expect(rt, TWICE),
@@ -180,13 +180,22 @@ fn under_lock(rt: &impl Abort, alloc: Global) -> Bench<LockedTable<Any>> {
     }
 }
 
-#[test]
-fn each_entry_has_its_place(rt: HostRuntime) {
-    let alloc = rt.alloc();
+// The row by a turn lock.
+fn row_in_turn<E: Spelled, R: Wait + Abort>(rt: &R, alloc: Global) {
     // a call that is refused memory uses a turn: the one behind the ten
-    let (seat, again) = row(&rt, alloc, in_turn(&rt, alloc, 11));
+    let (seat, again) = row(rt, alloc, in_turn::<E>(rt, alloc, 11));
     assert!(rt; seat.is_spent() == again);
     drop(seat);
-    let (seat, _again) = row(&rt, alloc, under_lock(&rt, alloc));
+}
+
+// The row by a locked table.
+fn row_under_lock<E: Spelled, R: Wait + Abort>(rt: &R, alloc: Global) {
+    let (seat, _again) = row(rt, alloc, under_lock::<E>(rt, alloc));
     drop(seat);
+}
+
+#[test]
+fn each_entry_has_its_place(rt: HostRuntime) {
+    row_in_turn::<Any, HostRuntime>(&rt, rt.alloc());
+    row_under_lock::<Any, HostRuntime>(&rt, rt.alloc());
 }

@@ -57,8 +57,7 @@ where
     let Ok(mut ground) = Ground::open(rt, alloc, 1, 64, shared(rt, alloc, ShutGate)) else {
         return Err(LineFault::NoMemory);
     };
-    let (front, seat) = (ground.service.front(), &mut ground.seat);
-    let served = front.serve(rt, seat, 1, reader, writer, reads);
+    let served = ground.serves(rt, 1, reader, writer, reads);
     drop(ground.end(rt));
     served
 }

@@ -5,7 +5,7 @@ ghost use Rattle.std.specs.Prelude.{◌≤◌, ◌^◌};
 use crate::grounds::{Opened, open};
 use crate::memory::shared;
 use crate::telling::{ShutGate, repeated, tells, tells_placed};
-use crate::turn_rows::open_in_turn;
+use crate::turn_rows::{Deed, run_in_turn};
 use ring_any::Any;
 use ring_election::RingElection;
 use ring_events::Command;
@@ -80,9 +80,9 @@ where
     one
 }
 
-// Two sessions in two threads, in which a hundred identities join each: each line is told that it is done, and there are
-// no other entries. What is left is the access.
-fn share<R, A>(rt: &R, alloc: Global, opened: Opened<A>) -> Arc<A>
+/// Two sessions in two threads, in which a hundred identities join each: each line is told that it is done, and there are
+/// no other entries. What is left is the access.
+pub fn share<R, A>(rt: &R, alloc: Global, opened: Opened<A>) -> Arc<A>
 where
     R: Abort + Threads + Wait + Sync,
     A: Access<Any> + Send + Sync + Drop + 'static,
@@ -126,8 +126,7 @@ where
 fn two_sessions_share_a_table(rt: HostRuntime) {
     let alloc = rt.alloc();
     let gate = shared(&rt, alloc, ShutGate);
-    let opened = open_in_turn(&rt, alloc, 200, 1, gate);
-    drop(share(&rt, alloc, opened));
+    run_in_turn(&rt, alloc, 200, 1, gate, Deed::Share);
 }
 
 // The number of the identity that joins by an entry of a session.

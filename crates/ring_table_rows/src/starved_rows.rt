@@ -30,8 +30,7 @@ fn told_once<R: Abort + Wait>(
     told: &[u8],
 ) -> Option<bool> {
     let mut writer = ToWrite(with_room(rt, alloc, 64));
-    let (front, seat) = (ground.service.front(), &mut ground.seat);
-    let served = front.serve(rt, seat, 1, &mut FromRead(line), &mut writer, 1000);
+    let served = ground.serves(rt, 1, &mut FromRead(line), &mut writer, 1000);
     let reply = writer.0.as_slice();
     let is_refused = served == Err(LineFault::NoMemory) || reply == b"no no-memory\n".as_slice();
     let is_told = served == Ok(1) && reply == told;
@@ -83,16 +82,23 @@ fn is_whole(handed: &Handed<Any>, filed: usize) -> bool {
     handed.dropped == 0 && (is_stopped && reports == 1 || is_starved && reports <= 1)
 }
 
+// The lines by which a term of one member is started, and what each is told.
+const STARTED: [(&[u8], &[u8]); 4] = [
+    (b"create a chang\n", b"ok\n"),
+    (b"join a 5\n", b"ok\n"),
+    (b"start a\n", b"term 1\n"),
+    (b"members a\n", b"members 5\n"),
+];
+
 // Elects the one member of a group by a service with one worker, and ends the service.
 fn elect<R>(rt: &R, alloc: Global, ground: Ground)
 where
     R: Abort + Threads + Wait + Clock,
 {
     let mut ground = ground;
-    assert!(rt; is_told(rt, alloc, &mut ground, b"create a chang\n", b"ok\n"));
-    assert!(rt; is_told(rt, alloc, &mut ground, b"join a 5\n", b"ok\n"));
-    assert!(rt; is_told(rt, alloc, &mut ground, b"start a\n", b"term 1\n"));
-    assert!(rt; is_told(rt, alloc, &mut ground, b"members a\n", b"members 5\n"));
+    for (line, told) in &STARTED {
+        assert!(rt; is_told(rt, alloc, &mut ground, line, told));
+    }
     let knows = comes_to_know(rt, alloc, &mut ground);
     let Ended {
         table,

@@ -268,7 +268,7 @@ where
 }
 
 // A turn lock over a table without groups, and its three seats.
-fn open_turns(rt: &impl Abort, alloc: Global) -> (TurnLock<Any>, Vec<Seat<Any>>)
+fn open_turns<E: RingElection>(rt: &impl Abort, alloc: Global) -> (TurnLock<E>, Vec<Seat<E>>)
     ensures three { result.0.seats ≡ 3 }
     ensures seats { result.1.items ≡ fresh_seats result.0.id 200 [] 3 }
 {
@@ -280,7 +280,7 @@ fn open_turns(rt: &impl Abort, alloc: Global) -> (TurnLock<Any>, Vec<Seat<Any>>)
 
 #[test]
 fn two_threads_take_turns(rt: HostRuntime) {
-    let (lock, mut seats) = open_turns(&rt, rt.alloc());
+    let (lock, mut seats) = open_turns::<Any>(&rt, rt.alloc());
     let third = seats.pop().expect(&rt, "no third seat");
     let second = seats.pop().expect(&rt, "no second seat");
     let first = seats.pop().expect(&rt, "no first seat");

@@ -1,10 +1,11 @@
 //! Rows of a service over a turn lock: what two sessions are told, when a seat is spent, and that two workers decide a term in
 //! turn. Where memory is refused, the test ends.
-ghost use Rattle.std.specs.Prelude.{◌<◌, ◌≤◌, ◌^◌};
+ghost use Rattle.std.specs.Prelude.{◌<◌, ◌≤◌, ◌^◌, All};
 
 use crate::grounds::{Opened, open};
 use crate::meetings::{Meeting, new_meeting, reaches};
 use crate::memory::shared;
+use crate::sharing_rows::share;
 use crate::telling::{
     FIRST, FIRST_TOLD, FOUR, FOUR_ITEMS, FOUR_TOLD, SECOND, SECOND_TOLD, ShutGate, all_know_two,
     nodes_of, tells, tells_placed,
@@ -21,23 +22,66 @@ use std::sync::{Arc, Wait};
 use std::thread::Threads;
 use std::time::Clock;
 
-/// A service with two workers over a turn lock, each of whose seats has so many turns.
-pub fn open_in_turn<G, R>(
+/// What is done with a service over an access.
+#[derive(Drop)]
+pub enum Deed<'a, R> {
+    /// Two sessions, one after the other, by one seat.
+    TellTwo,
+    /// Sessions by two seats with two turns each.
+    Spend,
+    /// Two sessions in two threads.
+    Share,
+    /// Two workers that meet at this gate decide a term.
+    Decide(&'a Meeting<R>),
+}
+
+// Does it with the service at an access, of which the last two seats are the callers' and the others the workers'.
+fn run<A, G, R>(
+    rt: &R,
+    alloc: Global,
+    access: A,
+    seats: Vec<A::Seat>,
+    inbox: usize,
+    gate: Arc<G>,
+    deed: Deed<R>,
+)
+where
+    A: Access<Any> + Send + Sync + Drop + 'static,
+    A::Seat: Send + 'static,
+    G: Gate + Send + Sync + Drop + 'static,
+    R: Abort + Threads + Wait + Clock + Copy + Send + Sync + Drop + 'static,
+    requires seats { All (A.has_seat access) seats.items }
+    requires inbox { (1 ≤ inbox) × (inbox ≤ 65536) }
+    requires most { A.most ≤ 2 ^ 64 }
+{
+    let opened = open(rt, alloc, access, seats, inbox, gate).expect(rt, "no service");
+    match deed {
+        Deed::TellTwo => tell_two(rt, alloc, opened),
+        Deed::Spend => spend(rt, alloc, opened),
+        Deed::Share => drop(share(rt, alloc, opened)),
+        Deed::Decide(gate) => decide(rt, alloc, opened, gate),
+    }
+}
+
+/// Does it with a service with two workers at a turn lock, each of whose seats has so many turns.
+pub fn run_in_turn<G, R>(
     rt: &R,
     alloc: Global,
     turns: u64,
     inbox: usize,
     gate: Arc<G>,
-) -> Opened<TurnLock<Any>>
+    deed: Deed<R>,
+)
 where
     G: Gate + Send + Sync + Drop + 'static,
-    R: Abort + Threads + Wait + Clock + Copy + Send + Drop + 'static,
+    R: Abort + Threads + Wait + Clock + Copy + Send + Sync + Drop + 'static,
     requires turns { (0 < turns) × (turns ≤ 1000) }
     requires inbox { (1 ≤ inbox) × (inbox ≤ 65536) }
 {
-    let made = TurnLock::new(alloc, Table::new(alloc), 4, turns);
-    let (lock, seats) = made.expect(rt, "no lock");
-    open(rt, alloc, lock, seats, inbox, gate).expect(rt, "no service")
+    let Ok((lock, seats)) = TurnLock::new(alloc, Table::new(alloc), 4, turns) else {
+        panic!(rt; "no lock")
+    };
+    run(rt, alloc, lock, seats, inbox, gate, deed);
 }
 
 // Two sessions, one after the other, by one seat.
@@ -64,7 +108,7 @@ where
 fn a_second_session_finds_what_the_first_one_left(rt: HostRuntime) {
     let alloc = rt.alloc();
     let gate = shared(&rt, alloc, ShutGate);
-    tell_two(&rt, alloc, open_in_turn(&rt, alloc, 100, 64, gate));
+    run_in_turn(&rt, alloc, 100, 64, gate, Deed::TellTwo);
 }
 
 const SPENDING: &[u8] = b"create a chang\njoin a 5\nmembers a\nstart a\n";
@@ -100,7 +144,7 @@ where
 fn a_spent_seat_is_told_so(rt: HostRuntime) {
     let alloc = rt.alloc();
     let gate = shared(&rt, alloc, ShutGate);
-    spend(&rt, alloc, open_in_turn(&rt, alloc, 2, 64, gate));
+    run_in_turn(&rt, alloc, 2, 64, gate, Deed::Spend);
 }
 
 // The reports of all nodes are known already.
@@ -163,7 +207,7 @@ fn decide_in_turn<R: Abort + Threads + Wait + Clock + Copy + Send + Sync + Drop 
 {
     let gate = new_meeting(rt, alloc);
     let copy = Arc::try_clone(&gate).expect(rt, "no copy");
-    decide(rt, alloc, open_in_turn(rt, alloc, 100, inbox, copy), &gate);
+    run_in_turn(rt, alloc, 100, inbox, copy, Deed::Decide(&gate));
     drop(gate);
 }
 
