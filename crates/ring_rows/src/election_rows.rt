@@ -12,6 +12,7 @@ use ring_lelann::{LeLann, work_is_square};
 use ring_peterson::{Peterson, rounds_shrink};
 use std::alloc::Global;
 use std::process::Abort;
+use std::slice;
 
 /// The numbers of a ring, how many messages its election takes, and on what each member has decided then.
 type Row<'a> = (&'a [u32], u32, &'a [Option<u32>]);
@@ -122,6 +123,14 @@ fn a_falling_ring_reaches_the_bound_of_chang(rt: HostRuntime) {
     }
 }
 
+/// Each of these rows has at most so many messages.
+fn take_at_most(rt: &impl Abort, rows: &[Row], bounds: &[u32]) {
+    assert!(rt; rows.len() == bounds.len());
+    for (row, bound) in rows.iter().zip(bounds) {
+        assert!(rt; row.1 <= *bound);
+    }
+}
+
 /// Elections of Hirschberg and Sinclair.
 const HIRSCHBERG: [Row; 4] = [
     (&[3, 1, 2], 23, &[Some(3), None, None]),
@@ -135,9 +144,9 @@ fn the_greatest_alone_decides_by_hirschberg(rt: HostRuntime) {
     assert!(rt; Hirschberg.two_way() & Hirschberg.greatest());
     phases_are_few();
     messages_are_few();
-    let [three, four, two, one] = &HIRSCHBERG;
-    assert!(rt; (three.1 <= 60) & (four.1 <= 80) & (two.1 <= 24) & (one.1 <= 4));
-    elects(&rt, rt.alloc(), Hirschberg, &HIRSCHBERG);
+    let rows = &HIRSCHBERG;
+    take_at_most(&rt, rows, &[60, 80, 24, 4]);
+    elects(&rt, rt.alloc(), Hirschberg, rows);
 }
 
 /// Elections of Peterson.
@@ -167,9 +176,14 @@ const KINDS: [(Any, Row); 8] = [
     (Any::Peterson, (&[7], 2, &[Some(7)])),
 ];
 
+/// The election of each kind comes to what the row beside it says.
+fn each_elects<E: RingElection>(rt: &impl Abort, alloc: Global, kinds: &[(E, Row)]) {
+    for (kind, row) in kinds {
+        elects(rt, alloc, *kind, slice::from_ref(row));
+    }
+}
+
 #[test]
 fn each_kind_elects_its_winner(rt: HostRuntime) {
-    for (kind, row) in &KINDS {
-        elects(&rt, rt.alloc(), *kind, &[*row]);
-    }
+    each_elects(&rt, rt.alloc(), &KINDS);
 }

@@ -15,26 +15,32 @@ use std::process::Abort;
 use std::sync::Arc;
 
 /// A group is created. Asked for once more where it was refused, as all that follows.
-fn create(rt: &impl Abort, alloc: Global, book: &mut Book<Chang>, group: GroupName) {
-    if book.create(alloc, group, Chang).is_err() {
-        book.create(alloc, group, Chang).expect(rt, "no group");
+fn create<E: RingElection>(
+    rt: &impl Abort,
+    alloc: Global,
+    book: &mut Book<E>,
+    group: GroupName,
+    algorithm: E,
+) {
+    if book.create(alloc, group, algorithm).is_err() {
+        book.create(alloc, group, algorithm).expect(rt, "no group");
     }
 }
 
 /// A member joins.
-fn join(rt: &impl Abort, book: &mut Book<Chang>, group: GroupName, node: NodeId) {
+fn join<E: RingElection>(rt: &impl Abort, book: &mut Book<E>, group: GroupName, node: NodeId) {
     if book.join(group, node).is_err() {
         book.join(group, node).expect(rt, "no member");
     }
 }
 
 /// A term starts.
-fn start(
+fn start<E: RingElection>(
     rt: &impl Abort,
     alloc: Global,
-    book: &mut Book<Chang>,
+    book: &mut Book<E>,
     group: GroupName,
-) -> Arc<Charter<Chang>> {
+) -> Arc<Charter<E>> {
     match book.start(alloc, group) {
         Ok(charter) => charter,
         Err(_) => book.start(alloc, group).expect(rt, "no term"),
@@ -42,7 +48,12 @@ fn start(
 }
 
 /// The terms of a group.
-fn terms(rt: &impl Abort, alloc: Global, book: &Book<Chang>, group: GroupName) -> TermList {
+fn terms<E: RingElection>(
+    rt: &impl Abort,
+    alloc: Global,
+    book: &Book<E>,
+    group: GroupName,
+) -> TermList {
     match book.terms(alloc, group) {
         Ok(terms) => terms,
         Err(_) => book.terms(alloc, group).expect(rt, "no terms"),
@@ -50,9 +61,14 @@ fn terms(rt: &impl Abort, alloc: Global, book: &Book<Chang>, group: GroupName) -
 }
 
 /// A book with a group of 3, 1 and 2, which has no term.
-fn book(rt: &impl Abort, alloc: Global, group: GroupName) -> Book<Chang> {
+fn book<E: RingElection>(
+    rt: &impl Abort,
+    alloc: Global,
+    group: GroupName,
+    algorithm: E,
+) -> Book<E> {
     let mut book = Book::new(alloc);
-    create(rt, alloc, &mut book, group);
+    create(rt, alloc, &mut book, group, algorithm);
     for number in [3, 1, 2] {
         join(rt, &mut book, group, identity(rt, number));
     }
@@ -72,7 +88,7 @@ fn first_report<E: RingElection>(rt: &impl Abort, world: &mut World<E>) -> Repor
 }
 
 /// The first report of the term of this charter, which is the member's with the number 3.
-fn report(rt: &impl Abort, alloc: Global, charter: &Arc<Charter<Chang>>) -> Report<Chang> {
+fn report<E: RingElection>(rt: &impl Abort, alloc: Global, charter: &Arc<Charter<E>>) -> Report<E> {
     let mut world = begun_on(rt, alloc, charter);
     let report = first_report(rt, &mut world);
     drop(world);
@@ -81,18 +97,23 @@ fn report(rt: &impl Abort, alloc: Global, charter: &Arc<Charter<Chang>>) -> Repo
 }
 
 /// The leaders of a group's terms are these.
-fn leaders_are(rt: &impl Abort, alloc: Global, book: &Book<Chang>, leaders: &[Option<NodeId>]) {
+fn leaders_are<E: RingElection>(
+    rt: &impl Abort,
+    alloc: Global,
+    book: &Book<E>,
+    leaders: &[Option<NodeId>],
+) {
     let terms = terms(rt, alloc, book, name(rt));
     equal(rt, "the leaders of the terms", terms.as_slice(), leaders);
     drop(terms);
 }
 
 /// A book makes this of a report, and the leaders of the group's terms are these then.
-fn notes(
+fn notes<E: RingElection>(
     rt: &impl Abort,
     alloc: Global,
-    book: &mut Book<Chang>,
-    report: &Report<Chang>,
+    book: &mut Book<E>,
+    report: &Report<E>,
     noting: Noting,
     leaders: &[Option<NodeId>],
 ) {
@@ -101,7 +122,12 @@ fn notes(
 }
 
 /// The report of a term that has no leader yet is news, and known when it comes again.
-fn is_news_once(rt: &impl Abort, alloc: Global, book: &mut Book<Chang>, report: &Report<Chang>) {
+fn is_news_once<E: RingElection>(
+    rt: &impl Abort,
+    alloc: Global,
+    book: &mut Book<E>,
+    report: &Report<E>,
+) {
     let leaders = [NodeId::new(3)];
     leaders_are(rt, alloc, book, &[None]);
     notes(rt, alloc, book, report, Noting::Noted, &leaders);
@@ -109,7 +135,12 @@ fn is_news_once(rt: &impl Abort, alloc: Global, book: &mut Book<Chang>, report: 
 }
 
 /// A book makes this of the news of a report by the place of its group, where that group's term is the report's.
-fn informs(rt: &impl Abort, book: &mut Book<Chang>, report: &Report<Chang>, noting: Noting) {
+fn informs<E: RingElection>(
+    rt: &impl Abort,
+    book: &mut Book<E>,
+    report: &Report<E>,
+    noting: Noting,
+) {
     let charter = report.charter();
     let place = book.place(charter.group()).expect(rt, "no such group");
     let running = book.running(charter.group()).expect(rt, "no term runs");
@@ -119,32 +150,51 @@ fn informs(rt: &impl Abort, book: &mut Book<Chang>, report: &Report<Chang>, noti
     equal(rt, "news", informed, noting);
 }
 
+/// The report of a book's first term, from a run of its own.
+fn first_term<E: RingElection>(
+    rt: &impl Abort,
+    alloc: Global,
+    book: &mut Book<E>,
+    group: GroupName,
+) -> Report<E> {
+    let charter = start(rt, alloc, book, group);
+    let report = report(rt, alloc, &charter);
+    drop(charter);
+    report
+}
+
+/// News by the group's place, and then a report of the same.
+fn comes_by_place<E: RingElection>(rt: &impl Abort, alloc: Global, algorithm: E) {
+    let group = name(rt);
+    let mut book = book(rt, alloc, group, algorithm);
+    let report = first_term(rt, alloc, &mut book, group);
+    informs(rt, &mut book, &report, Noting::Noted);
+    informs(rt, &mut book, &report, Noting::Known);
+    let leaders = [NodeId::new(3)];
+    notes(rt, alloc, &mut book, &report, Noting::Known, &leaders);
+    drop(report);
+    drop(book);
+}
+
 #[test]
 fn news_by_place_is_that_of_a_report(rt: HostRuntime) {
-    let (alloc, group) = (rt.alloc(), name(&rt));
-    let mut book = book(&rt, alloc, group);
-    let charter = start(&rt, alloc, &mut book, group);
-    let report = report(&rt, alloc, &charter);
-    drop(charter);
-    informs(&rt, &mut book, &report, Noting::Noted);
-    informs(&rt, &mut book, &report, Noting::Known);
-    let leaders = [NodeId::new(3)];
-    notes(&rt, alloc, &mut book, &report, Noting::Known, &leaders);
+    comes_by_place(&rt, rt.alloc(), Chang);
+}
+
+/// A report that comes twice in its term, and once in the next.
+fn comes_late<E: RingElection>(rt: &impl Abort, alloc: Global, algorithm: E) {
+    let group = name(rt);
+    let mut book = book(rt, alloc, group, algorithm);
+    let report = first_term(rt, alloc, &mut book, group);
+    is_news_once(rt, alloc, &mut book, &report);
+    drop(start(rt, alloc, &mut book, group));
+    let leaders = [NodeId::new(3), None];
+    notes(rt, alloc, &mut book, &report, Noting::Stale, &leaders);
     drop(report);
     drop(book);
 }
 
 #[test]
 fn a_report_is_news_once_and_stale_later(rt: HostRuntime) {
-    let (alloc, group) = (rt.alloc(), name(&rt));
-    let mut book = book(&rt, alloc, group);
-    let charter = start(&rt, alloc, &mut book, group);
-    let report = report(&rt, alloc, &charter);
-    drop(charter);
-    is_news_once(&rt, alloc, &mut book, &report);
-    drop(start(&rt, alloc, &mut book, group));
-    let leaders = [NodeId::new(3), None];
-    notes(&rt, alloc, &mut book, &report, Noting::Stale, &leaders);
-    drop(report);
-    drop(book);
+    comes_late(&rt, rt.alloc(), Chang);
 }

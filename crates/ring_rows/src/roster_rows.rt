@@ -7,6 +7,14 @@ use ring_roster::Roster;
 use std::alloc::Global;
 use std::process::Abort;
 
+/// The identities with these numbers are no ring, for this reason.
+fn is_refused(rt: &impl Abort, alloc: Global, numbers: &[u32], refusal: Refusal) {
+    let members = identities(rt, alloc, numbers);
+    let answer = Roster::from_members(alloc, &members).err();
+    drop(members);
+    equal(rt, "a list", answer, Some(refusal));
+}
+
 #[test]
 fn a_list_is_refused_for_the_first_that_holds(rt: HostRuntime) {
     let alloc = rt.alloc();
@@ -15,18 +23,10 @@ fn a_list_is_refused_for_the_first_that_holds(rt: HostRuntime) {
     let most = ring(&rt, alloc, &repeating).len();
     equal(&rt, "the longest", most, Roster::MOST);
     repeating.push(1).expect(&rt, "no memory");
-    let refused: [(&[u32], Refusal); 4] = [
-        (&[], Refusal::Empty),
-        (&[3, 1, 3], Refusal::Member),
-        (&many, Refusal::RingFull),
-        (&repeating, Refusal::RingFull),
-    ];
-    for (numbers, refusal) in &refused {
-        let members = identities(&rt, alloc, numbers);
-        let answer = Roster::from_members(alloc, &members).err();
-        drop(members);
-        equal(&rt, "a list", answer, Some(*refusal));
-    }
+    is_refused(&rt, alloc, &[], Refusal::Empty);
+    is_refused(&rt, alloc, &[3, 1, 3], Refusal::Member);
+    is_refused(&rt, alloc, &many, Refusal::RingFull);
+    is_refused(&rt, alloc, &repeating, Refusal::RingFull);
     drop(many);
     drop(repeating);
 }

@@ -6,6 +6,7 @@
 use crate::equal::equal;
 use crate::worlds::{Did, begun, deliver};
 use ring_any::{Any, AnyMsg};
+use ring_election::RingElection;
 use ring_id::{NodeId, Side};
 use ring_node::{Node, Packet};
 use ring_world::World;
@@ -23,25 +24,32 @@ fn digit_of(id: NodeId) -> u32 {
     }
 }
 
-/// The digit of a message that goes one way. A token has none.
-fn message_digit(message: AnyMsg) -> u32 {
-    match message {
-        AnyMsg::LeLann(id) | AnyMsg::Chang(id) | AnyMsg::Peterson(id) => digit_of(id),
-        AnyMsg::Out { .. } | AnyMsg::Back { .. } => 9,
+/// An election whose messages have digits.
+trait Digits: RingElection {
+    /// The digit of a message that goes one way. A token has none.
+    fn digit(message: Self::Msg) -> u32;
+}
+
+impl Digits for Any {
+    fn digit(message: AnyMsg) -> u32 {
+        match message {
+            AnyMsg::LeLann(id) | AnyMsg::Chang(id) | AnyMsg::Peterson(id) => digit_of(id),
+            AnyMsg::Out { .. } | AnyMsg::Back { .. } => 9,
+        }
     }
 }
 
 /// The digit of what a node has sent to the right at this place.
-fn sent_digit(sender: &Node<Any>, place: usize) -> u32 {
+fn sent_digit<E: Digits>(sender: &Node<E>, place: usize) -> u32 {
     match sender.packet(Side::Right, place) {
-        Some(Packet::Algo(message)) => message_digit(message),
+        Some(Packet::Algo(message)) => E::digit(message),
         Some(Packet::Leader(_)) => 4,
         None => 9,
     }
 }
 
 /// What a sender has sent to the right that its receiver has not taken.
-fn between(sender: &Node<Any>, receiver: &Node<Any>) -> u32 {
+fn between<E: Digits>(sender: &Node<E>, receiver: &Node<E>) -> u32 {
     let mut digits = 0u32;
     for place in receiver.taken(Side::Left)..sender.sent(Side::Right) {
         let digit = sent_digit(sender, place);
@@ -51,7 +59,7 @@ fn between(sender: &Node<Any>, receiver: &Node<Any>) -> u32 {
 }
 
 /// What is in flight in a world of three.
-fn in_flight(world: &World<Any>) -> Option<Links> {
+fn in_flight<E: Digits>(world: &World<E>) -> Option<Links> {
     let [first, second, third] = world.nodes() else {
         return None;
     };
@@ -65,20 +73,33 @@ fn in_flight(world: &World<Any>) -> Option<Links> {
 /// A delivery from the left of a position, what it does, and what it leaves in flight.
 type Leg = (usize, Did, Links);
 
+/// Whether a drain would deliver from the left of this position next.
+fn is_ready<E: RingElection>(world: &World<E>, position: usize) -> bool {
+    match world.ready() {
+        Some((ready, Side::Left)) => ready == position,
+        _ => false,
+    }
+}
+
+/// A world takes a leg, and comes to what that says.
+fn takes<E: Digits>(rt: &impl Abort, world: &mut World<E>, leg: &Leg) {
+    let (position, did, links) = *leg;
+    let done = deliver(rt, world, position, Side::Left);
+    let found = (done, in_flight(world));
+    equal(rt, "a delivery, and in flight", found, (did, Some(links)));
+}
+
 /// The legs on 3, 1, 2, one after another, and nothing is in flight then: how many are on the link on which a drain would
 /// deliver, the first with something in flight.
-fn goes(rt: &impl Abort, alloc: Global, kind: Any, legs: &[Leg]) -> usize {
+fn goes<E: Digits>(rt: &impl Abort, alloc: Global, kind: E, legs: &[Leg]) -> usize {
     let mut world = begun(rt, alloc, kind, &[3, 1, 2]);
     equal(rt, "in flight", in_flight(&world), Some([2, 3, 1]));
     let mut first = 0usize;
-    for (position, did, links) in legs {
-        match world.ready() {
-            Some((ready, Side::Left)) if ready == *position => first = first.saturating_add(1),
-            _ => {}
+    for leg in legs {
+        if is_ready(&world, leg.0) {
+            first = first.saturating_add(1);
         }
-        let done = deliver(rt, &mut world, *position, Side::Left);
-        let found = (done, in_flight(&world));
-        equal(rt, "a delivery, and in flight", found, (*did, Some(*links)));
+        takes(rt, &mut world, leg);
     }
     assert!(rt; world.ready().is_none());
     drop(world);

@@ -6,6 +6,7 @@ use crate::worlds::{begun, drained};
 use ring_any::Any;
 use ring_election::RingElection;
 use ring_id::NodeId;
+use ring_world::World;
 use std::alloc::Global;
 use std::process::Abort;
 
@@ -18,25 +19,38 @@ fn scattered(rt: &impl Abort, alloc: Global, size: u16) -> Vec<u32> {
     numbers
 }
 
-/// Drains a ring of this size, until nothing is in flight and all know this leader; how many messages it
-/// took besides the announcements.
-fn messages(
-    rt: &impl Abort,
-    alloc: Global,
-    kind: impl RingElection,
-    size: u16,
-    leader: u32,
-) -> u128 {
-    let mut world = begun(rt, alloc, kind, &scattered(rt, alloc, size));
-    drained(rt, &mut world, u32::MAX);
+/// A world of this size, in which nothing was delivered.
+fn sized<E: RingElection>(rt: &impl Abort, alloc: Global, kind: E, size: u16) -> World<E> {
+    let numbers = scattered(rt, alloc, size);
+    let world = begun(rt, alloc, kind, &numbers);
+    drop(numbers);
+    world
+}
+
+/// Nothing is in flight in a world, and all know this leader.
+fn all_know<E: RingElection>(rt: &impl Abort, world: &World<E>, leader: Option<NodeId>) {
     assert!(rt; world.pending() == 0);
-    let leader = NodeId::new(leader);
     for node in world.nodes() {
         assert!(rt; node.known() == leader);
     }
-    let messages = world.delivered().checked_sub(size as u128);
+}
+
+/// Drains a ring of this size, until nothing is in flight and all know this leader; how many messages it
+/// took besides the announcements.
+fn messages<E: RingElection>(
+    rt: &impl Abort,
+    alloc: Global,
+    kind: E,
+    size: u16,
+    leader: u32,
+) -> u128 {
+    let mut world = sized(rt, alloc, kind, size);
+    drained(rt, &mut world, u32::MAX);
+    all_know(rt, &world, NodeId::new(leader));
+    let delivered = world.delivered();
     drop(world);
-    messages.expect(rt, "an announcement is missing")
+    assert!(rt; delivered >= u128::from(size), "an announcement is missing");
+    delivered.saturating_sub(u128::from(size))
 }
 
 /// A ring of each kind and size takes at most so many messages until all know this leader.

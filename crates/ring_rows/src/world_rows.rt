@@ -55,8 +55,8 @@ fn goes<E: RingElection>(rt: &impl Abort, world: &mut World<E>, step: &Step) {
 }
 
 /// The steps on 3, 1, 2, one after another, come to what they say.
-fn all_go(rt: &impl Abort, alloc: Global, steps: &[Step]) {
-    let mut world = begun(rt, alloc, Chang, &[3, 1, 2]);
+fn all_go<E: RingElection>(rt: &impl Abort, alloc: Global, algorithm: E, steps: &[Step]) {
+    let mut world = begun(rt, alloc, algorithm, &[3, 1, 2]);
     for step in steps {
         goes(rt, &mut world, step);
     }
@@ -78,7 +78,7 @@ fn a_link_gives_one_packet_and_is_idle_then(rt: HostRuntime) {
         Step::Counts(0, 8),
         Step::Ready(None),
     ];
-    all_go(&rt, rt.alloc(), &steps);
+    all_go(&rt, rt.alloc(), Chang, &steps);
 }
 
 #[test]
@@ -94,7 +94,7 @@ fn a_passage_tells_the_leader_alone(rt: HostRuntime) {
         Step::Pass(1, Side::Left, Did::Told(3)),
         Step::Counts(1, 6),
     ];
-    all_go(&rt, rt.alloc(), &steps);
+    all_go(&rt, rt.alloc(), Chang, &steps);
 }
 
 #[test]
@@ -107,7 +107,7 @@ fn passages_end_where_a_leader_is_told(rt: HostRuntime) {
         Step::Passages(100, 1, None),
         Step::Counts(0, 8),
     ];
-    all_go(&rt, rt.alloc(), &steps);
+    all_go(&rt, rt.alloc(), Chang, &steps);
 }
 
 #[test]
@@ -126,5 +126,5 @@ fn a_cut_link_keeps_what_stands_there(rt: HostRuntime) {
         Step::Cut(2, Side::Left, Ok(())),
         Step::Counts(2, 2),
     ];
-    all_go(&rt, rt.alloc(), &steps);
+    all_go(&rt, rt.alloc(), Chang, &steps);
 }

@@ -1,3 +1,5 @@
+ghost use Rattle.std.specs.Prelude.{◌<◌};
+
 use crate::equal::equal;
 use crate::inbox::alone;
 use ring_inbox::{Put, ReceiverPass, SenderPass, Take, TryTake, inbox};
@@ -5,52 +7,67 @@ use std::alloc::Global;
 use std::process::Abort;
 use std::sync::{Arc, Wait};
 
-// Fills an empty inbox of two by two senders, and empties it.
-fn fill_and_empty<R: Abort + Wait>(
-    rt: &R,
-    receiver: &mut ReceiverPass<u64>,
-    first: &mut SenderPass<u64>,
-    second: &mut SenderPass<u64>,
-    item: u64,
-) {
-    equal(rt, "none", receiver.try_take(rt), TryTake::Empty);
-    equal(rt, "room for two", first.put(rt, item), Put::Stored);
-    equal(rt, "room for one", second.put(rt, 10), Put::Stored);
-    equal(rt, "no room", first.put(rt, 11), Put::Full(11));
-    let wanted = TryTake::Taken(0, item);
-    equal(rt, "the first", receiver.try_take(rt), wanted);
-    equal(rt, "the second", receiver.take(rt), Take::Taken(1, 10));
+// The receiver and the two senders of an inbox of this capacity.
+fn opened(
+    rt: &impl Abort,
+    alloc: Global,
+    capacity: usize,
+) -> (ReceiverPass<u64>, SenderPass<u64>, SenderPass<u64>)
+    requires { 0 < capacity }
+{
+    let (receiver, mut senders) = inbox::<u64>(alloc, capacity, 2).expect(rt, "no memory");
+    let second = senders.pop().expect(rt, "an inbox of two senders");
+    let first = senders.pop().expect(rt, "an inbox of two senders");
+    drop(senders);
+    (receiver, first, second)
+}
+
+// A sender stores an item.
+fn stores<R: Abort + Wait>(rt: &R, sender: &mut SenderPass<u64>, item: u64) {
+    equal(rt, "room", sender.put(rt, item), Put::Stored);
+}
+
+// A sender gets an item back, since the inbox is full.
+fn gets_back<R: Abort + Wait>(rt: &R, sender: &mut SenderPass<u64>, item: u64) {
+    equal(rt, "no room", sender.put(rt, item), Put::Full(item));
+}
+
+// The receiver takes this item of the sender with this number.
+fn takes<R: Abort + Wait>(rt: &R, receiver: &mut ReceiverPass<u64>, sender: usize, item: u64) {
+    equal(rt, "an item", receiver.take(rt), Take::Taken(sender, item));
+}
+
+// The receiver, where it doesn't wait, takes this.
+fn tries<R: Abort + Wait>(rt: &R, receiver: &mut ReceiverPass<u64>, wanted: TryTake<u64>) {
+    equal(rt, "what there is", receiver.try_take(rt), wanted);
 }
 
 #[test]
 fn a_full_inbox_gives_back_and_an_empty_one_has_nothing(rt: HostRuntime) {
-    let opened = inbox::<u64>(rt.alloc(), 2, 2);
-    let (mut receiver, mut senders) = opened.expect(&rt, "no memory");
-    let mut second = senders.pop().expect(&rt, "an inbox of two senders");
-    let mut first = senders.pop().expect(&rt, "an inbox of two senders");
+    let (mut receiver, mut first, mut second) = opened(&rt, rt.alloc(), 2);
     for item in 0..5 {
-        fill_and_empty(&rt, &mut receiver, &mut first, &mut second, item);
+        tries(&rt, &mut receiver, TryTake::Empty);
+        stores(&rt, &mut first, item);
+        stores(&rt, &mut second, 10);
+        gets_back(&rt, &mut first, 11);
+        tries(&rt, &mut receiver, TryTake::Taken(0, item));
+        takes(&rt, &mut receiver, 1, 10);
     }
     drop(receiver);
-    drop(senders);
     drop(first);
     drop(second);
 }
 
 #[test]
 fn an_inbox_of_one_item_is_full_for_each_sender(rt: HostRuntime) {
-    let opened = inbox::<u64>(rt.alloc(), 1, 2);
-    let (mut receiver, mut senders) = opened.expect(&rt, "no memory");
-    let mut second = senders.pop().expect(&rt, "an inbox of two senders");
-    let mut first = senders.pop().expect(&rt, "an inbox of two senders");
-    equal(&rt, "none", receiver.try_take(&rt), TryTake::Empty);
-    equal(&rt, "room for one", first.put(&rt, 7), Put::Stored);
-    equal(&rt, "no room", second.put(&rt, 8), Put::Full(8));
-    equal(&rt, "the first", receiver.take(&rt), Take::Taken(0, 7));
-    equal(&rt, "room again", second.put(&rt, 8), Put::Stored);
-    equal(&rt, "the second", receiver.take(&rt), Take::Taken(1, 8));
+    let (mut receiver, mut first, mut second) = opened(&rt, rt.alloc(), 1);
+    tries(&rt, &mut receiver, TryTake::Empty);
+    stores(&rt, &mut first, 7);
+    gets_back(&rt, &mut second, 8);
+    takes(&rt, &mut receiver, 0, 7);
+    stores(&rt, &mut second, 8);
+    takes(&rt, &mut receiver, 1, 8);
     drop(receiver);
-    drop(senders);
     drop(first);
     drop(second);
 }
@@ -58,11 +75,11 @@ fn an_inbox_of_one_item_is_full_for_each_sender(rt: HostRuntime) {
 #[test]
 fn a_call_says_that_the_other_end_is_gone(rt: HostRuntime) {
     let (mut receiver, mut sender) = alone::<u64>(&rt, rt.alloc());
-    equal(&rt, "room", sender.put(&rt, 5), Put::Stored);
+    stores(&rt, &mut sender, 5);
     drop(sender);
-    equal(&rt, "one is left", receiver.take(&rt), Take::Taken(0, 5));
+    takes(&rt, &mut receiver, 0, 5);
     equal(&rt, "none is left", receiver.take(&rt), Take::Closed);
-    equal(&rt, "none", receiver.try_take(&rt), TryTake::Empty);
+    tries(&rt, &mut receiver, TryTake::Empty);
     drop(receiver);
     let (receiver, mut sender) = alone::<u64>(&rt, rt.alloc());
     drop(receiver);
