@@ -1,17 +1,13 @@
 //! A journal that is rewritten while its table is used, and what a crash leaves of it.
 
-use crate::files::{AGAIN, HEADING, file};
+use crate::files::{AGAIN, file};
 use crate::lives::{copy, new_alarm, reopened, tells};
 use ring_any::Any;
-use ring_journal::{Batch, Fault, Medium, MemoryMedium};
-use ring_recovery::{Alarm, Ending, Recovered, Written, recover};
+use ring_journal::{Medium, MemoryMedium};
+use ring_recovery::{Recovered, Written, recover};
 use ring_table::Recorded;
 use std::alloc::Global;
 use std::process::Abort;
-use std::snapshot::Snapshot;
-use std::sync::{Arc, Wait};
-use std::thread;
-use std::thread::Threads;
 
 // How often a member joins and leaves until a journal is long.
 const OFTEN: u32 = 5000;
@@ -105,60 +101,4 @@ fn a_short_journal_is_not_rewritten(rt: HostRuntime) {
     assert_eq!(rt; found(&rt, alloc, &text).count(), 204);
     drop(text);
     drop(table);
-}
-
-/// A medium in memory whose text is never replaced.
-#[derive(Drop)]
-struct FixedMedium {
-    memory: MemoryMedium,
-    // the text that was to replace it
-    other: Option<Snapshot<Batch>>,
-}
-
-impl Medium for FixedMedium {
-    ghost use Rattle.std.specs.Option.{option_map};
-    ghost use Rattle.ring_journal.specs.Memories.{memory_kept, memory_text};
-
-    ghost moment = { λ m. record { text = memory_text m.memory; kept = memory_kept m.memory; other = option_map (λ batch. batch.value.bytes) m.other } };
-
-    fn append(&mut self, batch: &Batch) -> Result<(), Fault> {
-        self.memory.append(batch)
-    }
-
-    fn sync(&mut self) -> Result<(), Fault> {
-        self.memory.sync()
-    }
-
-    fn replace(&mut self, text: &Batch) -> Result<(), Fault> {
-        self.other = Some(Snapshot::of(text));
-        Err(Fault::Failed)
-    }
-}
-
-// Rings the alarm by a journal that cannot be rewritten. The thread that settles it never ends.
-fn fail<R: Abort + Threads + Wait + Copy + Send + Drop + 'static>(rt: &R, alloc: Global) {
-    let begun = found(
-        rt,
-        alloc,
-        &file(rt, alloc, &[HEADING, b"create a chang #a1f44896"], b""),
-    );
-    let memory = MemoryMedium::new(copy(rt, alloc, begun.text().bytes()));
-    let alarm: Arc<Alarm> = new_alarm(rt, alloc);
-    let bell = Arc::try_clone(&alarm).expect(rt, "no clone");
-    let medium = FixedMedium {
-        memory,
-        other: None,
-    };
-    let mut table = begun.open(alloc, medium, bell);
-    toggle(rt, alloc, &mut table);
-    let handle = *rt;
-    let settles = move || table.settle(&handle);
-    drop(thread::spawn(rt, settles).expect(rt, "no thread"));
-    assert!(rt; alarm.wait(rt) == Ending::Failed);
-    drop(alarm);
-}
-
-#[test]
-fn a_journal_that_cannot_be_rewritten_rings_the_alarm(rt: HostRuntime) {
-    fail(&rt, rt.alloc());
 }

@@ -1,5 +1,6 @@
 pub mod Causes
-mod Taking
+mod Crossing
 mod Replaying
+mod Taking
 mod Telling
 mod Wholes
