@@ -158,11 +158,14 @@ WRONG_READINGS = [zero_taken_for_text, torn_line_taken, last_line_dropped]
 
 def restart_by(reading):
     """Returns a restart that shows what a reading of the journal's file gives. A line that spells no change that may
-    come there is skipped. All readings agree on all whole lines except the last."""
+    come there is skipped. All readings agree on all whole lines except the last. They agree on that one too if it is no
+    change of the life, as when the service has just rewritten the text."""
     def restart(life, image):
-        same = max(image.count - 1, 0)
+        text = whole_text(image.files.get(NAME, b""))
+        last = 0 if text in [it.begun for it in life.epochs[1:]] else 1
+        same = max(image.count - last, 0)
         groups = {name: image.history.group_at(name, same) for name in image.history.names.at(same)}
-        there = max(changes_in(whole_text(image.files.get(NAME, b""))) - 1, 0)
+        there = max(changes_in(text) - last, 0)
         for line in reading(image.files.get(NAME, b"")).splitlines()[1 + there:]:
             words = line.partition(b" #")[0].decode().split(" ")
             name = words[1] if len(words) > 1 else ""
