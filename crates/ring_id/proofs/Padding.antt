@@ -1,4 +1,4 @@
--- Names are the same where they are the same with the zeros that follow them.
+-- Names are the same if they are the same with the zeros that follow them.
 use Rattle.std.proofs.Common.{◌≡◌, ◌-◌, ℕ, zero, suc, true, List, [], ◌∷◌, ◌++◌, length, replicate, refl, sym, ap, ◌∙◌}
 use Rattle.std.specs.List.{list_all}
 use Rattle.std.specs.Str.{bytes_eq}
@@ -11,7 +11,7 @@ use Rattle.ring_id.specs.GroupName.{IsName, is_name_byte, padded}
 no_zero : (b : ℕ) → is_name_byte b ≡ true → b ≡ 0 → ⊥
 no_zero b legal none = let bad : is_name_byte 0 ≡ true = rw none at legal in cc
 
--- so names end where the zeros begin
+-- so a name ends at the first zero
 front_same : (x y : List ℕ) (m n : ℕ) → list_all is_name_byte x ≡ true → list_all is_name_byte y ≡ true → x ++ replicate m 0 ≡ y ++ replicate n 0 → x ≡ y
 front_same [] [] m n p q same = refl
 front_same [] (b ∷ y) zero n p q same = cc
@@ -27,7 +27,7 @@ padded_same : (x y : List ℕ) → IsName x → IsName y → padded x ≡ padded
 unfolding padded
 padded_same x y p q same = front_same x y (16 - length x) (16 - length y) p.each q.each same
 
--- so a comparison of them with their zeros is one of themselves
+-- so comparing names with their zeros compares the names
 pub padded_compared : (a b x y : List ℕ) → a ≡ padded x → b ≡ padded y → IsName x → IsName y → bytes_eq a b ≡ bytes_eq x y
 padded_compared a b x y first second p q =
     let whole = bytes_eq-Decides a b in

@@ -36,17 +36,17 @@ word_in_table OneWay = codes "one-way"
 word_in_table NoMemory = codes "no-memory"
 word_in_table SeatSpent = codes "seat-spent"
 
--- this refusal where the test holds, else the first of the rest
+-- this refusal if the test holds, otherwise the first of the rest
 abbrev pub refused_if : Bool → Refusal → Option Refusal → Option Refusal
 refused_if test refusal rest = cond test (Some refusal) rest
 
--- this refusal where there is no value, else what the value says
+-- this refusal if there is no value, otherwise the refusal that the value gives
 abbrev pub unless_some : {A : Type 0} → Option A → Refusal → (A → Option Refusal) → Option Refusal
 unless_some None refusal rest = Some refusal
 unless_some (Some a) refusal rest = rest a
 
--- The first refusal that holds is answered. Where none holds, memory alone can be refused, and
--- only to a call that grows something.
+-- An answer is the first refusal that holds. If none holds, the answer can only be that an
+-- allocation failed, and only from a call that allocates.
 abbrev pub IsRefusal : Option Refusal → Bool → Refusal → Type 0
 IsRefusal (Some first) grows refusal = refusal ≡ first
 IsRefusal None grows refusal = (grows ≡ true) × (refusal ≡ NoMemory)

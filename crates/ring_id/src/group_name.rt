@@ -27,7 +27,8 @@ impl Model for GroupName {
 
     ghost view = { λ a. take a.len a.bytes };
 
-    ghost invariant = { λ a. IsName (take a.len a.bytes) × (a.len ≡ length (take a.len a.bytes)) × (a.bytes ≡ padded (take a.len a.bytes)) };
+    ghost invariant = { λ a. IsName (take a.len a.bytes) × (a.len ≡ length (take a.len a.bytes))
+        × (a.bytes ≡ padded (take a.len a.bytes)) };
 
     ghost inverse = { λ bytes. record { bytes = padded bytes; len = length bytes } };
 
@@ -35,7 +36,7 @@ impl Model for GroupName {
 }
 
 impl GroupName {
-    /// The name with these bytes; refused as a bad line exactly where they are no name.
+    /// Returns the name with these bytes; `BadLine` if they are no name.
     pub fn from_bytes(bytes: &[u8]) -> Result<GroupName, Refusal>
         ensures taken { IsOk result ↔ IsName bytes.now }
         ensures ok { IfOk result (λ name. name ≡ bytes.now) }
@@ -79,7 +80,7 @@ impl PartialEq for GroupName {
     ghost laws = { partial_equiv_from_equiv nat_list_eq_equiv };
 
     fn eq(&self, other: &GroupName) -> bool {
-        // the zeros behind a name say its length, so all of it is compared, in two words
+        // the zeros after a name give its length, so both words are compared whole
         self.bytes == other.bytes
     }
 }
@@ -98,7 +99,8 @@ impl Hash for GroupName {
 
     ghost hash_input = { λ name. padded name ∷ [] };
 
-    ghost respects_eq = { λ x y h. ap (λ (b : List ℕ). padded b ∷ []) ((bytes_eq-Decides x y).0 h) };
+    ghost respects_eq = { λ x y h. ap (λ (b : List ℕ). padded b ∷ [])
+        ((bytes_eq-Decides x y).0 h) };
 
     fn hash<H: Hasher>(&self, state: &mut H) {
         state.write(&self.bytes);

@@ -9,7 +9,7 @@ use std::cmp::Ordering;
 use std::hash::{Hash, Hasher};
 use std::marker::Model;
 
-/// The number of a node, from 1 to 4294967295: what a node is called by, and looked up.
+/// The number of a node, from 1 to 4294967295: clients name a node and look it up by its number.
 ///
 /// Contracts see it as that natural number.
 #[derive(Clone, Copy, Debug, PartialEq, Eq, PartialOrd, Ord, Hash)]
@@ -30,7 +30,7 @@ impl Model for NodeNo {
 }
 
 impl NodeNo {
-    /// The node number that is this one; none for 0.
+    /// Returns the node number with this value; `None` for 0.
     pub fn new(number: u32) -> Option<NodeNo>
         ensures there { IsSome result ↔ (0 < number) }
         ensures value { IfSome result (λ node. node ≡ number) }
@@ -52,13 +52,13 @@ impl NodeNo {
 
 /// The identity of a node: its number, from 1 to 4294967295, and a weight of 0 to 65535.
 ///
-/// Identities are compared by their weights and, where these are equal, by their numbers; two are
-/// equal exactly where both are. Contracts see an identity as its rank, the weight times 2^32 plus
-/// the number, which has the same order. Comparison of identities is all that the ring algorithms
-/// ever do with them (Lynch, Distributed Algorithms, 3.1).
+/// Identities are compared by weight. If the weights are equal, they are compared by number. Two
+/// identities are equal if and only if both parts are equal. Contracts see an identity as its rank,
+/// the weight times 2^32 plus the number. The rank has the same order. Ring algorithms only ever
+/// compare identities (Lynch, Distributed Algorithms, 3.1).
 #[derive(Clone, Copy, Debug)]
 pub struct NodeId {
-    // in this order the two are read as one word, the rank
+    // in this order both fields are read as one word, the rank
     number: NodeNo,
     weight: u32,
 }
@@ -76,11 +76,12 @@ impl Model for NodeId {
 
     ghost inverse = { λ rank. record { number = number_of rank; weight = weight_of rank } };
 
-    ghost inverse_ok = { λ a h. Prim.rw (weight_of-rank a.weight a.number h.1, number_of-rank a.weight a.number h.1) refl };
+    ghost inverse_ok = { λ a h. Prim.rw
+        (weight_of-rank a.weight a.number h.1, number_of-rank a.weight a.number h.1) refl };
 }
 
 impl NodeId {
-    /// The identity with this number and weight 0; none for the number 0.
+    /// Returns the identity with this number and weight 0; `None` for the number 0.
     pub fn new(number: u32) -> Option<NodeId>
         ensures there { IsSome result ↔ (0 < number) }
         ensures value { IfSome result (λ id. id ≡ number) }
@@ -88,7 +89,7 @@ impl NodeId {
         NodeId::weighted(number, 0)
     }
 
-    /// The identity with this number and this weight; none for the number 0.
+    /// Returns the identity with this number and this weight; `None` for the number 0.
     pub fn weighted(number: u32, weight: u16) -> Option<NodeId>
         ensures there { IsSome result ↔ (0 < number) }
         ensures value { IfSome result (λ id. id ≡ rank_of weight number) }
@@ -102,8 +103,8 @@ impl NodeId {
         })
     }
 
-    /// The number of this identity, by which it is looked up. With the weight it says the whole
-    /// identity: its rank is made of the two.
+    /// The number of this identity, by which it is looked up. The number and the weight make up the
+    /// rank, so together they give the whole identity.
     pub fn number(self) -> NodeNo
         ensures value { result ≡ number_of self }
         ensures whole { self ≡ rank_of (weight_of self) result }
@@ -111,7 +112,7 @@ impl NodeId {
         self.number
     }
 
-    /// The weight of this identity, 0 where it was given none.
+    /// The weight of this identity, 0 if it was given none.
     pub fn weight(self) -> u16
         ensures value { result ≡ weight_of self }
     {
@@ -182,15 +183,15 @@ impl Hash for NodeId {
     }
 }
 
-/// Whether the first of two identities is the greater one: it weighs more, or as much and its number
-/// is greater. This is the order of ranks, by which `>` compares identities everywhere.
+/// Whether the first of two identities is greater: its weight is greater, or the weights are equal
+/// and its number is greater. This is the order of ranks, and the order of `>`.
 pub fn is_greater(a: NodeId, b: NodeId) -> bool
     ensures { IsTrue result ↔ (b < a) }
 {
     a > b
 }
 
-/// Whether two lists hold the same identities in the same order. Takes no memory.
+/// Whether two lists hold the same identities in the same order. Does not allocate.
 pub fn same_ids(a: &[NodeId], b: &[NodeId]) -> bool
     ensures { IsTrue result ↔ (a.now ≡ b.now) }
 {
@@ -198,7 +199,7 @@ pub fn same_ids(a: &[NodeId], b: &[NodeId]) -> bool
         return false;
     }
     let mut same = true;
-    // lists that are asked about are nearly always the same, so the loop has no way out
+    // compared lists are nearly always equal, so the loop does not leave early
     for place in 0..a.len() {
         same &= a[place] == b[place];
     }

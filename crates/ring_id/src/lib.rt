@@ -1,8 +1,8 @@
-//! Identities, group names, term numbers, sides and refusals: the words that every layer shares.
+//! Identities, group names, term numbers, sides and refusals: the words that all layers share.
 //!
-//! An identity is its rank: contracts above see one natural number and its order, and nothing of
-//! how an identity is stored. A group name is the list of its bytes, a term number is its number.
-//! There is one value for each of them, and one spelling of each value.
+//! Contracts see an identity as its rank, one natural number, and not how it is stored. They see a
+//! group name as the list of its bytes, and a term number as a number. Each of them has one value,
+//! and each value has one spelling.
 #![tactic(auto)]
 
 mod group_name;

@@ -3,7 +3,7 @@ ghost use Rattle.ring_id.specs.Refusals.{number_in_table, word_in_table};
 
 use std::alloc::AllocError;
 
-/// A growth was refused: the call that asked for it has changed nothing.
+/// An allocation failed. The call that asked for it has changed nothing.
 #[derive(Clone, Copy, Debug, PartialEq, Eq)]
 pub struct NoMemory;
 
@@ -22,13 +22,13 @@ pub enum Refusal {
     NoGroup,
     /// A group has this name.
     Exists,
-    /// 256 groups stand.
+    /// There are 256 groups.
     GroupLimit,
     /// Already a member, or twice in a list.
     Member,
     /// Not a member.
     NotMember,
-    /// 256 members stand, or a list of more than 256.
+    /// The group has 256 members, or a list has more than 256.
     RingFull,
     /// No members.
     Empty,
@@ -40,14 +40,14 @@ pub enum Refusal {
     NotInTerm,
     /// The algorithm sends nothing that arrives from the right.
     OneWay,
-    /// A growth was refused.
+    /// An allocation failed.
     NoMemory,
-    /// The seat by which a table is reached has used up its turns.
+    /// The seat has used up its turns at the table.
     SeatSpent,
 }
 
 impl Refusal {
-    /// The number of this refusal, from 1 on, by which the order of refusals is documented.
+    /// The number of this refusal, counted from 1. Documents order refusals by it.
     pub fn number(self) -> u8
         ensures { result ≡ number_in_table self }
     {

@@ -1,7 +1,7 @@
 ghost use Rattle.std.specs.Prelude.{◌≡◌};
 ghost use Rattle.ring_id.specs.Sides.{other};
 
-/// One of the two neighbours of a node on its ring. Right of a member is the one that joined next.
+/// One of the two neighbours of a node on its ring. The right neighbour of a member joined next.
 #[derive(Clone, Copy, Debug, PartialEq, Eq, PartialOrd, Ord, Hash)]
 pub enum Side {
     /// Towards the member that joined before.
@@ -11,7 +11,7 @@ pub enum Side {
 }
 
 impl Side {
-    /// The other side: what is sent to one side arrives from the other.
+    /// Returns the other side. A message sent to one side arrives from the other.
     pub fn other(self) -> Side
         ensures { result ≡ other self }
     {

@@ -3,10 +3,12 @@ ghost use Rattle.ring_id.specs.Term.{IsTerm};
 
 use std::marker::Model;
 
-/// The number of a term of a group: from 1 to 1000, in the order in which terms were started.
+/// The number of a term of a group, from 1 to 1000. Terms are numbered in the order of their
+/// starts.
 #[derive(Clone, Copy, Debug, PartialEq, Eq, PartialOrd, Ord, Hash)]
 pub struct TermNo {
-    // as wide as the number of a node: a reply of a term and its leader is then copied in whole words
+    // as wide as the number of a node, so that a reply of a term and its leader is copied in whole
+    // words
     number: u32,
 }
 
@@ -24,10 +26,10 @@ impl Model for TermNo {
 }
 
 impl TermNo {
-    /// The greatest term number: a group has at most this many terms.
+    /// The greatest term number. A group has at most this many terms.
     pub const MOST: u16 = 1000;
 
-    /// The term with this number; none outside 1 to 1000.
+    /// Returns the term with this number; `None` outside 1 to 1000.
     pub fn new(number: u16) -> Option<TermNo>
         ensures there { IsSome result ↔ IsTerm number }
         ensures value { IfSome result (λ term. term ≡ number) }

@@ -1,13 +1,13 @@
--- A weight and a number say a rank, and a rank says both.
+-- A weight and a number give a rank, and a rank gives both.
 use Rattle.std.specs.Prelude.{◌≡◌, ◌<◌, ℕ}
 use Rattle.std.proofs.Common.{arith}
 use Rattle.ring_id.specs.Identity.{number_of, rank_of, weight_of}
 
--- the number of a rank is the one that it was made of
+-- the number of a rank is the number that it was made of
 pub number_of-rank : (weight number : ℕ) → number < 4294967296 → number_of (rank_of weight number) ≡ number
 number_of-rank weight number below = omega arith
 
--- so is its weight
+-- the weight of a rank is the weight that it was made of
 pub weight_of-rank : (weight number : ℕ) → number < 4294967296 → weight_of (rank_of weight number) ≡ weight
 weight_of-rank weight number below = omega arith
 

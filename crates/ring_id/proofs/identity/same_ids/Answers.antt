@@ -1,4 +1,4 @@
--- Two lists are the same where they have one length and each pair of their elements is equal.
+-- Two lists are the same if they have one length and each pair of their elements is equal.
 use Rattle.std.proofs.Common.{◌≡◌, ℕ, ◌+◌, ◌<◌, ◌↔◌, ◌&&◌, Bool, true, false, IsTrue, List, get_or, length, nat_eq, refl, sym, ap, ◌∙◌, inl, inr, arith}
 use Rattle.std.proofs.lemmas.Bool.{cases_lt}
 use Rattle.std.proofs.lemmas.Bool.Decides.{nat_tests}

@@ -20,6 +20,6 @@ invariant_of-result c =
     filled _ _ (record { some = search rules; short = search rules; each = search rules })
     (rw c.copy_from_slice.ensures.after refl)
 
--- what is refused is no name
+-- refused bytes are no name
 pub returns-then-is_empty-clause-taken : goal.returns-then-is_empty-clause-taken
 returns-then-is_empty-clause-taken c = search rules

@@ -1,4 +1,4 @@
--- Ranks are compared, which are the identities.
+-- The code compares ranks, and contracts see an identity as its rank.
 use Rattle.std.proofs.Common.{rules}
 use Rattle.ring_id.proofs.identity.NodeIdOrd.cmp.Goals as goal
 
