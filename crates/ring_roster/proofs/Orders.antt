@@ -1,4 +1,4 @@
--- In the order of their numbers, a ring's members are found where they stand.
+-- The order of numbers finds each member of a ring at its position.
 use Rattle.std.proofs.Common.{◌≡◌, ◌+◌, ◌<◌, ◌≤◌, ℕ, zero, suc, false, List, [], ◌∷◌, ◌++◌, length, get_or, None, Some, sym, ◌∙◌, ap, arith, eq-eqb, inl, inr}
 use Rattle.std.specs.List.{list_any, position_or_len, All, Contains, HoldsAt}
 use Rattle.std.specs.List.Sorted.{IsNonDecreasingBy, IsPartitionPoint, IsPermutation}
@@ -13,7 +13,7 @@ use Rattle.std.proofs.lemmas.List.Sums.{position_or_len_is}
 use Rattle.ring_roster.specs.private.Order.{IsOrder, number_at}
 use Rattle.ring_roster.specs.Ring.{has_number, has_repeat, is_numbered, position_of}
 
--- where no member has this one's number, the one at a place hasn't
+-- if no member has this number, the member at a place does not have it
 none_at : (node : ℕ) (others : List ℕ) (k : ℕ) → list_any (has_number node) others ≡ false → k < length others → has_number node (get_or others k 0) ≡ false
 none_at node [] k none below = absurd (omega arith)
 none_at node (x ∷ xs) zero none below = (or_parts (has_number node x) (list_any (has_number node) xs) none).0
@@ -46,21 +46,21 @@ position_absent ring node none =
     (λ below. absurd (omega arith)) in
     grind (arith, nat_tests)
 
--- what a search finds in the order is a position with the number
+-- a position that the search finds in the order has the number
 pub found_in_order : (ring order : List ℕ) (node at : ℕ) → IsOrder ring order → at < length order → HoldsAt (λ position. nat_cmp (number_at ring position) node ≡ Equal) order at
     → (get_or order at 0 < length ring) × (number_at ring (get_or order at 0) ≡ node)
 found_in_order ring order node at is below equal =
     (All-get_or (λ position. position < length ring) order at 0 below is.sound, ranked (number_at ring (get_or order at 0)) node Equal (sym (equal 0)))
 
--- comparisons rise with what is compared
+-- comparisons rise with the compared numbers
 comparison_rises : (a b n : ℕ) → a ≤ b → ordering_index (nat_cmp a n) ≤ ordering_index (nat_cmp b n)
 comparison_rises a b n up = grind (arith, nat_tests)
 
--- between what is less and what is greater nothing is equal
+-- no number between the lesser and the greater ones is equal
 neither : (a n k at : ℕ) → (k < at → a < n) → (at ≤ k → n < a) → a ≡ n → ⊥
 neither a n k at low high same = grind (arith, low, high)
 
--- where a search finds nothing in the order, no position has the number
+-- if the search finds nothing in the order, no position has the number
 pub absent_in_order : (ring order : List ℕ) (node at : ℕ) → IsOrder ring order
     → (IsNonDecreasingBy (λ position. ordering_index (nat_cmp (number_at ring position) node)) order → IsPartitionPoint (λ position. nat_cmp (number_at ring position) node ≡ Less) (λ position. nat_cmp (number_at ring position) node ≡ Greater) order at)
     → (position : ℕ) → position < length ring → number_at ring position ≡ node → ⊥

@@ -16,7 +16,7 @@ is_numbered number member = number_of member == number
 abbrev pub has_number : ℕ → ℕ → Bool
 has_number node member = is_numbered (number_of node) member
 
--- whether some number stands twice
+-- whether two members have one number
 abbrev pub has_repeat : List ℕ → Bool
 has_repeat [] = false
 has_repeat (member ∷ others) = list_any (has_number member) others || has_repeat others
@@ -55,7 +55,7 @@ neighbour n i Right = right_of n i
 abbrev pub leftward : List ℕ → ℕ → List ℕ
 leftward ring i = reverse (take (i + 1) ring) ++ reverse (drop (i + 1) ring)
 
--- the greatest of some identities, or 0 where there are none
+-- the greatest of some identities, or 0 if there are none
 abbrev pub greatest_of : List ℕ → ℕ
 greatest_of [] = 0
 greatest_of (member ∷ others) = max member (greatest_of others)

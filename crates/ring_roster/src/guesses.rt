@@ -3,18 +3,18 @@ ghost use Rattle.std.specs.Prelude.{◌≤◌, length};
 use ring_id::{NoMemory, NodeId, NodeNo};
 use std::alloc::Global;
 
-/// Where a member may stand, by the last bits of its number.
+/// Guesses of members' positions, by the last bits of their numbers.
 ///
-/// A guess may be wrong: of several members with the same last bits it is the last one's position. No clause
-/// speaks of guesses, and who looks up a member compares its number. There are at least four times as many
-/// as members, since more would be wrong among fewer.
+/// A guess may be wrong: if several members have the same last bits, it is the position of the last
+/// of them. No clause speaks of guesses, so a look-up compares the member's number. There are at
+/// least four guesses for each member, since fewer would be wrong more often.
 #[derive(Debug, Drop)]
 pub(crate) struct Guesses {
     positions: Vec<u8>,
 }
 
 impl Guesses {
-    /// The guesses for these members.
+    /// Returns the guesses for these members.
     pub(crate) fn new(alloc: Global, members: &[NodeId]) -> Result<Guesses, NoMemory>
         requires { length members.now ≤ 256 }
     {
@@ -39,7 +39,7 @@ impl Guesses {
         }
     }
 
-    // Where the guess for a number stands: how many there are is a power of two.
+    // The place of the guess for a number. The number of guesses is a power of two.
     fn place(&self, node: NodeNo) -> usize {
         node.get() as usize & self.positions.len().wrapping_sub(1)
     }

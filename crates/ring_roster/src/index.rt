@@ -7,20 +7,20 @@ use crate::order::{order_of, position_in, stands_at};
 use ring_id::{NoMemory, NodeId, NodeNo};
 use std::alloc::Global;
 
-/// By what the members of a ring are found.
+/// The means by which the members of a ring are found.
 #[derive(Debug, Drop)]
 pub(crate) enum Index {
-    /// Nothing: they are so few that all are looked at.
+    /// None: there are so few members that the search looks at each.
     Few,
-    /// The positions in the order of numbers, in which is looked where the guess is wrong.
+    /// The positions in the order of numbers. The search uses it if the guess is wrong.
     Many { order: Vec<u8>, guesses: Guesses },
 }
 
-/// The most members that are found by nothing.
+/// The most members without an index.
 const FEW: usize = 8;
 
 impl Index {
-    /// The index of these members.
+    /// Returns the index of these members.
     pub(crate) fn new(alloc: Global, members: &[NodeId]) -> Result<Index, NoMemory>
         requires { length members.now ≤ 256 }
         ensures { IfOk result (λ index. IsIndexOf members.now index) }
@@ -33,7 +33,7 @@ impl Index {
         Ok(Index::Many { order, guesses })
     }
 
-    /// The position of the member with this number; none where there is no such member.
+    /// The position of the member with this number; `None` if there is none.
     pub(crate) fn find(&self, members: &[NodeId], node: NodeNo) -> Option<usize>
         requires ring { IsRing members.now }
         requires index { IsIndexOf members.now self.now }

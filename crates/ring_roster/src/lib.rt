@@ -1,7 +1,7 @@
 //! Rosters: the rings on which terms are decided.
 //!
-//! A roster is a list of 1 to 256 identities that differ in their numbers. Position `i` has its
-//! right neighbour at the next position and its left neighbour at the one before, cyclically.
+//! A roster is a list of 1 to 256 identities with different numbers. The right neighbour of a
+//! position is the next position, and its left neighbour is the one before, cyclically.
 #![tactic(auto)]
 
 mod guesses;

@@ -6,7 +6,7 @@ use ring_id::{NoMemory, NodeId, NodeNo, Side, same_ids};
 use std::alloc::Global;
 use std::marker::Model;
 
-/// The members of a ring, with what they are found by. Contracts see the list of their identities.
+/// The members of a ring with their index. Contracts see the list of their identities.
 #[derive(Debug, Drop)]
 pub(crate) struct Members {
     list: Vec<NodeId>,
@@ -26,7 +26,7 @@ impl Model for Members {
 }
 
 impl Members {
-    /// These identities, which are a ring.
+    /// Returns the members with these identities, which are a ring.
     pub(crate) fn new(alloc: Global, list: &[NodeId]) -> Result<Members, NoMemory>
         requires { IsRing list.now }
         ensures { IfOk result (λ members. members ≡ list.now) }
@@ -38,7 +38,7 @@ impl Members {
         Ok(Members { list, index })
     }
 
-    /// Their number.
+    /// The number of members.
     pub(crate) fn len(&self) -> usize
         ensures value { result ≡ length self.now }
         ensures ring { IsRing self.now }
@@ -46,7 +46,7 @@ impl Members {
         self.list.len()
     }
 
-    /// The identity at this position; none past the last.
+    /// The identity at this position; `None` past the last.
     pub(crate) fn at(&self, position: usize) -> Option<NodeId>
         ensures value { result ≡ slice_get self.now position }
         ensures ring { IsRing self.now }
@@ -54,14 +54,14 @@ impl Members {
         self.list.get(position).copied()
     }
 
-    /// The position of the member with this number; none where there is no such member.
+    /// The position of the member with this number; `None` if there is none.
     pub(crate) fn position(&self, node: NodeNo) -> Option<usize>
         ensures { result ≡ position_of node self.now }
     {
         self.index.find(&self.list, node)
     }
 
-    /// The position next to this one at that side.
+    /// The position next to this one on that side.
     pub(crate) fn neighbour(&self, position: usize, side: Side) -> usize
         requires { position < length self.now }
         ensures value { result ≡ neighbour (length self.now) position side }
@@ -76,14 +76,14 @@ impl Members {
         }
     }
 
-    /// Whether they are these identities in this order.
+    /// Whether the members are these identities in this order.
     pub(crate) fn are(&self, list: &[NodeId]) -> bool
         ensures { IsTrue result ↔ (self.now ≡ list.now) }
     {
         same_ids(&self.list, list)
     }
 
-    /// Whether they are the same identities in the same order.
+    /// Whether both have the same identities in the same order.
     pub(crate) fn same(&self, other: &Members) -> bool
         ensures { IsTrue result ↔ (self.now ≡ other.now) }
     {

@@ -19,12 +19,13 @@ pub(crate) fn order_of(alloc: Global, members: &[NodeId]) -> Result<Vec<u8>, NoM
     Ok(order)
 }
 
-/// The position of the member with this number, looked up in the order of numbers; none where there
-/// is no such member.
+/// The position of the member with this number, found by binary search; `None` if there is none.
 pub(crate) fn position_in(members: &[NodeId], order: &[u8], node: NodeNo) -> Option<u8>
     requires { IsOrder members.now order.now }
-    ensures some { IfSome result (λ position. (position < length members.now) × (number_at members.now position ≡ node)) }
-    ensures none { IfNone result ((position : ℕ) → position < length members.now → number_at members.now position ≢ node) }
+    ensures some { IfSome result
+        (λ position. (position < length members.now) × (number_at members.now position ≡ node)) }
+    ensures none { IfNone result
+        ((position : ℕ) → position < length members.now → number_at members.now position ≢ node) }
 {
     match order.binary_search_by_key(&node.get(), |position| number_at(members, *position)) {
         Ok(place) => Some(order[place]),
@@ -34,7 +35,8 @@ pub(crate) fn position_in(members: &[NodeId], order: &[u8], node: NodeNo) -> Opt
 
 /// Whether the member at this position has this number.
 pub(crate) fn stands_at(members: &[NodeId], position: u8, node: NodeNo) -> bool
-    ensures { IsTrue result ↔ ((position < length members.now) × (number_at members.now position ≡ node)) }
+    ensures { IsTrue result
+        ↔ ((position < length members.now) × (number_at members.now position ≡ node)) }
 {
     match members.get(position as usize) {
         Some(member) => member.number() == node,
@@ -42,7 +44,7 @@ pub(crate) fn stands_at(members: &[NodeId], position: u8, node: NodeNo) -> bool
     }
 }
 
-/// The number of the member at this position; 0 where there is none.
+/// The number of the member at this position; 0 if there is none.
 fn number_at(members: &[NodeId], position: u8) -> u32
     ensures { result ≡ number_at members.now position }
 {

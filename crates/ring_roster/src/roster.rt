@@ -10,10 +10,10 @@ use std::marker::Model;
 use std::sync::Arc;
 
 /// The ring of a term: a list of 1 to 256 identities with different numbers, in joining order. Two
-/// of one number are refused, whatever their weights.
+/// identities with one number are refused, whatever their weights are.
 ///
-/// Contracts see a roster as the list of its identities (Lynch, Distributed Algorithms, 3.1).
-/// None of the calls but `from_members` and `of_ring` takes memory: a ring may have several owners.
+/// Contracts see a roster as the list of its identities (Lynch, Distributed Algorithms, 3.1). Only
+/// `from_members` and `of_ring` allocate: copies made by `shared` have the same ring in memory.
 #[derive(Debug, Drop)]
 pub struct Roster {
     members: Arc<Members>,
@@ -31,9 +31,9 @@ impl Roster {
     /// The greatest number of members of a ring.
     pub const MOST: usize = 256;
 
-    /// The ring of these identities in this order. Refused, the first that holds: `Empty` where
-    /// there are none, `RingFull` where there are more than 256, `Member` where a number stands
-    /// twice, `NoMemory`.
+    /// Returns the ring of these identities in this order. Refused, the first that holds: `Empty`
+    /// if there are none, `RingFull` if there are more than 256, `Member` if two have one number,
+    /// `NoMemory`.
     pub fn from_members(alloc: Global, members: &[NodeId]) -> Result<Roster, Refusal>
         ensures ok { IfOk result (λ ring. ring ≡ members.now) }
         ensures accepted { IfOk result (λ _. ring_refusal members.now ≡ None) }
@@ -54,8 +54,8 @@ impl Roster {
         Ok(ring)
     }
 
-    /// The ring of these identities in this order, where they are known to be a ring: it looks for
-    /// no repeats, and its time grows with their number alone. Refused for want of memory alone.
+    /// Returns the ring of these identities in this order, if they are known to be a ring. It does
+    /// not look for repeats. `NoMemory` if an allocation fails.
     pub fn of_ring(alloc: Global, members: &[NodeId]) -> Result<Roster, NoMemory>
         requires { IsRing members.now }
         ensures { IfOk result (λ ring. ring ≡ members.now) }
@@ -66,8 +66,8 @@ impl Roster {
         Ok(Roster { members })
     }
 
-    /// The same ring, which shares what this one has. Refused for want of memory alone, where it has too
-    /// many owners.
+    /// Returns the same ring, which shares the memory of this one. `NoMemory` if it has too many
+    /// owners.
     pub fn shared(&self) -> Result<Roster, NoMemory>
         ensures { IfOk result (λ ring. ring ≡ self.now) }
     {
@@ -85,7 +85,7 @@ impl Roster {
         self.members.len()
     }
 
-    /// The identity at this position; none past the last.
+    /// The identity at this position; `None` past the last.
     pub fn at(&self, position: usize) -> Option<NodeId>
         ensures value { result ≡ slice_get self.now position }
         ensures ring { IsRing self.now }
@@ -93,15 +93,15 @@ impl Roster {
         self.members.at(position)
     }
 
-    /// The position of the member with this number; none where there is no such member.
+    /// The position of the member with this number; `None` if there is none.
     pub fn position(&self, node: NodeNo) -> Option<usize>
         ensures { result ≡ position_of node self.now }
     {
         self.members.position(node)
     }
 
-    /// The position next to this one at that side. In a ring of one it is the node itself; in a
-    /// ring of two both neighbours are the other node.
+    /// The position next to this one on that side. In a ring of one it is the position itself; in a
+    /// ring of two both neighbours are the other position.
     pub fn neighbour(&self, position: usize, side: Side) -> usize
         requires { position < length self.now }
         ensures value { result ≡ neighbour (length self.now) position side }
@@ -117,7 +117,7 @@ impl Roster {
         self.members.same(&other.members)
     }
 
-    /// Whether these are the members, in this order.
+    /// Whether the members are these identities in this order.
     pub fn is_of(&self, members: &[NodeId]) -> bool
         ensures { IsTrue result ↔ (self.now ≡ members.now) }
     {
@@ -139,7 +139,7 @@ fn repeats(members: &[NodeId]) -> bool
     false
 }
 
-/// Whether one of these identities has this one's number.
+/// Whether one of these identities has the number of this one.
 fn is_among(node: NodeId, members: &[NodeId]) -> bool
     ensures { result ≡ list_any (has_number node) members.now }
 {

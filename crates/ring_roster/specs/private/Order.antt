@@ -3,11 +3,11 @@ use Rattle.std.specs.Prelude.{ℕ, ◌<◌, List, length, slice_index, All, Cont
 use Rattle.std.specs.List.Sorted.{IsNonDecreasingBy}
 use Rattle.ring_id.specs.Identity.{number_of}
 
--- the number at this position; 0 behind the last
+-- the number at this position; 0 past the last
 abbrev pub number_at : List ℕ → ℕ → ℕ
 number_at ring position = number_of (slice_index ring position)
 
--- All positions of a ring, in the order of the numbers that stand there.
+-- All positions of a ring, in the order of the numbers of their members.
 pub record IsOrder (ring order : List ℕ) : Type 0 where
   pub rising : IsNonDecreasingBy (number_at ring) order
   pub sound : All (λ position. position < length ring) order

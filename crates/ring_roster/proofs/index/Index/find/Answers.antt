@@ -1,4 +1,5 @@
--- A guess that is right, a place in the order, and a place that is looked at have the number; so has the one found by looking at all.
+-- A right guess and a place found in the order have the number, and so has the member found by a
+-- search of all.
 use Rattle.std.proofs.Common.{rules, sym, tests}
 use Rattle.std.proofs.lemmas.Iterator.{YieldsList-from_slice}
 use Rattle.std.proofs.lemmas.Iterator.Search.{position_from_yields_List}

@@ -10,7 +10,7 @@ none_past [] i past = refl
 none_past (x ∷ xs) zero past = absurd (omega arith)
 none_past (x ∷ xs) (suc i) past = none_past xs i (omega arith)
 
--- what is there, copied, is the element at the place
+-- the copied element is the element at the place
 copied_at : (r : Option (Bor ℕ)) (xs : List ℕ) (i : ℕ)
     → IfSome r (λ x. x.now ≡ get_or xs i x.now)
     → MatchOption r (length xs ≤ i) (λ x. (i < length xs) × HoldsAt (λ y. x.now ≡ y) xs i)

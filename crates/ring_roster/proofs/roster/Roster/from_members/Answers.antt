@@ -1,4 +1,4 @@
--- Where a number stands twice, that is the first fault.
+-- If two members have one number, that is the first fault.
 use Rattle.std.proofs.Common.{rules}
 use Rattle.ring_roster.proofs.roster.Roster.from_members.Goals as goal
 
