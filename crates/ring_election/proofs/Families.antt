@@ -23,8 +23,8 @@ taken-right_of t ring family i sender complete here =
     complete.taken (right_of (length ring) i) Left sender (neighbour-below (length ring) i Right below) (ap (slice_get ring) back ∙ here)
     ∙ ap (λ (p : ℕ). sent_after t sender Right (family p)) back
 
--- In a complete family a message that position g sends to the right, and that each other position
--- sends there where it takes it from the left, is taken from the left by every position.
+-- In a complete family, let position g send a message to the right, and let each other position
+-- pass it on. Then every position takes it from the left.
 pub goes_round : {S M : Type 0} (t : Table S M) (ring : List ℕ) (family : ℕ → List (Side × M)) (g me : ℕ) (m : M) → IsComplete t ring family
     → slice_get ring g ≡ Some me
     → IsIn (sent_after t me Right (family g)) m
@@ -47,7 +47,7 @@ length-taken {M} (r ∷ rs) =
     elim r.0 as (λ side. length (cond (same_side Left side) (r.1 ∷ taken_from Left rs) (taken_from Left rs)) + length (cond (same_side Right side) (r.1 ∷ taken_from Right rs) (taken_from Right rs)) ≡ suc (length rs))
     [ Left ↦ omega arith | Right ↦ omega arith ]
 
--- where nothing fits on a left link, a position whose receipts fit has taken nothing from the right
+-- if nothing fits on a left link, a position whose receipts fit has taken nothing from the right
 pub taken-none_from_right : {M : Type 0} (fits : Fitting M) (ring : List ℕ) (i : ℕ) (receipts : List (Side × M)) → AllFit fits ring i receipts
     → ((j k : ℕ) (m : M) → fits ring j Left k m → ⊥)
     → taken_from Right receipts ≡ []
@@ -57,7 +57,7 @@ taken-none_from_right {M} fits ring i receipts all none = at (taken_from Right r
     at [] e = refl
     at (m ∷ ms) e = absurd (none (neighbour (length ring) i Right) 0 m (all.each Right 0 m (ap (λ (l : List M). slice_get l 0) e)))
 
--- where each position has taken at most c messages, n of them have taken at most n times c
+-- if each position has taken at most c messages, n of them have taken at most n times c
 pub taken_in_all-at_most : {M : Type 0} (n c : ℕ) (family : ℕ → List (Side × M)) → ((i : ℕ) → i < n → length (family i) ≤ c) → taken_in_all n family ≤ n * c
 taken_in_all-at_most zero c family each = omega arith
 taken_in_all-at_most (suc n) c family each =

@@ -44,7 +44,7 @@ has_number-self v = grind (arith, nat_tests)
 has_number-swap : (v w : ℕ) → has_number v w ≡ has_number w v
 has_number-swap v w = grind (arith, nat_tests)
 
--- the number of what stands in a list is found there
+-- the number of an element of a list is found there
 number_found : (xs : List ℕ) (k v : ℕ) → slice_get xs k ≡ Some v → list_any (has_number v) xs ≡ true
 number_found [] k v h = cc
 number_found (x ∷ xs) zero v h =
@@ -122,7 +122,7 @@ length-leftward ring i =
 pub leftward-is_reverse : (ring : List ℕ) (i : ℕ) → leftward ring i ≡ reverse (drop (i + 1) ring ++ take (i + 1) ring)
 leftward-is_reverse ring i = sym (reverse-append (drop (i + 1) ring) (take (i + 1) ring))
 
--- who is met on the way round is a member
+-- an identity met on the way round is a member
 pub member_from_leftward : (ring : List ℕ) (i v : ℕ) → IsIn (leftward ring i) v → IsIn ring v
 member_from_leftward ring i v h =
     let back = in_reverse (leftward ring i) v h in
@@ -161,7 +161,7 @@ any-reverse : (p : ℕ → Bool) (xs : List ℕ) → list_any p (reverse xs) ≡
 any-reverse p [] = refl
 any-reverse p (x ∷ xs) = rw (reverse_onto xs x [], list_any-append p (reverse xs) (x ∷ []), any-reverse p xs) (either_last (list_any p xs) (p x))
 
--- a repeat is there wherever one element stands
+-- a test for repeats may take any element first
 repeat-middle : (xs : List ℕ) (y : ℕ) (ys : List ℕ) → has_repeat (xs ++ y ∷ ys) ≡ (list_any (has_number y) (xs ++ ys) || has_repeat (xs ++ ys))
 repeat-middle [] y ys = refl
 repeat-middle (x ∷ xs) y ys =
@@ -190,7 +190,7 @@ leftward-is_ring ring i is = record {
       ∙ (ap has_repeat (take-append-drop (i + 1) ring) ∙ is.distinct)));
 }
 
--- the others behind a position have other identities
+-- the others after a position have other identities
 pub differs_behind : (ring : List ℕ) (i me v : ℕ) → IsRing ring → slice_get ring i ≡ Some me → IsIn (behind ring i) v → v ≢ me
 differs_behind ring i me v is here h same =
     let whole = leftward-here ring i me here in

@@ -11,7 +11,7 @@ abbrev pub sum_to : (ℕ → ℕ) → ℕ → ℕ
 sum_to f zero = 0
 sum_to f (suc n) = sum_to f n + f n
 
--- where each term is no more, neither is the sum
+-- if each term is no more, neither is the sum
 pub sum_to-less : (f g : ℕ → ℕ) (n : ℕ) → ((i : ℕ) → i < n → f i ≤ g i) → sum_to f n ≤ sum_to g n
 sum_to-less f g zero less = omega arith
 sum_to-less f g (suc n) less =
@@ -19,7 +19,7 @@ sum_to-less f g (suc n) less =
     let here = less n (omega arith) in
     omega arith
 
--- where each term is the same, so is the sum
+-- if each term is the same, so is the sum
 pub sum_to-same : (f g : ℕ → ℕ) (n : ℕ) → ((i : ℕ) → i < n → f i ≡ g i) → sum_to f n ≡ sum_to g n
 sum_to-same f g zero same = refl
 sum_to-same f g (suc n) same =
@@ -42,7 +42,7 @@ pub sum_to-times : (c : ℕ) (f : ℕ → ℕ) (n : ℕ) → sum_to (λ i. c * f
 sum_to-times c f zero = omega arith
 sum_to-times c f (suc n) = let before = sum_to-times c f n in grind arith
 
--- a sum whose first term stands apart
+-- a sum whose first term is apart
 pub sum_to-first : (f : ℕ → ℕ) (n : ℕ) → sum_to f (suc n) ≡ f 0 + sum_to (λ i. f (suc i)) n
 sum_to-first f zero = omega arith
 sum_to-first f (suc n) = let before = sum_to-first f n in omega arith
@@ -55,7 +55,7 @@ sum_to-swap f (suc m) n =
     let split = sum_to-plus (λ j. sum_to (λ i. f i j) m) (f m) n in
     omega arith
 
--- terms of which no two are there, and each is 1 at most, are 1 in all at most
+-- if no two terms are there and each is at most 1, their sum is at most 1
 pub sum_to-once : (f : ℕ → ℕ) (n : ℕ) → ((i : ℕ) → f i ≤ 1) → ((i j : ℕ) → i < j → j < n → 1 ≤ f i → 1 ≤ f j → ⊥) → sum_to f n ≤ 1
 sum_to-once f zero small apart = omega arith
 sum_to-once f (suc n) small apart = last (f n) refl (sum_to-once f n small (λ i j less below. apart i j less (omega arith)))

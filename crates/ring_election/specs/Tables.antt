@@ -1,4 +1,4 @@
--- What an algorithm does, as one table of functions, and what a step sends.
+-- An algorithm as one table of functions, and the messages that a step sends.
 use Rattle.std.specs.Prelude.{ℕ, Option, Some, None}
 use Rattle.ring_id.specs.declared.side.Side.{Side}
 use Rattle.ring_id.specs.declared.side.Side.TheVariants.{Left, Right}
@@ -8,16 +8,16 @@ use Rattle.ring_election.specs.declared.sends.Sends.{Sends}
 pub record Table (S M : Type 0) : Type 0 where
   -- the first state of the node with this identity
   pub first : ℕ → S
-  -- what it sends when it starts
+  -- its messages when it starts
   pub first_sends : ℕ → Sends M
   -- the state after a receipt from that side
   pub next : S → Side → M → S
-  -- what is sent because of that receipt
+  -- the messages sent because of that receipt
   pub next_sends : S → Side → M → Sends M
-  -- what a state has decided
+  -- the decision of a state
   pub decided : S → Option ℕ
 
--- what goes to that side
+-- the message to that side
 abbrev pub to_side : {M : Type 0} → Side → Sends M → Option M
 to_side Left sends = sends.left
 to_side Right sends = sends.right

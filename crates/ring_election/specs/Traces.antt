@@ -1,6 +1,6 @@
--- The trace of a node: its state, and what it sent to each side, after a list of receipts. This is
+-- The trace of a node: its state, and its messages to each side, after a list of receipts. It is
 -- the table folded over the list (Lynch, Distributed Algorithms, 2.1 and 14.1: the states and
--- outputs of one process); the code keeps one state and forgets the list.
+-- outputs of one process). The code keeps one state and forgets the list.
 use Rattle.std.specs.Prelude.{ℕ, cond, List, [], ◌∷◌, ◌++◌, Option, Some, None}
 use Rattle.ring_id.specs.declared.side.Side.{Side}
 use Rattle.ring_id.specs.Sides.{same_side}
@@ -11,25 +11,27 @@ abbrev pub listed : {M : Type 0} → Option M → List M
 listed None = []
 listed (Some m) = m ∷ []
 
--- the state after these receipts, each a side and a message, from a state on
+-- the state after these receipts, from a given state on; a receipt is a side and a message
 abbrev pub state_from : {S M : Type 0} → Table S M → S → List (Side × M) → S
 state_from t s [] = s
 state_from t s (r ∷ rs) = state_from t (t.next s r.0 r.1) rs
 
--- what they cause to be sent to a side, from a state on
+-- the messages to a side that these receipts cause, from a given state on
 abbrev pub sent_from : {S M : Type 0} → Table S M → Side → S → List (Side × M) → List M
 sent_from t side s [] = []
-sent_from t side s (r ∷ rs) = listed (to_side side (t.next_sends s r.0 r.1)) ++ sent_from t side (t.next s r.0 r.1) rs
+sent_from t side s (r ∷ rs) =
+    listed (to_side side (t.next_sends s r.0 r.1)) ++ sent_from t side (t.next s r.0 r.1) rs
 
 -- the state of the node with identity `me` after these receipts
 abbrev pub state_after : {S M : Type 0} → Table S M → ℕ → List (Side × M) → S
 state_after t me receipts = state_from t (t.first me) receipts
 
--- all that it has sent to a side
+-- all messages that it has sent to a side
 abbrev pub sent_after : {S M : Type 0} → Table S M → ℕ → Side → List (Side × M) → List M
-sent_after t me side receipts = listed (to_side side (t.first_sends me)) ++ sent_from t side (t.first me) receipts
+sent_after t me side receipts =
+    listed (to_side side (t.first_sends me)) ++ sent_from t side (t.first me) receipts
 
--- all that it has taken from a side
+-- all messages that it has taken from a side
 abbrev pub taken_from : {M : Type 0} → Side → List (Side × M) → List M
 taken_from side [] = []
 taken_from side (r ∷ rs) = cond (same_side side r.0) (r.1 ∷ taken_from side rs) (taken_from side rs)

@@ -4,22 +4,22 @@ use crate::sends::Sends;
 use ring_id::{NoMemory, NodeId, Side};
 use std::alloc::Global;
 
-/// An algorithm that elects a leader on a ring of nodes (Lynch, Distributed Algorithms, 3 and 15.1).
-///
+/// An algorithm that elects a leader on a ring of nodes (Lynch, Distributed Algorithms, 3 and
+/// 15.1).
 /// The calls are its table: the first state and sends, the state and sends after one receipt, and
-/// what a state has decided. None of them sees the ring. The ghost members say what the table is,
-/// which message may be the k-th of a link, who wins a ring, and how many messages an election may
-/// take; the laws tie them together. Equal algorithms, and equal messages, are identical.
+/// the decision of a state. No call sees the ring. The ghost members are the table, the messages
+/// that fit a link, the winner of a ring, and the most messages of an election. The laws relate
+/// them. Equal algorithms are identical, and so are equal messages.
 pub trait RingElection: Copy + Eq {
     ghost use Rattle.std.specs.Prelude.{ℕ, Bool, List, true};
     ghost use Rattle.ring_election.specs.Tables.{Table};
     ghost use Rattle.ring_election.specs.Families.{Fitting};
     ghost use Rattle.ring_election.specs.Laws.{Bounded, Deciding, Lawful};
 
-    /// What nodes send one another.
+    /// A message from one node to another.
     type Msg: Copy + Eq;
 
-    /// What a node remembers.
+    /// The memory of a node.
     type State: Drop;
 
     // whether it sends to the left
@@ -34,7 +34,7 @@ pub trait RingElection: Copy + Eq {
     // which message may be the k-th of a link of a ring
     ghost fits: { Self → Fitting Self.Msg };
 
-    // who wins a ring
+    // the winner of a ring
     ghost winner: { Self → List ℕ → ℕ };
 
     // the most messages that an election on a ring of this length takes
@@ -48,13 +48,14 @@ pub trait RingElection: Copy + Eq {
     fn greatest(&self) -> bool
         ensures { result ≡ is_greatest self.now };
 
-    /// The first state of the node with this identity, and its first sends. Takes no memory.
+    /// Returns the first state of the node with this identity, and its first sends. Does not
+    /// allocate.
     fn start(&self, alloc: Global, me: NodeId) -> (Self::State, Sends<Self::Msg>)
         ensures state { result.0 ≡ (table self.now).first me }
         ensures sends { result.1 ≡ (table self.now).first_sends me };
 
-    /// One receipt from that side: the new state and what is sent in answer. Refused for want of
-    /// memory alone; the state is then unchanged.
+    /// Takes one message from that side: changes the state, and returns the messages sent in
+    /// answer. `NoMemory` if an allocation fails; the state is then unchanged.
     fn receive(
         &self,
         state: &mut Self::State,
@@ -65,14 +66,15 @@ pub trait RingElection: Copy + Eq {
         ensures sends { IfOk result (λ s. s ≡ (table self.now).next_sends state.old from message) }
         ensures err { OnErr result (state.new ≡ state.old) };
 
-    /// The identity that this node has decided on by itself, or none.
+    /// The identity that this node has decided on by itself; `None` if it has not decided.
     fn decision(&self, state: &Self::State) -> Option<NodeId>
         ensures { result ≡ (table self.now).decided state.now };
 
     // the laws that keep a leader unique
-    ghost lawful: { (a : Self) → Lawful (is_two_way a) (is_greatest a) (table a) (fits a) (winner a) };
+    ghost lawful: { (a : Self)
+        → Lawful (is_two_way a) (is_greatest a) (table a) (fits a) (winner a) };
 
-    // where all that was sent was taken, a node has decided
+    // if every sent message was taken, some node has decided
     ghost deciding: { (a : Self) → Deciding (table a) (fits a) };
 
     // no election takes more messages than the bound

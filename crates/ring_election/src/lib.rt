@@ -1,10 +1,10 @@
-//! What a ring election is: the trait that every algorithm implements, with the definitions and
-//! the laws that everything above rests on.
+//! Ring elections: the trait that each algorithm implements, with the definitions and the laws that
+//! the layers above rest on.
 //!
-//! A node starts, receives messages from its two sides, and sends at most one message to each side
-//! in answer. No call sees the ring. What an algorithm does is one table of functions; what a node
-//! has done is the table folded over the list of what it received. The laws speak of such lists
-//! alone: no schedule, no time and no queue is in them.
+//! A node starts, receives messages from its two sides, and answers each with at most one message
+//! to each side. No call sees the ring. An algorithm is one table of functions. The state and the
+//! sends of a node are the table folded over the list of its receipts. The laws speak of such lists
+//! only: they have no schedule, no time and no queue.
 #![tactic(auto)]
 
 mod agreement;

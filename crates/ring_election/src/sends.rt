@@ -1,4 +1,4 @@
-/// What a node sends in one step: at most one message to each side.
+/// The messages that a node sends in one step: at most one to each side.
 #[derive(Clone, Copy, Debug, PartialEq, Eq)]
 pub struct Sends<M> {
     /// To the left neighbour.

@@ -1,4 +1,4 @@
--- What either of the two positions has decided is the winner of the ring.
+-- Each of the two positions has decided on the winner of the ring.
 use Rattle.std.proofs.Common.{sym, ◌∙◌}
 use Rattle.std.proofs.lemmas.Option.{slice_get_within}
 use Rattle.ring_election.proofs.agreement.one_winner.Goals as goal
