@@ -12,11 +12,11 @@ use Rattle.ring_chang.specs.Chang.{records, records_above}
 abbrev pub exceeds_all : ℕ → List ℕ → Bool
 exceeds_all node earlier = list_all (λ x. nat_lt x node) earlier
 
--- a first element may stand before both branches, under a test that the other one includes
+-- a first element may come before both branches, under a test that the other one includes
 kept_first : (a b c : Bool) (x : ℕ) (more same : List ℕ) → (b ≡ true → a ≡ true) → x ∷ cond (b && c) more same ≡ cond (a && (b && c)) (x ∷ more) (x ∷ same)
 kept_first a b c x more same follows = grind arith
 
--- one more identity adds a record above m where it exceeds m and all records above m
+-- one more identity adds a record above m if it exceeds m and all records above m
 records_above-more : (m : ℕ) (xs : List ℕ) (y : ℕ) → records_above m (xs ++ y ∷ []) ≡ cond (nat_lt m y && exceeds_all y (records_above m xs)) (records_above m xs ++ y ∷ []) (records_above m xs)
 records_above-more m [] y = elim (nat_lt m y) as (λ b. cond b (y ∷ []) [] ≡ cond (b && true) (y ∷ []) []) [ true ↦ refl | false ↦ refl ]
 records_above-more m (x ∷ xs) y =
@@ -27,7 +27,7 @@ records_above-more m (x ∷ xs) y =
     ]
     refl
 
--- one more identity adds a record where it exceeds all records
+-- one more identity adds a record if it exceeds all records
 records-more : (xs : List ℕ) (y : ℕ) → records (xs ++ y ∷ []) ≡ cond (exceeds_all y (records xs)) (records xs ++ y ∷ []) (records xs)
 records-more [] y = refl
 records-more (x ∷ xs) y = rw (records_above-more x xs y) (kept_first true (nat_lt x y) (exceeds_all y (records_above x xs)) x (records_above x xs ++ y ∷ []) (records_above x xs) (λ t. refl))

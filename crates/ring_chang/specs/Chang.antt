@@ -1,4 +1,4 @@
--- The algorithm of Chang and Roberts, as a table, and which messages fit its links (Lynch,
+-- The algorithm of Chang and Roberts as a table, and the messages that fit its links (Lynch,
 -- Distributed Algorithms, 3.3 and 15.1.1: the LCR algorithm, AsynchLCR).
 use Rattle.std.specs.Prelude.{◌≡◌, ◌*◌, ◌==◌, ℕ, cond, nat_lt, List, [], ◌∷◌, Some, None, slice_get}
 use Rattle.ring_id.specs.declared.side.Side.{Side}
@@ -12,19 +12,26 @@ use Rattle.ring_chang.specs.declared.chang.ChangState.{ChangState}
 abbrev pub chang_first : ℕ → ChangState
 chang_first me = record { me = me; decided = None }
 
--- it decides on itself where its own identity comes back
+-- it decides on itself if its own identity comes back
 abbrev pub chang_next : ChangState → Side → ℕ → ChangState
 chang_next s Left v = cond (v == s.me) (record s { decided = Some s.me }) s
 chang_next s Right v = s
 
--- it passes on what is greater than itself
+-- it passes on identities that are greater than its own
 abbrev pub chang_sends : ChangState → Side → ℕ → Sends ℕ
 chang_sends s Left v = cond (nat_lt s.me v) (rightward v) (nothing ℕ)
 chang_sends s Right v = nothing ℕ
 
--- the table: a node starts with sending itself, and nothing goes to the left
+-- the table: a node starts by sending its own identity, and nothing goes to the left
 abbrev pub chang_table : Table ChangState ℕ
-chang_table = record { first = chang_first; first_sends = λ me. rightward me; next = chang_next; next_sends = chang_sends; decided = λ s. s.decided }
+chang_table =
+    record {
+      first = chang_first;
+      first_sends = λ me. rightward me;
+      next = chang_next;
+      next_sends = chang_sends;
+      decided = λ s. s.decided;
+    }
 
 -- of identities read in this order, those that are greater than m and than all read before them
 abbrev pub records_above : ℕ → List ℕ → List ℕ

@@ -9,12 +9,12 @@ use std::alloc::Global;
 /// The algorithm of Chang and Roberts, which elects the greatest identity (Lynch, Distributed
 /// Algorithms, 3.3 and 15.1.1: AsynchLCR).
 ///
-/// A message is an identity. A node sends its own to the right, passes greater ones on, and decides
-/// on itself where its own comes back.
+/// A message is an identity. A node sends its own to the right and passes greater ones on. If its
+/// own comes back, it decides on itself.
 #[derive(Clone, Copy, Debug, PartialEq, Eq)]
 pub struct Chang;
 
-/// What a node of this algorithm remembers.
+/// The memory of a node of this algorithm.
 #[derive(Debug, Drop)]
 pub struct ChangState {
     me: NodeId,
@@ -46,7 +46,7 @@ impl RingElection for Chang {
 
     ghost bound = { λ _. chang_bound };
 
-    /// Never: messages go to the right alone.
+    /// Never: messages go only to the right.
     fn two_way(&self) -> bool
         ensures { result ≡ false }
     {
@@ -60,7 +60,7 @@ impl RingElection for Chang {
         true
     }
 
-    /// A node that has decided nothing; it sends its own identity to the right. Takes no memory.
+    /// Returns an undecided state and the node's own identity to the right. Does not allocate.
     fn start(&self, _: Global, me: NodeId) -> (ChangState, Sends<NodeId>)
         ensures state { result.0 ≡ chang_first me }
         ensures sends { result.1 ≡ rightward me }
@@ -73,7 +73,8 @@ impl RingElection for Chang {
         (state, sends)
     }
 
-    /// A greater identity from the left is passed on; the node's own decides. Takes no memory.
+    /// Passes a greater identity from the left on, and decides if it is the node's own. Does not
+    /// allocate.
     fn receive(
         &self,
         state: &mut ChangState,
@@ -99,7 +100,7 @@ impl RingElection for Chang {
         Ok(sends)
     }
 
-    /// The node itself where its own identity came back from the left, or none.
+    /// The node itself if its own identity came back from the left; otherwise `None`.
     fn decision(&self, state: &ChangState) -> Option<NodeId>
         ensures { result ≡ state.now.decided }
     {

@@ -7,10 +7,10 @@ use ring_id::{NoMemory, NodeId, Side};
 use ring_roster::Roster;
 use std::alloc::Global;
 
-/// All messages that fit the right link of a position, in their order: the records of the
-/// identities that are read from that position on to the left, all round (Lynch, Distributed
-/// Algorithms, 3.3). A plain and slow reading of that definition, to count messages with; nodes
-/// have no use for it. Refused for want of memory alone.
+/// Returns all messages that fit the right link of a position, in their order. They are the records
+/// of the identities read from that position to the left, all round (Lynch, Distributed Algorithms,
+/// 3.3). Tests count messages with this plain reading of the definition; nodes do not use it.
+/// `NoMemory` if an allocation fails.
 pub fn fitting(alloc: Global, ring: &Roster, position: usize) -> Result<Vec<NodeId>, NoMemory>
     requires { position < length ring.now }
     ensures { IfOk result (λ fits. fits.items ≡ records (leftward ring.now position)) }

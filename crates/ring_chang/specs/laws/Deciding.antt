@@ -1,4 +1,4 @@
--- Where all that was sent was taken, the greatest identity has gone all round the ring and decided.
+-- If every sent message was taken, the greatest identity has gone all round the ring and decided.
 use Rattle.std.proofs.Common.{◌≡◌, ◌≢◌, ◌<◌, ℕ, List, Some, slice_get, nat_lt, filter, sym, ap, ◌∙◌, subst, arith}
 use Rattle.std.proofs.lemmas.Bool.Decides.{nat_tests}
 use Rattle.std.proofs.lemmas.Option.{slice_get_within}
@@ -24,7 +24,7 @@ greatest_passes ring g j me receipts is there here other taken =
     subst (λ (l : List ℕ). IsIn l (greatest_of ring)) (sym (all_sent me receipts))
     (in_rest me (filter (nat_lt me) (taken_from Left receipts)) (greatest_of ring) (in_filter (nat_lt me) (taken_from Left receipts) (greatest_of ring) (grind (arith, nat_tests)) taken))
 
--- the algorithm decides where all was taken
+-- the algorithm decides if every message was taken
 pub chang_deciding : Deciding chang_table chang_fits
 chang_deciding = record { complete_decides = decided }
   where

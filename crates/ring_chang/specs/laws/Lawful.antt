@@ -15,21 +15,22 @@ use Rattle.ring_chang.specs.Chang.{chang_first, chang_fits, chang_next, chang_ta
 use Rattle.ring_chang.specs.laws.Records.{last_record, records_above-filter, records_above-push}
 use Rattle.ring_chang.specs.laws.Steps.{all_sent, decided_from, sent_to_left, state_me}
 
--- what fits from the left is a first part of the records of all the others and then the own identity
+-- messages that fit from the left are a prefix of the records of the others and then the own
+-- identity
 pub taken_first_part : (ring : List ℕ) (i me : ℕ) (receipts : List (Side × ℕ)) → slice_get ring i ≡ Some me → AllFit chang_fits ring i receipts
     → (rest : List ℕ) × (taken_from Left receipts ++ rest ≡ records (behind ring i ++ me ∷ []))
 taken_first_part ring i me receipts here all =
     first_part (taken_from Left receipts) (records (behind ring i ++ me ∷ []))
     (λ k m taken. subst (λ (l : List ℕ). slice_get (records l) k ≡ Some m) (leftward-left_of ring i me here) (all.each Left k m taken))
 
--- the records read from a position on are its own identity and, of the records that its left
--- neighbour sends, those that exceed it
+-- the records read from a position on are its own identity and then those records that its left
+-- neighbour sends and that exceed it
 records_here : (ring : List ℕ) (i me : ℕ) → slice_get ring i ≡ Some me → records (leftward ring i) ≡ me ∷ filter (nat_lt me) (records (behind ring i ++ me ∷ []))
 records_here ring i me here =
     ap records (leftward-here ring i me here)
     ∙ ap (λ (l : List ℕ). me ∷ l) (sym (records_above-push me (behind ring i) me (omega arith)) ∙ records_above-filter me (behind ring i ++ me ∷ []))
 
--- all that a node has sent to the right is a first part of those records
+-- the messages that a node has sent to the right are a prefix of those records
 sent_fits : (ring : List ℕ) (i me : ℕ) (receipts : List (Side × ℕ)) (k m : ℕ) → slice_get ring i ≡ Some me → AllFit chang_fits ring i receipts
     → slice_get (sent_after chang_table me Right receipts) k ≡ Some m → slice_get (records (leftward ring i)) k ≡ Some m
 sent_fits ring i me receipts k m here all sent =
@@ -42,7 +43,7 @@ sent_fits ring i me receipts k m here all sent =
     (slice_get-append_left (me ∷ filter (nat_lt me) (taken_from Left receipts)) (filter (nat_lt me) part.0) k m
     (subst (λ (l : List ℕ). slice_get l k ≡ Some m) (all_sent me receipts) sent))
 
--- whose own identity came back is the greatest
+-- a node whose own identity came back is the greatest
 back_is_greatest : (ring : List ℕ) (i me : ℕ) (receipts : List (Side × ℕ)) → IsRing ring → slice_get ring i ≡ Some me → AllFit chang_fits ring i receipts
     → IsIn (taken_from Left receipts) me → me ≡ greatest_of ring
 back_is_greatest ring i me receipts is here all back =
@@ -53,7 +54,7 @@ back_is_greatest ring i me receipts is here all back =
     (λ w member. elim (in_cons_cases me (behind ring i) w (subst (λ (l : List ℕ). IsIn l w) (leftward-here ring i me here) (leftward_from_member ring i w member)))
     [ inl same ↦ omega arith | inr there ↦ let less = above w there in omega arith ])
 
--- what a node has decided is itself, and its own identity has come back
+-- a node that has decided has decided on itself, and its own identity has come back
 decided_me : (me : ℕ) (receipts : List (Side × ℕ)) (v : ℕ) → (state_after chang_table me receipts).decided ≡ Some v → (v ≡ me) × IsIn (taken_from Left receipts) me
 decided_me me receipts v h = elim (decided_from (chang_first me) receipts v h) [ inl never ↦ cc | inr back ↦ back ]
 
@@ -75,12 +76,12 @@ stays_decided me receipts side m v decided = step side
 start_undecided : (me : ℕ) → chang_table.decided (chang_table.first me) ≡ None
 start_undecided me = refl
 
--- what a node sends when it starts fits
+-- the messages of a node that starts fit
 first_fits : (ring : List ℕ) (i me : ℕ) (side : Side) (m : ℕ) → IsRing ring → slice_get ring i ≡ Some me → to_side side (rightward me) ≡ Some m → chang_fits ring i side 0 m
 first_fits ring i me Left m is here sent = let nothing_sent = sent in cc
 first_fits ring i me Right m is here sent = ap (λ (l : List ℕ). slice_get (records l) 0) (leftward-here ring i me here) ∙ sent
 
--- what a node sends to either side fits
+-- the messages that a node sends to either side fit
 all_sent_fits : (ring : List ℕ) (i me : ℕ) (receipts : List (Side × ℕ)) (side : Side) (k m : ℕ) → IsRing ring → slice_get ring i ≡ Some me
     → AllFit chang_fits ring i receipts → slice_get (sent_after chang_table me side receipts) k ≡ Some m → chang_fits ring i side k m
 all_sent_fits ring i me receipts Left k m is here all sent =

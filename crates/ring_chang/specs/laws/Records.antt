@@ -1,5 +1,5 @@
--- What records of a list are, as the laws need it: those above a number are a filter of all, the
--- last one is above all that was read, and there are no more than the list has elements.
+-- Facts about records of a list. Those above a number are a filter of all, the last one exceeds all
+-- that was read, and there are no more records than elements.
 use Rattle.std.proofs.Common.{◌≡◌, ◌≢◌, ◌<◌, ◌≤◌, ℕ, suc, true, false, cond, max, List, [], ◌∷◌, ◌++◌, length, nat_lt, refl, ap, arith, filter, ◌⊎◌, inl, inr}
 use Rattle.std.proofs.lemmas.Bool.Decides.{nat_tests}
 use Rattle.ring_election.proofs.Members.{IsIn, in_cons_cases, in_first, in_rest}
@@ -15,7 +15,7 @@ pub records_above-filter : (m : ℕ) (xs : List ℕ) → records_above m xs ≡ 
 records_above-filter m [] = refl
 records_above-filter m (x ∷ xs) = grind (arith, nat_tests, filter-records_above m x xs)
 
--- what doesn't exceed m adds no record above it at the end
+-- an identity that does not exceed m adds no record above m at the end
 pub records_above-push : (m : ℕ) (xs : List ℕ) (y : ℕ) → y ≤ m → records_above m (xs ++ y ∷ []) ≡ records_above m xs
 records_above-push m [] y h = grind (arith, nat_tests)
 records_above-push m (x ∷ xs) y h =
@@ -24,7 +24,7 @@ records_above-push m (x ∷ xs) y h =
     [ true ↦ λ e. ap (λ l. x ∷ l) (records_above-push x xs y (grind (arith, nat_tests))) | false ↦ λ e. here ]
     refl
 
--- a record above m is the first identity that exceeds m, or a record of what comes later
+-- a record above m is the first identity that exceeds m, or a record of the later ones
 record_cases : (m x : ℕ) (xs : List ℕ) (v : ℕ) → IsIn (records_above m (x ∷ xs)) v → ((m < x) × IsIn (x ∷ records_above x xs) v) ⊎ ((x ≤ m) × IsIn (records_above m xs) v)
 record_cases m x xs v =
     elim (nat_lt m x) as (λ b. nat_lt m x ≡ b → IsIn (cond b (x ∷ records_above x xs) (records_above m xs)) v → ((m < x) × IsIn (x ∷ records_above x xs) v) ⊎ ((x ≤ m) × IsIn (records_above m xs) v))
@@ -40,7 +40,7 @@ record_exceeds m (x ∷ xs) v h =
       | inr c ↦ record_exceeds m xs v c.1
     ]
 
--- a record that stands only at the end exceeds all before it
+-- a record that is only at the end exceeds all before it
 last_record_above : (m y : ℕ) (xs : List ℕ) → IsIn (records_above m (xs ++ y ∷ [])) y → ((w : ℕ) → IsIn xs w → w ≢ y) → (w : ℕ) → IsIn xs w → w < y
 last_record_above m y [] h apart w in_nil = let h0 = in_nil.there in cc
 last_record_above m y (x ∷ xs) h apart w in_xs =
@@ -58,7 +58,7 @@ last_record_above m y (x ∷ xs) h apart w in_xs =
       ]
     ]
 
--- an identity that is a record and stands only at the end exceeds all others
+-- an identity that is a record and is only at the end exceeds all others
 pub last_record : (y : ℕ) (xs : List ℕ) → IsIn (records (xs ++ y ∷ [])) y → ((w : ℕ) → IsIn xs w → w ≢ y) → (w : ℕ) → IsIn xs w → w < y
 last_record y [] h apart w in_nil = let h0 = in_nil.there in cc
 last_record y (x ∷ xs) h apart w in_xs =

@@ -1,5 +1,5 @@
--- What a node of this algorithm has sent and decided after a list of receipts, by what it took from
--- the left alone.
+-- The sends and the decision of a node of this algorithm after a list of receipts. They depend only
+-- on what it took from the left.
 use Rattle.std.proofs.Common.{◌≡◌, ◌==◌, ◌⊎◌, ◌++◌, ℕ, true, false, cond, List, [], ◌∷◌, Some, nat_lt, filter, refl, ap, ◌∙◌, inl, inr, arith, zero}
 use Rattle.std.proofs.lemmas.Bool.Decides.{nat_tests}
 use Rattle.ring_id.specs.declared.side.Side.{Side}
@@ -29,7 +29,7 @@ sent_to_left s ((Left, v) ∷ rs) =
     [ true ↦ rest | false ↦ rest ]
 sent_to_left s ((Right, v) ∷ rs) = sent_to_left s rs
 
--- what is sent to the right because of receipts is what was taken from the left and is greater
+-- the messages to the right are those taken from the left that are greater
 pub sent_to_right : (s : ChangState) (receipts : List (Side × ℕ)) → sent_from chang_table Right s receipts ≡ filter (nat_lt s.me) (taken_from Left receipts)
 sent_to_right s [] = refl
 sent_to_right s ((Left, v) ∷ rs) =
@@ -39,11 +39,12 @@ sent_to_right s ((Left, v) ∷ rs) =
     [ true ↦ ap (λ (l : List ℕ). v ∷ l) rest | false ↦ rest ]
 sent_to_right s ((Right, v) ∷ rs) = sent_to_right s rs
 
--- all that a node has sent to the right: itself, and what it took from the left and is greater
+-- all messages to the right: the own identity, then those taken from the left that are greater
 pub all_sent : (me : ℕ) (receipts : List (Side × ℕ)) → sent_after chang_table me Right receipts ≡ me ∷ filter (nat_lt me) (taken_from Left receipts)
 all_sent me receipts = ap (λ (l : List ℕ). me ∷ l) (sent_to_right (chang_first me) receipts)
 
--- what a node has decided after receipts it had decided before, or it is itself and came back
+-- a decision after receipts was made before them, or it is the node itself and its identity came
+-- back
 pub decided_from : (s : ChangState) (receipts : List (Side × ℕ)) (v : ℕ) → (state_from chang_table s receipts).decided ≡ Some v
     → (s.decided ≡ Some v) ⊎ ((v ≡ s.me) × IsIn (taken_from Left receipts) s.me)
 decided_from s [] v h = inl h
@@ -58,7 +59,7 @@ decided_from s ((Left, m) ∷ rs) v h =
     refl h
 decided_from s ((Right, m) ∷ rs) v h = decided_from s rs v h
 
--- who has decided on itself stays decided
+-- a node that has decided on itself stays decided
 stays : (s : ChangState) (receipts : List (Side × ℕ)) → s.decided ≡ Some s.me → (state_from chang_table s receipts).decided ≡ Some s.me
 stays s [] h = h
 stays s ((Left, m) ∷ rs) h =
@@ -66,7 +67,7 @@ stays s ((Left, m) ∷ rs) h =
     [ true ↦ stays (record s { decided = Some s.me }) rs refl | false ↦ stays s rs h ]
 stays s ((Right, m) ∷ rs) h = stays s rs h
 
--- whose own identity came back has decided on itself
+-- a node whose own identity came back has decided on itself
 pub decided_when_back : (s : ChangState) (receipts : List (Side × ℕ)) → IsIn (taken_from Left receipts) s.me → (state_from chang_table s receipts).decided ≡ Some s.me
 decided_when_back s [] h = let h0 = h.there in cc
 decided_when_back s ((Left, m) ∷ rs) h =

@@ -5,7 +5,7 @@ use Rattle.ring_chang.proofs.Reading.{one_read}
 use Rattle.ring_chang.proofs.fits.fitting.Goals as goal
 use Rattle.ring_chang.proofs.fits.fitting.Goals.{in-Some+else-exceeds, in-Some+then-exceeds+in_ok-map_err, in_default}
 
--- the next position to the left, with its identity kept where it exceeds all that is kept
+-- the next position to the left; its identity is kept if it exceeds all those kept
 pub loop-preserved : goal.loop-preserved
 loop-preserved c =
     rw c.neighbour-at.ensures.value

@@ -1,4 +1,4 @@
--- What was decided stands in the state.
+-- The decision is a field of the state.
 use Rattle.std.proofs.Common.{refl}
 use Rattle.ring_chang.proofs.chang.ChangRingElection.decision.Goals as goal
 
