@@ -30,7 +30,7 @@ taken-all ring i me receipts is here all home =
     let long = ap length whole ∙ length-append (behind ring i) (me ∷ []) in
     omega (arith, length-taken receipts, length-leftward ring (left_of (length ring) i), length-receipts ring i receipts all)
 
--- where each position took exactly c messages, n of them took n times c
+-- if each position took exactly c messages, n of them took n times c
 taken_in_all-exactly : {M : Type 0} (n c : ℕ) (family : ℕ → List (Side × M)) → ((i : ℕ) → i < n → length (family i) ≡ c) → taken_in_all n family ≡ n * c
 taken_in_all-exactly zero c family each = omega arith
 taken_in_all-exactly (suc n) c family each =

@@ -1,5 +1,5 @@
--- LeLann's algorithm (LeLann, Distributed systems: towards a formal approach, IFIP 1977), as a table,
--- and what is on its links.
+-- LeLann's algorithm as a table (LeLann, Distributed systems: towards a formal approach, IFIP
+-- 1977), and the messages on its links.
 use Rattle.std.specs.Prelude.{◌≡◌, ◌*◌, ◌==◌, ℕ, cond, List, [], ◌∷◌, ◌++◌, Option, Some, None, unwrap_or, slice_get}
 use Rattle.ring_id.specs.declared.side.Side.{Side}
 use Rattle.ring_id.specs.declared.side.Side.TheVariants.{Left, Right}
@@ -7,7 +7,7 @@ use Rattle.ring_roster.specs.Ring.{greatest_of, leftward}
 use Rattle.ring_election.specs.declared.sends.Sends.{Sends}
 use Rattle.ring_election.specs.Tables.{Table, nothing, rightward}
 
--- what a node knows: its own identity, those that it has seen, and its decision
+-- the knowledge of a node: its own identity, those that it has seen, and its decision
 pub record Knowledge : Type 0 where
   pub me : ℕ
   pub seen : List ℕ
@@ -21,16 +21,16 @@ lelann_first me = record { me = me; seen = []; decided = None }
 abbrev pub with_seen : Knowledge → ℕ → Knowledge
 with_seen s v = record s { seen = s.seen ++ v ∷ [] }
 
--- what was decided before stays; else the greatest that is known
+-- an earlier decision stays; otherwise the greatest known identity
 abbrev pub with_decision : Knowledge → Knowledge
 with_decision s = record s { decided = Some (unwrap_or s.decided (greatest_of (s.me ∷ s.seen))) }
 
--- the state after a receipt: the own identity decides, another's is seen
+-- the state after a receipt: the own identity decides, another's is added to those seen
 abbrev pub lelann_next : Knowledge → Side → ℕ → Knowledge
 lelann_next s Left v = cond (v == s.me) (with_decision s) (with_seen s v)
 lelann_next s Right v = s
 
--- what is sent because of it: another's identity is passed on
+-- the messages sent because of it: another's identity is passed on
 abbrev pub lelann_sends : Knowledge → Side → ℕ → Sends ℕ
 lelann_sends s Left v = cond (v == s.me) (nothing ℕ) (rightward v)
 lelann_sends s Right v = nothing ℕ
@@ -46,7 +46,7 @@ lelann_table = record {
 }
 
 -- The k-th message of a right link is the identity k places to the left of the sender, for k below
--- the length of the ring; nothing fits on a left link.
+-- the length of the ring. Nothing fits on a left link.
 abbrev pub lelann_fits : List ℕ → ℕ → Side → ℕ → ℕ → Type 0
 lelann_fits ring i Left k v = ⊥
 lelann_fits ring i Right k v = slice_get (leftward ring i) k ≡ Some v

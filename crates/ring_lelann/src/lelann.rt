@@ -12,14 +12,15 @@ use std::marker::Model;
 /// Distributed systems: towards a formal approach, IFIP 1977; the ring is that of Lynch,
 /// Distributed Algorithms, 3.1).
 ///
-/// A message is an identity. A node sends its own to the right and passes all others on; where its
-/// own comes back it has seen every member, and decides.
+/// A message is an identity. A node sends its own to the right and passes all others on. If its own
+/// comes back, it has seen every member, and it decides.
 #[derive(Clone, Copy, Debug, PartialEq, Eq)]
 pub struct LeLann;
 
-/// What a node of this algorithm remembers.
+/// The memory of a node of this algorithm.
 ///
-/// Contracts see it as one record: the node's identity, those that it has seen, and its decision.
+/// Contracts see one record: the node's identity, the identities that it has seen, and its
+/// decision.
 #[derive(Debug, Drop)]
 pub struct LeLannState {
     me: NodeId,
@@ -36,8 +37,8 @@ impl Model for LeLannState {
 }
 
 impl LeLannState {
-    /// The identities of others that came from the left, in the order of their receipt. Takes no
-    /// memory.
+    /// The identities of others that came from the left, in the order of their receipt. Does not
+    /// allocate.
     pub fn seen(&self) -> &[NodeId]
         ensures { result.now ≡ self.now.seen }
     {
@@ -69,7 +70,7 @@ impl RingElection for LeLann {
 
     ghost bound = { λ _. lelann_bound };
 
-    /// Never: messages go to the right alone.
+    /// Never: messages go only to the right.
     fn two_way(&self) -> bool
         ensures { result ≡ false }
     {
@@ -83,8 +84,8 @@ impl RingElection for LeLann {
         true
     }
 
-    /// A node that has seen and decided nothing; it sends its own identity to the right. Takes no
-    /// memory.
+    /// Returns a state without seen identities and decision, and the node's own identity to the
+    /// right. Does not allocate.
     fn start(&self, alloc: Global, me: NodeId) -> (LeLannState, Sends<NodeId>)
         ensures state { result.0 ≡ lelann_first me }
         ensures sends { result.1 ≡ rightward me }
@@ -101,11 +102,12 @@ impl RingElection for LeLann {
         (state, sends)
     }
 
-    /// From the left, another's identity is seen and passed on, and the node's own decides the
-    /// greatest of all that it knows, unless it has decided before. From the right nothing happens.
+    /// Takes a message. From the left, another's identity is added to those seen and passed on. The
+    /// node's own identity decides the greatest known one, unless the node has decided before. A
+    /// message from the right changes nothing.
     ///
-    /// Refused for want of memory only where the list of seen identities has to grow. It grows
-    /// before anything else changes, so a refusal leaves the state as it was.
+    /// `NoMemory` only if the list of seen identities has to grow. The list grows before anything
+    /// else changes, so a failed allocation leaves the state as it was.
     fn receive(
         &self,
         state: &mut LeLannState,
@@ -133,8 +135,8 @@ impl RingElection for LeLann {
         Ok(sends)
     }
 
-    /// The greatest identity that was known when the node's own first came back from the left, or
-    /// none.
+    /// The greatest identity known when the node's own first came back from the left; `None` if it
+    /// has not come back.
     fn decision(&self, state: &LeLannState) -> Option<NodeId>
         ensures { result ≡ state.now.decided }
     {

@@ -1,10 +1,10 @@
 //! The election of LeLann: every identity goes all round the ring, and every node elects the
 //! greatest by itself.
 //!
-//! What a node sends and decides is exactly the table in the specifications, for every message
-//! from either side. Every message fits its place on its link, whatever a node decides is the
-//! greatest identity of its ring, a ring in which every message was taken is decided, and a ring
-//! of n takes at most n * n messages, and exactly so many where every message was taken. No call but `receive` takes memory.
+//! The code does what its table says, for every message from either side. Every message fits at its
+//! index on its link. A node decides only on the greatest identity of its ring. A ring in which
+//! every message was taken is decided. A ring of n takes at most n * n messages, and exactly n * n
+//! if every message was taken. Only `receive` allocates.
 #![tactic(auto)]
 
 mod lelann;

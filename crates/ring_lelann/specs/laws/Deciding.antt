@@ -1,4 +1,4 @@
--- Where all that was sent was taken, this algorithm has decided.
+-- If every sent message was taken, this algorithm has decided.
 use Rattle.std.specs.Prelude.{◌≢◌, ℕ, List, [], Some, refl}
 use Rattle.std.proofs.Common.{◌≡◌, ◌∙◌, sym, ap, get_or, slice_get, subst}
 use Rattle.std.proofs.lemmas.Option.{slice_get-get_or, slice_get_within}
@@ -15,7 +15,7 @@ use Rattle.ring_lelann.specs.LeLann.{lelann_first, lelann_fits, lelann_table}
 use Rattle.ring_lelann.specs.laws.Others.{in_without}
 use Rattle.ring_lelann.specs.laws.Traces.{decision_at_home-home, sent_from-right, state_from-undecided}
 
--- an identity that came from the left is passed on by every other node
+-- every other node passes on an identity that came from the left
 passes_on : (me v : ℕ) (receipts : List (Side × ℕ)) → v ≢ me → IsIn (taken_from Left receipts) v → IsIn (sent_after lelann_table me Right receipts) v
 passes_on me v receipts differs came =
     in_rest me (sent_from lelann_table Right (lelann_first me) receipts) v

@@ -22,7 +22,7 @@ first_sends_fit ring i me Left v is here sent = cc
 first_sends_fit ring i me Right v is here sent =
     subst (λ (l : List ℕ). slice_get l 0 ≡ Some v) (sym (leftward-here ring i me here)) sent
 
--- all that is sent to the right is the own identity and a first part of the others
+-- all messages to the right are the own identity and a prefix of the others
 sends_fit : (ring : List ℕ) (i me : ℕ) (receipts : List (Side × ℕ)) (side : Side) (k v : ℕ) → IsRing ring → slice_get ring i ≡ Some me → AllFit lelann_fits ring i receipts
     → slice_get (sent_after lelann_table me side receipts) k ≡ Some v → lelann_fits ring i side k v
 sends_fit ring i me receipts Left k v is here all sent =

@@ -1,5 +1,5 @@
--- What a node took, where all that it took fits: the ring read to the left from its left neighbour,
--- as far as it came.
+-- The messages that a node took, if all of them fit: a prefix of the ring read to the left from its
+-- left neighbour.
 use Rattle.std.specs.Prelude.{◌≡◌, ◌≤◌, ℕ, List, [], ◌∷◌, ◌++◌, length, Some, slice_get}
 use Rattle.std.proofs.Common.{◌∙◌, sym, ap, arith}
 use Rattle.std.proofs.lemmas.List.{length-append}
@@ -14,19 +14,19 @@ use Rattle.ring_election.proofs.Rings.{behind, differs_behind, leftward-left_of,
 use Rattle.ring_lelann.specs.LeLann.{lelann_fits}
 use Rattle.ring_lelann.specs.laws.Others.{without, without-append, without-last}
 
--- what was taken from the left is a first part of what is read from the left neighbour on
+-- the messages taken from the left are a prefix of the ring read from the left neighbour on
 pub taken-leftward : (ring : List ℕ) (i : ℕ) (receipts : List (Side × ℕ)) → AllFit lelann_fits ring i receipts
     → (rest : List ℕ) × (taken_from Left receipts ++ rest ≡ leftward ring (left_of (length ring) i))
 taken-leftward ring i receipts all = first_part (taken_from Left receipts) (leftward ring (left_of (length ring) i)) (all.each Left)
 
--- that is all the others and then the own identity
+-- that ring is all the others and then the own identity
 pub taken-round : (ring : List ℕ) (i me : ℕ) (receipts : List (Side × ℕ)) → slice_get ring i ≡ Some me → AllFit lelann_fits ring i receipts
     → (rest : List ℕ) × (taken_from Left receipts ++ rest ≡ behind ring i ++ me ∷ [])
 taken-round ring i me receipts here all =
     let part = taken-leftward ring i receipts all in
     (part.0, part.1 ∙ leftward-left_of ring i me here)
 
--- without the own identity, it is a first part of all the others
+-- without the own identity, the messages taken are a prefix of all the others
 pub taken-others : (ring : List ℕ) (i me : ℕ) (receipts : List (Side × ℕ)) → IsRing ring → slice_get ring i ≡ Some me → AllFit lelann_fits ring i receipts
     → (rest : List ℕ) × (without me (taken_from Left receipts) ++ rest ≡ behind ring i)
 taken-others ring i me receipts is here all =

@@ -1,4 +1,4 @@
--- What a node has sent and decided, said by the identities that it took from the left.
+-- The sends and the decision of a node, given by the identities that it took from the left.
 use Rattle.std.specs.Prelude.{◌≡◌, ◌==◌, ℕ, zero, suc, true, false, not, cond, List, [], ◌∷◌, ◌++◌, Option, Some, None, slice_get, refl}
 use Rattle.std.proofs.Common.{sym, ap, ◌∙◌, append_assoc, arith}
 use Rattle.std.proofs.lemmas.Bool.Decides.{nat_tests}
@@ -12,7 +12,7 @@ use Rattle.ring_election.proofs.Members.{IsIn}
 use Rattle.ring_lelann.specs.LeLann.{Knowledge, lelann_next, lelann_table, with_decision, with_seen}
 use Rattle.ring_lelann.specs.laws.Others.{without}
 
--- what goes to the right is what came from the left without the own identity
+-- the messages to the right are those that came from the left, without the own identity
 pub sent_from-right : (s : Knowledge) (rs : List (Side × ℕ)) → sent_from lelann_table Right s rs ≡ without s.me (taken_from Left rs)
 sent_from-right s [] = refl
 sent_from-right s ((Left, v) ∷ rs) =
@@ -44,8 +44,8 @@ state_from-decided s [] leader is = is
 state_from-decided s (r ∷ rs) leader is =
     state_from-decided (lelann_next s r.0 r.1) rs leader (lelann_next-decided s r.0 r.1 leader is)
 
--- what is decided when the own identity comes first, with these seen before: the greatest of all
--- that came until then
+-- the decision when the own identity comes first, with these seen before: the greatest of all that
+-- came until then
 abbrev pub decision_at_home : ℕ → List ℕ → List ℕ → Option ℕ
 decision_at_home me seen [] = None
 decision_at_home me seen (v ∷ vs) = cond (v == me) (Some (greatest_of (me ∷ seen))) (decision_at_home me (seen ++ v ∷ []) vs)
@@ -60,14 +60,14 @@ state_from-undecided s ((Left, v) ∷ rs) is =
     ]
 state_from-undecided s ((Right, v) ∷ rs) is = state_from-undecided s rs is
 
--- the own identity stands among these, and the leader is the greatest of it and of those before it
+-- the own identity is among these, and the leader is the greatest of it and of those before it
 pub record IsHome (me : ℕ) (seen vs : List ℕ) (leader : ℕ) : Type 0 where
   pub before : List ℕ
   pub after : List ℕ
   pub parts : vs ≡ before ++ me ∷ after
   pub leads : leader ≡ greatest_of (me ∷ seen ++ before)
 
--- what was decided was decided at home
+-- a decision was made when the own identity came home
 pub decision_at_home-some : (me : ℕ) (seen vs : List ℕ) (leader : ℕ) → decision_at_home me seen vs ≡ Some leader → IsHome me seen vs leader
 decision_at_home-some me seen [] leader is = cc
 decision_at_home-some me seen (v ∷ vs) leader is =
@@ -90,7 +90,7 @@ decision_at_home-some me seen (v ∷ vs) leader is =
           }
     ] refl is
 
--- where the own identity came, something is decided
+-- if the own identity came, the node has decided
 pub decision_at_home-home : (me : ℕ) (seen vs : List ℕ) → IsIn vs me → (leader : ℕ) × (decision_at_home me seen vs ≡ Some leader)
 decision_at_home-home me seen vs home = at seen vs home.place home.there
   where

@@ -1,4 +1,4 @@
--- What was decided stands in the state.
+-- The decision is a field of the state.
 use Rattle.std.proofs.Common.{ap}
 use Rattle.ring_lelann.specs.LeLann.{Knowledge}
 use Rattle.ring_lelann.proofs.lelann.LeLannRingElection.decision.Goals as goal

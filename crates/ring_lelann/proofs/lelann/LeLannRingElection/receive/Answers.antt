@@ -1,4 +1,4 @@
--- What could not be stored changes nothing.
+-- A failed allocation changes nothing.
 use Rattle.std.proofs.Common.{rules}
 use Rattle.ring_lelann.proofs.lelann.LeLannRingElection.receive.Goals as goal
 
