@@ -1,5 +1,5 @@
--- A member that comes to a phase is greater than all that stand near it, so that any two that come to
--- it stand far apart.
+-- A member that comes to a phase is greater than all members near it. So any two that come to it
+-- are far apart.
 use Rattle.std.proofs.Common.{◌≡◌, ◌+◌, ◌-◌, ◌^◌, ◌<◌, ◌≤◌, ℕ, suc, List, length, Some, slice_get, sym, ap, ◌∙◌, arith}
 use Rattle.std.proofs.lemmas.Bool.Decides.{nat_tests}
 use Rattle.ring_id.specs.declared.side.Side.{Side}
@@ -70,10 +70,10 @@ some_injective x y e = cc
 
 -- ---- In a sound family
 
--- the member v, which stands at position p
+-- the member v at position p
 module _ (ring : List ℕ) (is : IsRing ring) (family : ℕ → List (Side × HirschbergMsg)) (sound : IsSound hirschberg_table ring family) (p v : ℕ) (here : slice_get ring p ≡ Some v) where
-  -- where a greater member stands at most 2 ^ k steps away, v comes to no phase above k: its tokens of phase k
-  -- don't come home from there
+  -- If a greater member is at most 2 ^ k steps away, v comes to no phase above k. Its tokens of
+  -- phase k don't come home from there.
   pub stays_low : (side : Side) (k left x : ℕ) → suc left < length ring → slice_get ring (walk (length ring) p side (suc left)) ≡ Some x → v < x → suc left ≤ 2 ^ k →
       phase (state_after hirschberg_table v (family p)) ≤ k
   stays_low side k left x below there greater few =

@@ -23,12 +23,12 @@ use Rattle.ring_hirschberg.specs.laws.Tokens.{own_out}
 use Rattle.ring_hirschberg.specs.laws.Walks.{walk, walk_below}
 use Rattle.ring_hirschberg.specs.laws.Weights.{by_side, from_behind, sent_weight-less, weight, weight-listed, weight-zero, weight_of}
 
--- a token of v on its way out with at least so many hops left
+-- a token of v on its way out with at least this many hops left
 abbrev is_far : ℕ → ℕ → HirschbergMsg → ℕ
 is_far v least (Out w hops) = cond (w == v) (cond (nat_le least hops) 1 0) 0
 is_far v least (Back w) = 0
 
--- whether the token of phase l begins with at least so many hops
+-- whether the token of phase l begins with at least this many hops
 abbrev pub begins : ℕ → ℕ → ℕ
 begins least l = cond (nat_le least (2 ^ l)) 1 0
 
@@ -40,13 +40,13 @@ first_far side x v least not = grind (arith, nat_tests)
 first_out : (side : Side) (x v : ℕ) → x ≢ v → weight_of (is_out v) (to_side side (hirschberg_first_sends x)) ≡ 0
 first_out side x v not = grind (arith, nat_tests)
 
--- what goes on with so many hops came with one more
+-- a token that goes on with some hops came with one more
 receipt_far : (side : Side) (x v least : ℕ) → x ≢ v → (s : HirschbergState) (from : Side) (m : HirschbergMsg) → IsOwn x s → Unit {0} →
     weight_of (is_far v (suc least)) (to_side side (hirschberg_sends s from m)) + weight_of (λ m. 0) (to_side side (hirschberg_sends s from m)) ≤
     by_side (is_far v (suc (suc least))) (other side) from m + by_side (λ m. 0) (other side) from m
 receipt_far side x v least not s from m is _ = let same : s.me ≡ x = is.same in grind (arith, nat_tests)
 
--- whatever goes on came with two at least
+-- a token that goes on came with at least two hops
 receipt_out : (side : Side) (x v : ℕ) → x ≢ v → (s : HirschbergState) (from : Side) (m : HirschbergMsg) → IsOwn x s → Unit {0} →
     weight_of (is_out v) (to_side side (hirschberg_sends s from m)) + weight_of (λ m. 0) (to_side side (hirschberg_sends s from m)) ≤
     by_side (is_far v 2) (other side) from m + by_side (λ m. 0) (other side) from m
@@ -80,8 +80,8 @@ module _ (side : Side) (x v : ℕ) (receipts : List (Side × HirschbergMsg)) whe
 
 -- ---- At home
 
--- From phase p on to phase q: the phase stays and no own token is sent, or it rises and the own token
--- that is sent begins with two to the power of the new phase.
+-- From phase p on to phase q. Either the phase stays and no own token is sent, or it rises and an
+-- own token is sent. That token begins with two to the power of the new phase hops.
 abbrev IsFarStep : ℕ → ℕ → ℕ → ℕ → Type 0
 IsFarStep least p q sent = ((q ≡ p) × (sent ≡ 0)) ⊎ ((q ≡ suc p) × (sent ≡ begins least (suc p)))
 
@@ -112,7 +112,7 @@ module _ (side : Side) (me least : ℕ) where
       rw (weight-listed (is_far me least) (to_side side (hirschberg_sends s r.0 r.1)) (sent_from hirschberg_table side next receipts))
       (omega arith)
 
-  -- of its own tokens a node has sent one for each phase that begins with so many hops
+  -- of its own tokens a node has sent one for each phase that begins with at least this many hops
   own_far : (receipts : List (Side × HirschbergMsg)) →
       weight (is_far me least) (sent_after hirschberg_table me side receipts) ≡ sum_to (begins least) (suc (phase (state_after hirschberg_table me receipts)))
   own_far receipts =
@@ -133,14 +133,14 @@ module _ (ring : List ℕ) (is : IsRing ring) (family : ℕ → List (Side × Hi
   abbrev reached : ℕ
   reached = phase (state_after hirschberg_table v (family p))
 
-  -- the position so many steps from home
+  -- the position this many steps from home
   abbrev at : Side → ℕ → ℕ
   at side steps = walk (length ring) p side steps
 
   at_below : (side : Side) (steps : ℕ) → at side steps < length ring
   at_below side steps = walk_below (length ring) p side steps (slice_get_within ring p v here)
 
-  -- so many steps from home, those that are sent on with more than so many hops began with as many more
+  -- some steps from home, tokens sent on with more than a number of hops began with as many more
   far : (side : Side) (steps least x : ℕ) → steps < length ring → slice_get ring (at side steps) ≡ Some x →
       weight (is_far v (suc least)) (sent_after hirschberg_table x side (family (at side steps))) ≤ sum_to (begins (suc (least + steps))) (suc reached)
   far side zero least x below there =
@@ -160,7 +160,7 @@ module _ (ring : List ℕ) (is : IsRing ring) (family : ℕ → List (Side × Hi
       ap (λ k. sum_to (begins k) (suc reached)) (let e : suc (suc least + steps) ≡ suc (least + suc steps) = omega arith in e) in
       omega arith
 
-  -- so many steps from home, no more are sent on than began with more hops than that
+  -- some steps from home, no more are sent on than began with more hops than that
   pub outs : (side : Side) (steps x : ℕ) → steps < length ring → slice_get ring (at side steps) ≡ Some x →
       weight (is_out v) (sent_after hirschberg_table x side (family (at side steps))) ≤ sum_to (begins (suc steps)) (suc reached)
   outs side zero x below there =

@@ -1,5 +1,5 @@
--- All messages, counted by whose token they are, then by the phases that their owner came to, then by
--- the owners that came to a phase.
+-- All messages: counted by the owners of their tokens, then by the phases of an owner, then by the
+-- owners that came to a phase.
 use Rattle.std.proofs.Common.{◌≡◌, ◌+◌, ◌-◌, ◌*◌, ◌^◌, ◌<◌, ◌≤◌, ℕ, zero, suc, cond, nat_le, List, length, Some, slice_get, get_or, sym, ap, ◌∙◌, arith}
 use Rattle.std.proofs.lemmas.Bool.Decides.{nat_tests}
 use Rattle.std.proofs.lemmas.Option.{slice_get-get_or}
@@ -27,7 +27,7 @@ use Rattle.ring_hirschberg.proofs.Sums.{walk_sum, weight-sum}
 abbrev travel : ℕ → ℕ
 travel p = sum_to (λ l. 2 ^ l) (suc p)
 
--- the tokens of phase l, where phase p is reached
+-- the tokens of phase l, if phase p is reached
 abbrev share : ℕ → ℕ → ℕ
 share p l = 2 ^ l * cond (nat_le l p) 1 0
 
@@ -55,7 +55,7 @@ module _ (ring : List ℕ) (is : IsRing ring) (family : ℕ → List (Side × Hi
 
   -- ---- The tokens of one member, the one at position p
 
-  -- a position so many steps away sends on no more of them than began with more hops
+  -- a position some steps away sends on no more of them than began with more hops
   sent_few : (p : ℕ) → p < n → (side : Side) (steps : ℕ) → steps < n →
       weight (is_out (member p)) (sent_after hirschberg_table (member (walk n p side steps)) side (family (walk n p side steps))) ≤ sum_to (begins (suc steps)) (suc (phase_at ring family p))
   sent_few p below side steps inside =
@@ -167,6 +167,6 @@ module _ (ring : List ℕ) (is : IsRing ring) (family : ℕ → List (Side × Hi
       let all = sum_to-constant (2 * n) last in
       omega (arith, first_phase)
 
-  -- so many messages are taken at most
+  -- at most this many messages are taken
   pub messages_few : FamilyFits hirschberg_fits ring family → taken_in_all n family ≤ 4 * n + 8 * n * ceil_log2 n
   messages_few fit = omega (arith, all_travel fit, travel_few)

@@ -1,4 +1,4 @@
--- Few members come to a phase: any two that do stand far apart, and so there is room for few on a ring.
+-- Few members come to a phase: any two that do are far apart, so a ring has room for few.
 use Rattle.std.proofs.Common.{◌≡◌, ◌+◌, ◌-◌, ◌*◌, ◌^◌, ◌<◌, ◌≤◌, inl, inr, ℕ, zero, suc, cond, nat_le, List, length, Some, slice_get, get_or, refl, sym, ap, ◌∙◌, arith}
 use Rattle.std.proofs.lemmas.Bool.{cases_lt}
 use Rattle.std.proofs.lemmas.Bool.Decides.{nat_tests}

@@ -6,12 +6,12 @@ use Rattle.ring_election.proofs.Sums.{sum_to, sum_to-constant, sum_to-first, sum
 use Rattle.ring_hirschberg.specs.laws.Walks.{walk, walk_below, walk_first, walk_home, walk_reaches}
 use Rattle.ring_hirschberg.specs.laws.Weights.{weight}
 
--- over the positions after so many steps from each, it is the same
+-- over the positions after some steps from each, it is the same
 pub sum_to-walk : (f : ℕ → ℕ) (n : ℕ) (side : Side) (steps : ℕ) → sum_to (λ i. f (walk n i side steps)) n ≡ sum_to f n
 sum_to-walk f n side zero = refl
 sum_to-walk f n side (suc steps) = sum_to-walk (λ i. f (neighbour n i side)) n side steps ∙ sum_to-round f n side
 
--- along a whole walk, it doesn't matter where that begins: it may begin one step later
+-- along a whole walk the beginning doesn't matter: it may be one step later
 walk_sum-next : (f : ℕ → ℕ) (n p : ℕ) (side : Side) → p < n → sum_to (λ d. f (walk n (neighbour n p side) side d)) n ≡ sum_to (λ d. f (walk n p side d)) n
 walk_sum-next f n p side below =
     let later = sum_to-same (λ d. f (walk n (neighbour n p side) side d)) (λ d. f (walk n p side (suc d))) n (λ d inside. ap f (walk_first n p side d)) in

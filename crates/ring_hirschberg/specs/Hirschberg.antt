@@ -24,7 +24,7 @@ to_both m = record { left = Some m; right = Some m }
 abbrev pub phase : HirschbergState → ℕ
 phase s = min s.left s.right
 
--- a count of tokens come home, with one more; it stays at 16
+-- a count of tokens come home, raised by one; it stays at 16
 abbrev pub risen : ℕ → ℕ
 risen count = cond (nat_lt count 16) (count + 1) count
 
@@ -41,14 +41,14 @@ hirschberg_first me = record { me = me; left = 0; right = 0; decided = None }
 abbrev pub hirschberg_first_sends : ℕ → Sends HirschbergMsg
 hirschberg_first_sends me = to_both (Out me 1)
 
--- The state after a receipt: a node decides on itself where its own token reaches it on the way
--- out, and counts its own tokens that come home; nothing else changes it.
+-- The state after a receipt. A node decides on itself if its own token reaches it on the way out.
+-- It counts its own tokens that come home. Nothing else changes it.
 abbrev pub hirschberg_next : HirschbergState → Side → HirschbergMsg → HirschbergState
 hirschberg_next s side (Out v hops) = cond (v == s.me) (record s { decided = Some s.me }) s
 hirschberg_next s side (Back v) = cond (v == s.me) (counted s side) s
 
--- What becomes of a greater token that came from that side with this many hops left: it goes on
--- with one hop less, it is turned at its last hop, and with no hop left it is dropped.
+-- The next step of a greater token that came from that side with this many hops left. It goes on
+-- with one hop less, is turned at its last hop, or is dropped if it has no hop left.
 abbrev pub passed : Side → ℕ → ℕ → Sends HirschbergMsg
 passed side v hops =
     cond (nat_lt 1 hops) (one_to (other side) (Out v (hops - 1)))
@@ -56,17 +56,20 @@ passed side v hops =
 
 -- a node that comes to phase l sends its token 2 ^ l hops to both sides
 abbrev pub new_token : HirschbergState → HirschbergState → Sends HirschbergMsg
-new_token old new = cond (nat_lt (phase old) (phase new)) (to_both (Out old.me (2 ^ phase new))) (nothing HirschbergMsg)
+new_token old new =
+    cond (nat_lt (phase old) (phase new)) (to_both (Out old.me (2 ^ phase new)))
+    (nothing HirschbergMsg)
 
--- What is sent because of a receipt: a token on its way out is passed by smaller nodes and dropped
--- by greater ones, a token on its way home is passed by all nodes but its own.
+-- The messages sent because of a receipt. Smaller nodes pass a token on its way out, and greater
+-- ones drop it. All nodes but its own pass a token on its way home.
 abbrev pub hirschberg_sends : HirschbergState → Side → HirschbergMsg → Sends HirschbergMsg
 hirschberg_sends s side (Out v hops) =
-    cond (v == s.me) (nothing HirschbergMsg) (cond (nat_lt s.me v) (passed side v hops) (nothing HirschbergMsg))
+    cond (v == s.me) (nothing HirschbergMsg)
+    (cond (nat_lt s.me v) (passed side v hops) (nothing HirschbergMsg))
 hirschberg_sends s side (Back v) =
     cond (v == s.me) (new_token s (counted s side)) (one_to (other side) (Back v))
 
--- what a state has decided
+-- the decision of a state
 abbrev pub hirschberg_decided : HirschbergState → Option ℕ
 hirschberg_decided s = s.decided
 
@@ -80,11 +83,12 @@ hirschberg_table = record {
   decided = hirschberg_decided;
 }
 
--- v stands at a position from which one walks to that side as far as i over smaller identities
--- alone: at i itself, or v reaches the position before i on that walk and i is smaller
+-- v is at a position from which a walk to that side leads to i over smaller identities only. Either
+-- v is at i itself, or v reaches the position before i on that walk and i is smaller.
 pub data Reaches (ring : List ℕ) (side : Side) (v : ℕ) : ℕ → Type 0 where
   own : {i : ℕ} → slice_get ring i ≡ Some v → Reaches ring side v i
-  over : {i x : ℕ} → Reaches ring side v (neighbour (length ring) i (other side)) → slice_get ring i ≡ Some x → x < v → Reaches ring side v i
+  over : {i x : ℕ} → Reaches ring side v (neighbour (length ring) i (other side))
+      → slice_get ring i ≡ Some x → x < v → Reaches ring side v i
 
 -- v is a member
 abbrev pub IsMember : List ℕ → ℕ → Type 0
@@ -95,11 +99,11 @@ abbrev pub allows : List ℕ → ℕ → Side → HirschbergMsg → Type 0
 allows ring i side (Out v hops) = (1 ≤ hops) × Reaches ring side v i
 allows ring i side (Back v) = IsMember ring v
 
--- which message fits as the k-th of the link: which one it is doesn't matter
+-- whether the message fits as the k-th of the link; k does not matter
 abbrev pub hirschberg_fits : List ℕ → ℕ → Side → ℕ → HirschbergMsg → Type 0
 hirschberg_fits ring i side k m = allows ring i side m
 
--- an exponent, raised by one where its power of two is below n
+-- an exponent, raised by one if its power of two is below n
 abbrev pub raised : ℕ → ℕ → ℕ
 raised n e = cond (nat_lt (2 ^ e) n) (e + 1) e
 
@@ -112,6 +116,6 @@ least_power n (suc k) = raised n (least_power n k)
 abbrev pub ceil_log2 : ℕ → ℕ
 ceil_log2 n = least_power n n
 
--- the greatest number of messages that an election on a ring of n takes
+-- the most messages that an election on a ring of n takes
 abbrev pub hirschberg_bound : ℕ → ℕ
 hirschberg_bound n = 4 * (n * n) * (1 + ceil_log2 n)

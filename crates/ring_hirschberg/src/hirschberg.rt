@@ -6,8 +6,8 @@ use ring_election::{RingElection, Sends};
 use ring_id::{NoMemory, NodeId, Side};
 use std::alloc::Global;
 
-/// The greatest count of tokens come home; a count that is at it stays. So the last phase is 16,
-/// whose token makes 65536 hops. A ring of 256 needs no phase beyond 8.
+/// The greatest count of tokens come home; a count that has reached it stays. So the last phase is
+/// 16, and its token makes 65536 hops. A ring of 256 needs no phase beyond 8.
 const MOST: u8 = 16;
 
 /// The Hirschberg-Sinclair algorithm without rounds (Lynch, Distributed Algorithms, 3.4).
@@ -25,7 +25,7 @@ pub enum HirschbergMsg {
     Back { id: NodeId },
 }
 
-/// What a node remembers: how many of its tokens came home from each side, at most 16, and its
+/// The memory of a node: how many of its tokens came home from each side, at most 16, and its
 /// decision. The lesser of the two counts is its phase.
 #[derive(Clone, Copy, Debug, PartialEq, Eq)]
 pub struct HirschbergState {
@@ -43,7 +43,7 @@ impl HirschbergState {
         self.left.min(self.right)
     }
 
-    /// Counts one more token come home from that side.
+    /// Counts one more token that came home from that side.
     fn count(&mut self, side: Side)
         ensures { self.new ≡ counted self.old side }
     {
@@ -54,7 +54,8 @@ impl HirschbergState {
         }
     }
 
-    /// An own token came home from that side: where that begins a phase, its token goes out.
+    /// Counts an own token that came home from that side. If that begins a phase, returns its token
+    /// to both sides.
     #[inline(always)]
     fn come_home(&mut self, side: Side) -> Sends<HirschbergMsg>
         ensures state { self.new ≡ counted self.old side }
@@ -109,7 +110,7 @@ impl RingElection for Hirschberg {
         true
     }
 
-    /// Phase 0, with a token of one hop to both sides.
+    /// Returns a state of phase 0, and a token of one hop to both sides. Does not allocate.
     fn start(&self, _: Global, me: NodeId) -> (HirschbergState, Sends<HirschbergMsg>)
         ensures state { result.0 ≡ hirschberg_first me }
         ensures sends { result.1 ≡ hirschberg_first_sends me }
@@ -123,8 +124,8 @@ impl RingElection for Hirschberg {
         (state, token(me, 1))
     }
 
-    /// One receipt, by the table: decides where the own token comes round, passes greater tokens
-    /// and drops smaller ones, and begins a phase when both own tokens came home. Takes no memory.
+    /// Takes a token. Decides if the own token comes round, passes greater tokens on and drops
+    /// smaller ones. If both own tokens have come home, it begins a phase. Does not allocate.
     #[inline(always)]
     fn receive(
         &self,
@@ -159,7 +160,7 @@ impl RingElection for Hirschberg {
         Ok(sends)
     }
 
-    /// The own identity, once the own token came round; else none.
+    /// The node's own identity once its token came round; otherwise `None`.
     fn decision(&self, state: &HirschbergState) -> Option<NodeId>
         ensures { result ≡ hirschberg_decided state.now }
     {
@@ -177,7 +178,7 @@ impl RingElection for Hirschberg {
     ghost equal_messages = { λ a b h. Prim.search rules };
 }
 
-/// Nothing to either side.
+/// No message to either side.
 fn none() -> Sends<HirschbergMsg>
     ensures { result ≡ nothing HirschbergMsg }
 {
@@ -213,8 +214,8 @@ fn token(id: NodeId, hops: u32) -> Sends<HirschbergMsg>
     }
 }
 
-/// What becomes of a greater token: on with one hop less, turned at its last hop, dropped where it
-/// has none left.
+/// The next step of a greater token: on with one hop less, turned at its last hop, or dropped if it
+/// has no hop left.
 #[inline(always)]
 fn pass(from: Side, id: NodeId, hops: u32) -> Sends<HirschbergMsg>
     ensures { result ≡ passed from id hops }

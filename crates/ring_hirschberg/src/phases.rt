@@ -4,7 +4,7 @@ ghost use Rattle.ring_hirschberg.specs.Phases.{LogarithmIsLeast, PhasesAreFew};
 /// Distributed Algorithms, 3.4: the time and communication of HS).
 ///
 /// The law is the contract; the call does nothing. It holds of every sound family of receipts, so
-/// in every schedule: on a ring of 256 no node comes beyond phase 8.
+/// in every schedule. On a ring of 256 no node comes beyond phase 8.
 pub fn phases_are_few()
     ensures few { PhasesAreFew }
     ensures logarithm { LogarithmIsLeast }

@@ -1,6 +1,7 @@
--- An election takes at most 4 n n (1 + ceil(log2 n)) messages: of each member's tokens, any position
--- takes at most 1 + ceil(log2 n) on their way out and as many on their way home, from either side.
--- (Lynch, Distributed Algorithms, 3.4, has 8 n (1 + ceil(log2 n)) by counting a phase's tokens: see Work.)
+-- An election takes at most 4 n n (1 + ceil(log2 n)) messages. Of each member's tokens, a position
+-- takes at most 1 + ceil(log2 n) on their way out from either side. It takes as many on their way
+-- home. (Lynch, Distributed Algorithms, 3.4, counts a phase's tokens and has 8 n (1 + ceil(log2
+-- n)): see Work.)
 use Rattle.std.specs.Prelude.{◌≡◌, ◌+◌, ◌-◌, ◌*◌, ◌<◌, ◌≤◌, ℕ, zero, suc, List, [], ◌∷◌, length, Some, slice_get}
 use Rattle.std.proofs.Common.{◌∙◌, ap, refl, le_trans, arith}
 use Rattle.std.proofs.lemmas.Bool.Decides.{nat_tests}
@@ -26,14 +27,14 @@ use Rattle.ring_hirschberg.specs.laws.Weights.{from_ahead, from_behind, weight, 
 
 -- the tokens of one member v in a sound family
 module _ (ring : List ℕ) (is : IsRing ring) (family : ℕ → List (Side × HirschbergMsg)) (sound : IsSound hirschberg_table ring family) (p v : ℕ) (here : slice_get ring p ≡ Some v) where
-  -- the position so many steps from home
+  -- the position this many steps from home
   abbrev at : Side → ℕ → ℕ
   at side steps = walk (length ring) p side steps
 
   at_below : (side : Side) (steps : ℕ) → at side steps < length ring
   at_below side steps = walk_below (length ring) p side steps (slice_get_within ring p v here)
 
-  -- any position sends at most so many of them out to a side, since they come from v's own
+  -- any position sends at most this many of them out to a side, since they come from v's own
   outs : (side : Side) (steps x : ℕ) → steps < length ring → slice_get ring (at side steps) ≡ Some x →
       weight (is_out v) (sent_after hirschberg_table x side (family (at side steps))) ≤ 1 + ceil_log2 (length ring)
   outs side zero x below there =
@@ -53,7 +54,7 @@ module _ (ring : List ℕ) (is : IsRing ring) (family : ℕ → List (Side × Hi
         outs side steps before.0 (omega arith) before.1,
       )
 
-  -- the same of a position however it is reached
+  -- the same for a position however it is reached
   sends_few : (side : Side) (i x : ℕ) → slice_get ring i ≡ Some x → weight (is_out v) (sent_after hirschberg_table x side (family i)) ≤ 1 + ceil_log2 (length ring)
   sends_few side i x there =
       let reached = walk_reaches (length ring) p side i (slice_get_within ring p v here) (slice_get_within ring i x there) in
@@ -63,7 +64,7 @@ module _ (ring : List ℕ) (is : IsRing ring) (family : ℕ → List (Side × Hi
         outs side reached.0 x reached.1 (ap (slice_get ring) reached.2 ∙ there),
       )
 
-  -- any position takes at most so many of them on their way out from a side
+  -- any position takes at most this many of them on their way out from a side
   takes_few_out : (side : Side) (i : ℕ) → i < length ring → weight (is_out v) (taken_from side (family i)) ≤ 1 + ceil_log2 (length ring)
   takes_few_out side i below =
       let sender = member_at ring (neighbour (length ring) i side) (neighbour-below (length ring) i side below) in
@@ -87,12 +88,12 @@ module _ (ring : List ℕ) (is : IsRing ring) (family : ℕ → List (Side × Hi
         sends_few side (at side reached.0) x.0 x.1,
       )
 
--- whose token it is
+-- the owner of a token
 abbrev pub owner : HirschbergMsg → ℕ
 owner (Out v hops) = v
 owner (Back v) = v
 
--- it is a member's, where the message may be on a link
+-- the owner is a member, if the message may be on a link
 pub owner_is_member : (ring : List ℕ) (i : ℕ) (side : Side) (m : HirschbergMsg) → allows ring i side m → IsMember ring (owner m)
 owner_is_member ring i side (Out v hops) fit = member_of ring side v i fit.1
 owner_is_member ring i side (Back v) fit = fit
@@ -105,7 +106,7 @@ owner_counted m = grind (arith, nat_tests)
 abbrev pub tokens_of : List HirschbergMsg → ℕ → ℕ
 tokens_of ms v = weight (is_out v) ms + weight (is_back v) ms
 
--- messages of members are at most as many as the tokens of all members among them
+-- messages of members are no more than the tokens of all members among them
 pub members_cover : (ring : List ℕ) (ms : List HirschbergMsg) → ((k : ℕ) (m : HirschbergMsg) → slice_get ms k ≡ Some m → IsMember ring (owner m)) → length ms ≤ weight (tokens_of ms) ring
 members_cover ring [] each = omega arith
 members_cover ring (m ∷ ms) each =
@@ -119,7 +120,7 @@ members_cover ring (m ∷ ms) each =
       weight-less (λ v. (is_out v m + is_back v m) + tokens_of ms v) (tokens_of (m ∷ ms)) ring (λ v. omega arith),
     )
 
--- n positions, two sides, n members, and twice so many of each member's tokens
+-- n positions, two sides, n members, and twice that many of each member's tokens
 square : (n b : ℕ) → n * (n * (b + b) + n * (b + b)) ≤ 4 * (n * n) * b
 square n b = omega arith
 
@@ -129,7 +130,7 @@ module _ (ring : List ℕ) (is : IsRing ring) (family : ℕ → List (Side × Hi
   abbrev per_side : ℕ
   per_side = length ring * ((1 + ceil_log2 (length ring)) + (1 + ceil_log2 (length ring)))
 
-  -- so many messages a position takes from a side
+  -- a position takes at most this many messages from a side
   takes_few : (side : Side) (i : ℕ) → i < length ring → length (taken_from side (family i)) ≤ per_side
   takes_few side i below =
       omega (
@@ -146,6 +147,6 @@ module _ (ring : List ℕ) (is : IsRing ring) (family : ℕ → List (Side × Hi
       (taken_in_all-at_most (length ring) (per_side + per_side) family (λ i below. omega (arith, length-taken (family i), takes_few Left i below, takes_few Right i below)))
       (square (length ring) (1 + ceil_log2 (length ring)))
 
--- the work of Hirschberg-Sinclair is bounded
+-- the messages of Hirschberg-Sinclair are bounded
 pub hirschberg_bounded : Bounded hirschberg_table hirschberg_fits hirschberg_bound
 hirschberg_bounded = record { work_is_bounded = λ ring family is fit sound. all_take_few ring is family fit sound }

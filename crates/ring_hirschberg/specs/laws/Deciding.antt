@@ -1,4 +1,5 @@
--- Where all that was sent was taken, the greatest member has decided (Lynch, Distributed Algorithms, 3.4).
+-- If every sent message was taken, the greatest member has decided (Lynch, Distributed Algorithms,
+-- 3.4).
 use Rattle.std.specs.Prelude.{◌≡◌, ◌≢◌, ◌+◌, ◌-◌, ◌^◌, ◌<◌, ◌≤◌, ◌⊎◌, ℕ, zero, suc, min, List, [], ◌∷◌, length, Some, slice_get}
 use Rattle.std.proofs.Common.{ap, inl, inr, arith}
 use Rattle.std.proofs.lemmas.Bool.{cases_lt}
@@ -23,12 +24,12 @@ use Rattle.ring_hirschberg.specs.laws.Homecomings.{home_again, member_at, other_
 use Rattle.ring_hirschberg.specs.laws.Walks.{walk, walk_below}
 use Rattle.ring_hirschberg.specs.laws.Weights.{all_ahead, all_behind, by_side, complete_sound, weight, weight-less, weight-taken}
 
--- a node decides where it takes its own token on the way out
+-- a node decides when it takes its own token on the way out
 receipt_decides : (s : HirschbergState) (side from : Side) (me : ℕ) (m : HirschbergMsg) → s.me ≡ me → 1 ≤ by_side (is_out me) side from m →
     (hirschberg_next s from m).decided ≡ Some me
 receipt_decides s side from me m is came = grind (arith, nat_tests)
 
--- one receipt more, where the node had decided before or takes its own token now or later
+-- one receipt more, if the node had decided before or takes its own token now or later
 decided_or_later : (side : Side) (me : ℕ) (s : HirschbergState) (from : Side) (m : HirschbergMsg) (receipts : List (Side × HirschbergMsg)) → IsOwn me s →
     (s.decided ≡ Some me) ⊎ (1 ≤ weight (is_out me) (taken_from side ((from, m) ∷ receipts))) →
     ((hirschberg_next s from m).decided ≡ Some me) ⊎ (1 ≤ weight (is_out me) (taken_from side receipts))
@@ -42,14 +43,14 @@ decided_or_later side me s from m receipts is either =
           ]
     ]
 
--- after any receipts, where it had decided before or takes its own token among them
+-- after any receipts, if it had decided before or takes its own token among them
 decided_from : (side : Side) (me : ℕ) (s : HirschbergState) (receipts : List (Side × HirschbergMsg)) → IsOwn me s →
     (s.decided ≡ Some me) ⊎ (1 ≤ weight (is_out me) (taken_from side receipts)) → (state_from hirschberg_table s receipts).decided ≡ Some me
 decided_from side me s [] is either = elim either [ inl decided ↦ decided | inr some ↦ absurd (omega arith) ]
 decided_from side me s (r ∷ receipts) is either =
     decided_from side me (hirschberg_next s r.0 r.1) receipts (own_next me s r.0 r.1 is) (decided_or_later side me s r.0 r.1 receipts is either)
 
--- so many steps further
+-- `most`, raised by one for each step
 further : ℕ → ℕ → ℕ
 further zero most = most
 further (suc steps) most = suc (further steps most)
@@ -63,7 +64,7 @@ further-le (suc steps) most = omega (arith, further-le steps most)
 -- a complete family, and the greatest member v
 module _ (ring : List ℕ) (is : IsRing ring) (p v : ℕ) (here : slice_get ring p ≡ Some v) (others : (j x : ℕ) → slice_get ring j ≡ Some x → x ≤ v)
     (family : ℕ → List (Side × HirschbergMsg)) (complete : IsComplete hirschberg_table ring family) where
-  -- the position so many steps from home
+  -- the position this many steps from home
   abbrev at : Side → ℕ → ℕ
   at side steps = walk (length ring) p side steps
 
@@ -74,8 +75,8 @@ module _ (ring : List ℕ) (is : IsRing ring) (p v : ℕ) (here : slice_get ring
   at_home : (side : Side) (steps : ℕ) → steps ≡ length ring → at side steps ≡ p
   at_home side steps all = same_position ring (at side steps) p v is (home_again ring is p v here side steps all) here
 
-  -- So many steps from home, each token of v that is sent on either is turned and comes home from
-  -- there, or goes all round.
+  -- At any number of steps from home, each token of v that is sent on either comes home from there,
+  -- or goes all round.
   returned : (side : Side) (most steps left x : ℕ) → steps + left + 1 ≡ length ring → slice_get ring (at side steps) ≡ Some x →
       weight (is_near v (further left most)) (sent_after hirschberg_table x side (family (at side steps))) ≤
       weight (is_back v) (taken_from side (family (at side steps))) + weight (is_near v most) (taken_from (other side) (family p))
@@ -116,14 +117,14 @@ module _ (ring : List ℕ) (is : IsRing ring) (p v : ℕ) (here : slice_get ring
         returned side (2 ^ last) 0 (length ring - 1) v (omega arith) here,
       )
 
-  -- were there none that went round, v would be in phase 16
+  -- if none went round, v would be in phase 16
   some_round : round Left ≤ 0 → round Right ≤ 0 → ⊥
   some_round left right =
       let small : last ≤ 8 = omega (arith, phase_small ring is p v here Left family (complete_sound hirschberg_table ring family complete), ceil_log2-small (length ring) is.short) in
       let more : min 16 (suc last) ≤ last = back_phase v (family p) (suc last) (omega (arith, own_returned Left)) (omega (arith, own_returned Right)) in
       omega arith
 
-  -- where one went round, v has decided
+  -- if one went round, v has decided
   round_decides : (side : Side) → 0 < round side → (state_after hirschberg_table v (family p)).decided ≡ Some v
   round_decides side came =
       let out = weight-less (is_near v (2 ^ last)) (is_out v) (taken_from side (family p)) (near_is_out v (2 ^ last)) in

@@ -16,17 +16,17 @@ use Rattle.ring_hirschberg.specs.laws.Tokens.{own_back, own_low, phase_back}
 use Rattle.ring_hirschberg.specs.laws.Walks.{walk, walk_away, walk_below, walk_home}
 use Rattle.ring_hirschberg.specs.laws.Weights.{from_ahead, from_behind, weight}
 
--- one value stands at one place
+-- one value is at one place
 some_injective : (x y : ℕ) → Some x ≡ Some y → x ≡ y
 some_injective x y e = cc
 
--- some member stands at each position
+-- some member is at each position
 pub member_at : (ring : List ℕ) (i : ℕ) → i < length ring → (x : ℕ) × (slice_get ring i ≡ Some x)
 member_at ring i below = (get_or ring i 0, slice_get-get_or ring i 0 below)
 
 -- the positions from that of the member v on, walking to one side
 module _ (ring : List ℕ) (is : IsRing ring) (p v : ℕ) (here : slice_get ring p ≡ Some v) (side : Side) where
-  -- the position so many steps from home
+  -- the position this many steps from home
   abbrev at : ℕ → ℕ
   at steps = walk (length ring) p side steps
 
@@ -44,8 +44,9 @@ module _ (ring : List ℕ) (is : IsRing ring) (p v : ℕ) (here : slice_get ring
       walk_away (length ring) p side steps (slice_get_within ring p v here) some few (same_position ring (at steps) p v is (there ∙ ap Some e) here)
 
   module _ (family : ℕ → List (Side × HirschbergMsg)) (sound : IsSound hirschberg_table ring family) where
-    -- So many steps from home, and before a position that sends none of v's tokens home, a position takes
-    -- no more tokens of v on their way home than it has sent on that can be turned before that one.
+    -- Take a position some steps from home, before a position that sends none of v's tokens home.
+    -- It takes no more tokens of v on their way home than it sent on that can be turned before that
+    -- one.
     pub back_near_to : (stop : ℕ) → stop ≤ length ring →
         ((y : ℕ) → slice_get ring (at stop) ≡ Some y → weight (is_back v) (sent_after hirschberg_table y (other side) (family (at stop))) ≡ 0) →
         (steps left x : ℕ) → steps + left + 1 ≡ stop → slice_get ring (at steps) ≡ Some x →
@@ -71,8 +72,8 @@ module _ (ring : List ℕ) (is : IsRing ring) (p v : ℕ) (here : slice_get ring
           from_behind hirschberg_table ring family (at steps) side (at_below steps) (is_near v (suc left)) x sound there,
         )
 
-    -- v's own position sends none of them home, so that any position takes no more of them than it has sent
-    -- on that can be turned before they come home
+    -- v's own position sends none of them home. So no position takes more of them than it sent on
+    -- that can be turned before they come home.
     pub back_near : (steps left x : ℕ) → steps + left + 1 ≡ length ring → slice_get ring (at steps) ≡ Some x →
         weight (is_back v) (taken_from side (family (at steps))) ≤ weight (is_near v left) (sent_after hirschberg_table x side (family (at steps)))
     back_near steps left x all there =

@@ -23,12 +23,12 @@ use Rattle.ring_hirschberg.specs.laws.States.{IsOwn, decision_stays, own_after, 
 use Rattle.ring_hirschberg.specs.laws.Walks.{walk, walk_first, walk_away, walk_reaches, other_other}
 use Rattle.ring_hirschberg.specs.laws.Receipts.{each_fits, each_sent_after, state_keeps}
 
--- a token that came so far is a member's
+-- a token that came this far is a member's
 pub member_of : (ring : List ℕ) (side : Side) (v i : ℕ) → Reaches ring side v i → IsMember ring v
 member_of ring side v i (own here) = (i, here)
 member_of ring side v i (over before here less) = member_of ring side v (neighbour (length ring) i (other side)) before
 
--- Walking from i that way one meets, after some steps, v, and before it smaller identities alone.
+-- Walking from i that way, one meets v after some steps, and only smaller identities before it.
 record IsOver (ring : List ℕ) (way : Side) (v i : ℕ) : Type 0 where
   steps : ℕ
   there : slice_get ring (walk (length ring) i way steps) ≡ Some v
@@ -46,14 +46,14 @@ one_over ring way v i x past here less = record {
     smaller zero y lt there = let e : x ≡ y = cc in omega arith
     smaller (suc e) y lt there = past.smaller e y (omega arith) (ap (slice_get ring) (walk_first (length ring) i way e) ∙ there)
 
--- where a token came so far, it came over smaller identities from its own position
+-- a token that came this far came over smaller identities from its own position
 over_of : (ring : List ℕ) (side : Side) (v i : ℕ) → Reaches ring side v i → IsOver ring (other side) v i
 over_of ring side v i (own here) = record { steps = 0; there = here; smaller = λ e x lt there. absurd (omega arith) }
 over_of ring side v i (over {x = x} before here less) = one_over ring (other side) v i x (over_of ring side v (neighbour (length ring) i (other side)) before) here less
 
--- one position of a ring, with the member that stands there
+-- one position of a ring, with the member that is there
 module _ (ring : List ℕ) (i me : ℕ) (here : slice_get ring i ≡ Some me) where
-  -- what arrives from that side was on the link from the neighbour there
+  -- a message that arrives from that side was on the link from the neighbour there
   abbrev Arrives : Side → HirschbergMsg → Type 0
   Arrives from m = allows ring (neighbour (length ring) i from) (other from) m
 
@@ -85,7 +85,7 @@ module _ (ring : List ℕ) (i me : ℕ) (here : slice_get ring i ≡ Some me) wh
   goes_on Left v less came = over came here less
   goes_on Right v less came = over came here less
 
-  -- what becomes of a greater token, and a new token of the node's own, may be on its link
+  -- the next step of a greater token, and a new token of the node's own, may be on its link
   passed_allowed : (from : Side) (v hops : ℕ) → me < v → Arrives from (Out v hops) → AllAllowed (passed from v hops)
   passed_allowed from v hops less came =
       elim (nat_lt 1 hops) as (λ b. nat_lt 1 hops ≡ b → AllAllowed (cond b (one_to (other from) (Out v (hops - 1))) (cond (hops == 1) (one_to from (Back v)) (nothing HirschbergMsg)))) [
@@ -106,7 +106,7 @@ module _ (ring : List ℕ) (i me : ℕ) (here : slice_get ring i ≡ Some me) wh
         | false ↦ nothing_allowed
       ]
 
-  -- what one receipt causes to be sent may be on its link
+  -- a message that one receipt causes may be on its link
   sends_allowed : (s : HirschbergState) (from : Side) (m : HirschbergMsg) → s.me ≡ me → Arrives from m → AllAllowed (hirschberg_sends s from m)
   sends_allowed s from (Out v hops) same came =
       elim (v == s.me) as (λ b. AllAllowed (cond b (nothing HirschbergMsg) (cond (nat_lt s.me v) (passed from v hops) (nothing HirschbergMsg)))) [
@@ -138,12 +138,12 @@ module _ (ring : List ℕ) (i me : ℕ) (here : slice_get ring i ≡ Some me) wh
     from : Side
     reached : Reaches ring (other from) me (neighbour (length ring) i from)
 
-  -- the states of this node: it has decided only where its token came
+  -- the states of this node: it has decided only if its token came
   record IsReached (s : HirschbergState) : Type 0 where
     is_own : IsOwn me s
     came : (v : ℕ) → s.decided ≡ Some v → HasCome
 
-  -- they are so from the first on, receipt by receipt
+  -- they are so from the first state on, receipt by receipt
   reached_first : IsReached (hirschberg_first me)
   reached_first = record { is_own = own_first me; came = λ v e. absurd (cc) }
 
@@ -166,8 +166,8 @@ module _ (ring : List ℕ) (i me : ℕ) (here : slice_get ring i ≡ Some me) wh
             | false ↦ λ e. is.came v e
           ]
 
-  -- Where the token came, walking on past the last position below it leads home: so it went all
-  -- round, and all others are smaller.
+  -- A token that came here went all round, since a walk past the last position below it leads home.
+  -- So all other identities are smaller.
   round_steps : (from : Side) → IsRing ring → (past : IsOver ring from me (neighbour (length ring) i from)) → length ring ≤ suc past.steps
   round_steps from is past =
       elim (cases_lt (suc past.steps) (length ring)) [
@@ -179,7 +179,7 @@ module _ (ring : List ℕ) (i me : ℕ) (here : slice_get ring i ≡ Some me) wh
       home = same_position ring (walk (length ring) i from (suc past.steps)) i me is
           (ap (slice_get ring) (sym (walk_first (length ring) i from past.steps)) ∙ past.there) here
 
-  -- who stands no further round than v came is not greater
+  -- a member no further round than v came is not greater
   smaller_past : (from : Side) (past : IsOver ring from me (neighbour (length ring) i from)) (steps j x : ℕ) → steps ≤ past.steps →
       walk (length ring) i from steps ≡ j → slice_get ring j ≡ Some x → x ≤ me
   smaller_past from past zero j x few at there = let e : x ≡ me = cc in omega arith
@@ -187,7 +187,7 @@ module _ (ring : List ℕ) (i me : ℕ) (here : slice_get ring i ≡ Some me) wh
       let less : x < me = past.smaller steps x (omega arith) (ap (slice_get ring) (walk_first (length ring) i from steps ∙ at) ∙ there) in
       omega arith
 
-  -- so nobody is greater
+  -- so no member is greater
   all_round : IsRing ring → HasCome → (j x : ℕ) → slice_get ring j ≡ Some x → x ≤ me
   all_round is came j x there =
       let past : IsOver ring came.from me (neighbour (length ring) i came.from) =
@@ -197,7 +197,7 @@ module _ (ring : List ℕ) (i me : ℕ) (here : slice_get ring i ≡ Some me) wh
       let many = round_steps came.from is past in
       smaller_past came.from past reached.0 j x (omega (arith, reached.1)) reached.2 there
 
-  -- what the node decides is the greatest member
+  -- a node decides only on the greatest member
   decides_greatest : IsRing ring → (receipts : List (Side × HirschbergMsg)) (v : ℕ) → AllFit hirschberg_fits ring i receipts →
       (state_after hirschberg_table me receipts).decided ≡ Some v → v ≡ greatest_of ring
   decides_greatest is receipts v fit decided =

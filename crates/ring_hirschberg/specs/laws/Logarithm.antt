@@ -13,7 +13,7 @@ below_from_powers i j less =
       | inr le ↦ absurd (let more : 2 ^ j ≤ 2 ^ i = pow_mono le in omega arith)
     ]
 
--- an exponent is raised just where its power doesn't reach n
+-- an exponent is raised if and only if its power does not reach n
 raised_cases : (n e : ℕ) → ((2 ^ e < n) × (raised n e ≡ suc e)) ⊎ ((n ≤ 2 ^ e) × (raised n e ≡ e))
 raised_cases n e = grind (arith, nat_tests)
 

@@ -1,4 +1,4 @@
--- What a position passes on of one identity's tokens, weighed against what it took of them.
+-- The tokens of one identity that a position passes on, weighed against those that it took.
 use Rattle.std.specs.Prelude.{◌≡◌, ◌≢◌, ◌+◌, ◌<◌, ◌≤◌, ◌==◌, ℕ, suc, cond, nat_lt, nat_le, List, Option, Some, None, refl}
 use Rattle.std.proofs.Common.{arith, ne_of_lt}
 use Rattle.std.proofs.lemmas.Bool.Decides.{nat_tests}
@@ -14,7 +14,7 @@ use Rattle.ring_hirschberg.specs.laws.States.{IsOwn, own_first, own_next}
 use Rattle.ring_hirschberg.specs.laws.Receipts.{any_receipt}
 use Rattle.ring_hirschberg.specs.laws.Weights.{by_side, sent_weight-less, sent_weight-same, weight, weight-listed, weight-zero, weight_of}
 
--- a token of v on its way out weighs 1, all else nothing
+-- a token of v on its way out weighs 1, every other message 0
 abbrev pub is_out : ℕ → HirschbergMsg → ℕ
 is_out v (Out w hops) = cond (w == v) 1 0
 is_out v (Back w) = 0
@@ -43,14 +43,14 @@ first_back side x v = grind (arith, nat_tests)
 first_out : (side : Side) (x v : ℕ) → x ≢ v → weight_of (is_out v) (to_side side (hirschberg_first_sends x)) ≡ 0
 first_out side x v not = grind (arith, nat_tests)
 
--- One receipt at another position: what goes on that way, and what comes back of it, was on its way
--- home from there, or was on its way out with one hop more.
+-- One receipt at another position. Tokens that go on that way, and those that come back, were on
+-- their way home from there. Or they were on their way out with one hop more.
 receipt_less : (side : Side) (x v most : ℕ) → x ≢ v → (s : HirschbergState) (from : Side) (m : HirschbergMsg) → IsOwn x s → Unit {0} →
     weight_of (is_near v most) (to_side side (hirschberg_sends s from m)) + weight_of (is_back v) (to_side (other side) (hirschberg_sends s from m)) ≤
     by_side (is_back v) side from m + by_side (is_near v (suc most)) (other side) from m
 receipt_less side x v most not s from m is _ = let same : s.me ≡ x = is.same in grind (arith, nat_tests)
 
--- where the identity here is smaller, none is lost
+-- if the identity here is smaller, none is lost
 out_same : (s : HirschbergState) (side from : Side) (x v w hops most : ℕ) → s.me ≡ x → x < v →
     weight_of (is_near v most) (to_side side (hirschberg_sends s from (Out w hops))) + weight_of (is_back v) (to_side (other side) (hirschberg_sends s from (Out w hops))) ≡
     by_side (is_back v) side from (Out w hops) + by_side (is_near v (suc most)) (other side) from (Out w hops)
@@ -67,12 +67,12 @@ receipt_same : (side : Side) (x v most : ℕ) → x < v → (s : HirschbergState
 receipt_same side x v most less s from (Out w hops) is _ = out_same s side from x v w hops most is.same less
 receipt_same side x v most less s from (Back w) is _ = back_same s side from x v w most is.same less
 
--- where nothing weighs anything
+-- if no message weighs anything
 none_of : (m : Option HirschbergMsg) → weight_of (λ m. 0) m ≡ 0
 none_of None = refl
 none_of (Some m) = refl
 
--- tokens on their way out come from behind
+-- tokens on their way out come from the side opposite to their way
 receipt_out : (side : Side) (x v : ℕ) → x ≢ v → (s : HirschbergState) (from : Side) (m : HirschbergMsg) → IsOwn x s → Unit {0} →
     weight_of (is_out v) (to_side side (hirschberg_sends s from m)) + weight_of (λ m. 0) (to_side side (hirschberg_sends s from m)) ≤
     by_side (is_out v) (other side) from m + by_side (λ m. 0) (other side) from m
@@ -80,8 +80,8 @@ receipt_out side x v not s from m is _ = let same : s.me ≡ x = is.same in grin
 
 -- all receipts of a node with another identity than v
 module _ (side : Side) (x v : ℕ) (receipts : List (Side × HirschbergMsg)) where
-  -- What goes on to one side with at most so many hops, and what goes back, came home from there or
-  -- came from behind with one hop more.
+  -- Tokens that go on to one side with few hops, and those that go back. They came home from there,
+  -- or from the other side with one hop more.
   pub passes_less : (most : ℕ) → x ≢ v →
       weight (is_near v most) (sent_after hirschberg_table x side receipts) + weight (is_back v) (sent_after hirschberg_table x (other side) receipts) ≤
       weight (is_back v) (taken_from side receipts) + weight (is_near v (suc most)) (taken_from (other side) receipts)
@@ -99,7 +99,7 @@ module _ (side : Side) (x v : ℕ) (receipts : List (Side × HirschbergMsg)) whe
             (receipt_less side x v most not) (hirschberg_first x) receipts (own_first x) (any_receipt receipts),
       ))
 
-  -- where v is greater, exactly that
+  -- if v is greater, exactly these
   pub passes_same : (most : ℕ) → x < v →
       weight (is_near v most) (sent_after hirschberg_table x side receipts) + weight (is_back v) (sent_after hirschberg_table x (other side) receipts) ≡
       weight (is_back v) (taken_from side receipts) + weight (is_near v (suc most)) (taken_from (other side) receipts)
@@ -117,7 +117,7 @@ module _ (side : Side) (x v : ℕ) (receipts : List (Side × HirschbergMsg)) whe
             (receipt_same side x v most less) (hirschberg_first x) receipts (own_first x) (any_receipt receipts),
       ))
 
-  -- what goes out to one side came out from behind
+  -- the tokens that go out to one side came out from the other
   pub passes_out : x ≢ v → weight (is_out v) (sent_after hirschberg_table x side receipts) ≤ weight (is_out v) (taken_from (other side) receipts)
   passes_out not =
       rw (weight-listed (is_out v) (to_side side (hirschberg_first_sends x)) (sent_from hirschberg_table side (hirschberg_first x) receipts))

@@ -1,4 +1,4 @@
--- The states of one node: whatever it receives, it stays itself and decides on nobody else.
+-- The states of one node: after any receipts it keeps its identity and decides only on itself.
 use Rattle.std.specs.Prelude.{◌≡◌, ◌==◌, ℕ, true, false, cond, List, Some, refl}
 use Rattle.std.proofs.Common.{◌∙◌, ap, sym}
 use Rattle.ring_id.specs.declared.side.Side.{Side}
@@ -40,7 +40,7 @@ pub own_after : (me : ℕ) (receipts : List (Side × HirschbergMsg)) → IsOwn m
 own_after me receipts =
     state_keeps hirschberg_table (IsOwn me) (λ from m. Unit {0}) (λ from m. Unit {0}) (λ s from m is _. own_next me s from m is) (hirschberg_first me) receipts (own_first me) (any_receipt receipts)
 
--- a decision once made stays, since a node decides on itself alone
+-- a decision once made stays, since a node decides only on itself
 pub decision_stays : (me : ℕ) (s : HirschbergState) (from : Side) (m : HirschbergMsg) (v : ℕ) → IsOwn me s → s.decided ≡ Some v → (hirschberg_next s from m).decided ≡ Some v
 decision_stays me s from (Out w hops) v is decided =
     elim (w == s.me) as (λ b. (cond b (record s { decided = Some s.me }) s).decided ≡ Some v) [

@@ -21,8 +21,8 @@ abbrev pub count_of : Side → HirschbergState → ℕ
 count_of Left s = s.left
 count_of Right s = s.right
 
--- One receipt of the node with identity `me`. Its phase rises by one where it sends a token of its
--- own, to either side, and else stays.
+-- One receipt of the node with identity `me`. Its phase rises by one if it sends a token of its
+-- own, to either side; otherwise the phase stays.
 receipt_opens : (side : Side) (me : ℕ) (s : HirschbergState) (from : Side) (m : HirschbergMsg) → s.me ≡ me →
     weight_of (is_out me) (to_side side (hirschberg_sends s from m)) + phase s ≡ phase (hirschberg_next s from m)
 receipt_opens side me s from m is = grind (arith, nat_tests)
@@ -37,8 +37,8 @@ receipt_counts : (side : Side) (me : ℕ) (s : HirschbergState) (from : Side) (m
     count_of side (hirschberg_next s from m) ≡ min 16 (count_of side s + by_side (is_back me) side from m)
 receipt_counts side me s from m is most = grind (arith, nat_tests)
 
--- From phase p on to phase q: the phase stays and no own token is sent, or it rises and the own
--- token that is sent has as many hops as two to the power of the new phase.
+-- From phase p on to phase q. Either the phase stays and no own token is sent, or it rises and an
+-- own token is sent. That token has two to the power of the new phase hops.
 abbrev IsStep : ℕ → ℕ → ℕ → ℕ → ℕ → Type 0
 IsStep me most p q sent = ((q ≡ p) × (sent ≡ 0)) ⊎ ((q ≡ suc p) × (sent ≡ is_near me most (Out me (2 ^ suc p))))
 
@@ -46,11 +46,11 @@ receipt_steps : (side : Side) (me most : ℕ) (s : HirschbergState) (from : Side
     IsStep me most (phase s) (phase (hirschberg_next s from m)) (weight_of (is_near me most) (to_side side (hirschberg_sends s from m)))
 receipt_steps side me most s from m is = grind (arith, nat_tests)
 
--- a token of so many hops is near where it has not more
+-- a token is near if it has no more than this many hops
 near_weight : (me most phase : ℕ) → ((2 ^ phase ≤ most) × (is_near me most (Out me (2 ^ phase)) ≡ 1)) ⊎ ((most < 2 ^ phase) × (is_near me most (Out me (2 ^ phase)) ≡ 0))
 near_weight me most phase = let some : 0 < 2 ^ phase = pow_pos phase in grind (arith, nat_tests)
 
--- the token of a phase below l alone may have fewer than two to the power of l hops
+-- only the token of a phase below l may have fewer than two to the power of l hops
 low_step : (me most l p q sent : ℕ) → most < 2 ^ l →
     IsStep me most p q sent → sent + min l (suc p) ≤ min l (suc q)
 low_step me most l p q sent few step =
@@ -124,7 +124,7 @@ module _ (side : Side) (me : ℕ) where
         all_near most next receipts own many,
       ))
 
--- what the first sends of a node weigh
+-- the weight of a node's first messages
 first_out_own : (side : Side) (me : ℕ) → weight_of (is_out me) (to_side side (hirschberg_first_sends me)) ≡ 1
 first_out_own side me = grind (arith, nat_tests)
 
@@ -161,7 +161,7 @@ module _ (me : ℕ) (receipts : List (Side × HirschbergMsg)) where
       first_low most zero few = omega arith
       first_low most (suc l) few = omega arith
 
-  -- all of its tokens are near where two to the power of its phase is
+  -- all of its tokens are near if two to the power of its phase is
   pub own_near : (side : Side) (most : ℕ) → 2 ^ phase (state_after hirschberg_table me receipts) ≤ most →
       suc (phase (state_after hirschberg_table me receipts)) ≤ weight (is_near me most) (sent_after hirschberg_table me side receipts)
   own_near side most many =
@@ -181,7 +181,7 @@ module _ (me : ℕ) (receipts : List (Side × HirschbergMsg)) where
   phase_back Left = omega (arith, count_is Left)
   phase_back Right = omega (arith, count_is Right)
 
-  -- it is at least that number, where that isn't above 16
+  -- it is at least that number, if the number is at most 16
   pub back_phase : (b : ℕ) → b ≤ weight (is_back me) (taken_from Left receipts) → b ≤ weight (is_back me) (taken_from Right receipts) →
       min 16 b ≤ phase (state_after hirschberg_table me receipts)
   back_phase b left right = omega (arith, count_is Left, count_is Right)

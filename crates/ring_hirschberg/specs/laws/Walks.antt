@@ -1,5 +1,5 @@
--- Walks round a ring: the position after so many steps to one side. Each statement is for either
--- side, so that nothing is said twice for left and right.
+-- Walks round a ring: the position after some steps to one side. Each statement is for either side,
+-- so that no lemma is written twice for left and right.
 use Rattle.std.specs.Prelude.{◌≡◌, ◌+◌, ◌-◌, ◌<◌, ◌≤◌, ◌⊎◌, ℕ, zero, suc, refl}
 use Rattle.std.proofs.Common.{ap, inl, inr, arith, le_of_lt}
 use Rattle.std.proofs.lemmas.Bool.Decides.{nat_tests}
@@ -30,7 +30,7 @@ pub walk_first : (n i : ℕ) (side : Side) (steps : ℕ) → walk n (neighbour n
 walk_first n i side zero = refl
 walk_first n i side (suc steps) = ap (λ p. neighbour n p side) (walk_first n i side steps)
 
--- where i lies after so many steps to the right: not yet past the last position, or once past it
+-- the place of i after some steps to the right: not yet past the last position, or once past it
 abbrev IsRight : ℕ → ℕ → ℕ → ℕ → Type 0
 IsRight n i steps at = ((i + steps < n) × (at ≡ i + steps)) ⊎ ((n ≤ i + steps) × (at + n ≡ i + steps))
 
@@ -59,7 +59,7 @@ left_walk : (n i steps : ℕ) → i < n → steps ≤ n → IsLeft n i steps (wa
 left_walk n i zero below more = left_start n i below
 left_walk n i (suc steps) below more = left_more n i steps (walk n i Left steps) below more (left_walk n i steps below (le_of_lt more))
 
--- what the cases say of n steps, of fewer, and of the steps from i to j
+-- the cases for n steps, for fewer, and for the steps from i to j
 right_home : (n i at : ℕ) → i < n → IsRight n i n at → at ≡ i
 right_home n i at below is = grind arith
 

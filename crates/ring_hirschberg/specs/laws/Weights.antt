@@ -1,5 +1,5 @@
--- Weights of messages: what a node sends, weighed against what it took, and what one neighbour
--- took, weighed against what the other sent. Nothing here knows the algorithm.
+-- Weights of messages: a node's messages weighed against those that it took, and those that one
+-- neighbour took weighed against those that the other sent. Nothing here knows the algorithm.
 use Rattle.std.specs.Prelude.{◌≡◌, ◌+◌, ◌*◌, ◌<◌, ◌≤◌, ℕ, zero, suc, true, false, cond, List, [], ◌∷◌, ◌++◌, length, Option, Some, None, slice_get, refl}
 use Rattle.std.proofs.Common.{◌∙◌, ap, arith, append-nil}
 use Rattle.ring_id.specs.declared.side.Side.{Side}
@@ -32,22 +32,22 @@ pub weight-plus : {M : Type 0} (f g : M → ℕ) (ms : List M) → weight (λ m.
 weight-plus f g [] = refl
 weight-plus f g (m ∷ ms) = omega (arith, weight-plus f g ms)
 
--- where each message weighs less, so do all
+-- if each message weighs less, so do all together
 pub weight-less : {M : Type 0} (f g : M → ℕ) (ms : List M) → ((m : M) → f m ≤ g m) → weight f ms ≤ weight g ms
 weight-less f g [] less = omega arith
 weight-less f g (m ∷ ms) less = omega (arith, less m, weight-less f g ms less)
 
--- where nothing weighs anything, neither does the whole
+-- if no message weighs anything, neither do all together
 pub weight-zero : {M : Type 0} (ms : List M) → weight (λ m. 0) ms ≡ 0
 weight-zero [] = refl
 weight-zero (m ∷ ms) = omega (arith, weight-zero ms)
 
--- where each weighs at most c, so many weigh at most so many times c
+-- if each weighs at most c, a list of them weighs at most its length times c
 pub weight-bound : {M : Type 0} (f : M → ℕ) (c : ℕ) (ms : List M) → ((k : ℕ) (m : M) → slice_get ms k ≡ Some m → f m ≤ c) → weight f ms ≤ length ms * c
 weight-bound f c [] each = omega arith
 weight-bound f c (m ∷ ms) each = omega (arith, each 0 m refl, weight-bound f c ms (λ k n there. each (suc k) n there))
 
--- one receipt, weighed where it came from this side
+-- one receipt, weighed if it came from this side
 abbrev pub by_side : {M : Type 0} → (M → ℕ) → Side → Side → M → ℕ
 by_side f side from m = cond (same_side side from) (f m) 0
 
@@ -68,8 +68,9 @@ pub weight-listed : {M : Type 0} (f : M → ℕ) (first : Option M) (rest : List
 weight-listed f None rest = omega arith
 weight-listed f (Some m) rest = refl
 
--- What a node sends to side `a` is weighed by f, what it sends to side `b` by g; what it took from
--- side `c` by h, from side `d` by l. What is so of each receipt is so of any number of them.
+-- The messages that a node sends to side `a` are weighed by f, those to side `b` by g. Those that
+-- it took from side `c` are weighed by h, those from side `d` by l. A relation that holds for each
+-- receipt holds for any number of them.
 module _ {S M : Type 0} (t : Table S M) (I : S → Type 0) (P : Side → M → Type 0) (keeps : (s : S) (from : Side) (m : M) → I s → P from m → I (t.next s from m)) (f g h l : M → ℕ) (a b c d : Side) where
   pub sent_weight-less :
       ((s : S) (from : Side) (m : M) → I s → P from m → weight_of f (to_side a (t.next_sends s from m)) + weight_of g (to_side b (t.next_sends s from m)) ≤ by_side h c from m + by_side l d from m) →
@@ -101,8 +102,8 @@ module _ {S M : Type 0} (t : Table S M) (I : S → Type 0) (P : Side → M → T
       )
       (omega (arith, same s r.0 r.1 is each.0, sent_weight-same same next receipts (keeps s r.0 r.1 is each.0) each.1))
 
--- Two neighbours: position i and the next one to a side. What one took of the other is a first part
--- of what the other sent, in a sound family, and all of it in a complete one.
+-- Two neighbours: position i and the next one to a side. In a sound family the messages that one
+-- took from the other are a prefix of those sent. In a complete family they are all of them.
 module _ {S M : Type 0} (t : Table S M) (ring : List ℕ) (family : ℕ → List (Side × M)) (i : ℕ) (side : Side) (below : i < length ring) where
   abbrev ahead : ℕ
   ahead = neighbour (length ring) i side
@@ -110,7 +111,7 @@ module _ {S M : Type 0} (t : Table S M) (ring : List ℕ) (family : ℕ → List
   came_from : neighbour (length ring) ahead (other side) ≡ i
   came_from = neighbour-neighbour (length ring) i side below
 
-  -- what the position behind the one ahead sent to it is what position i sent to the side
+  -- the messages that the next position took from here are those that position i sent to the side
   sent_behind : (sender : ℕ) → sent_after t sender (other (other side)) (family (neighbour (length ring) ahead (other side))) ≡ sent_after t sender side (family i)
   sent_behind sender =
       ap (λ to. sent_after t sender to (family (neighbour (length ring) ahead (other side)))) (other_other side) ∙
@@ -119,14 +120,14 @@ module _ {S M : Type 0} (t : Table S M) (ring : List ℕ) (family : ℕ → List
   first_part : (taken rest sent : List M) (f : M → ℕ) → taken ++ rest ≡ sent → weight f taken ≤ weight f sent
   first_part taken rest sent f e = omega (arith, ap (weight f) e, weight-append f taken rest)
 
-  -- what was taken from ahead weighs no more than what was sent there
+  -- the messages taken from ahead weigh no more than those sent there
   pub from_ahead : (f : M → ℕ) (sender : ℕ) → IsSound t ring family → slice_get ring ahead ≡ Some sender →
       weight f (taken_from side (family i)) ≤ weight f (sent_after t sender (other side) (family ahead))
   from_ahead f sender sound there =
       let part = sound.taken i side sender below there in
       first_part (taken_from side (family i)) part.0 (sent_after t sender (other side) (family ahead)) f part.1
 
-  -- what was taken from behind, at the position ahead
+  -- the messages that the position ahead took from this one
   pub from_behind : (f : M → ℕ) (sender : ℕ) → IsSound t ring family → slice_get ring i ≡ Some sender →
       weight f (taken_from (other side) (family ahead)) ≤ weight f (sent_after t sender side (family i))
   from_behind f sender sound there =

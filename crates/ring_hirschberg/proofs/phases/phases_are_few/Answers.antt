@@ -1,5 +1,5 @@
--- The phase of a member is at most the number of its tokens that came home, and few of those that
--- came home had the hops to come far.
+-- The phase of a member is at most the number of its tokens that came home. Few of those had the
+-- hops to come far.
 use Rattle.ring_id.specs.declared.side.Side.TheVariants.{Left}
 use Rattle.ring_hirschberg.specs.laws.Homecomings.{phase_small}
 use Rattle.ring_hirschberg.specs.laws.Logarithm.{ceil_log2-least, ceil_log2-reaches}

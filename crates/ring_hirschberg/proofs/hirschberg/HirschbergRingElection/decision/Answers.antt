@@ -1,4 +1,4 @@
--- What was decided stands in the state.
+-- The decision is a field of the state.
 use Rattle.std.proofs.Common.{refl}
 use Rattle.ring_hirschberg.proofs.hirschberg.HirschbergRingElection.decision.Goals as goal
 
