@@ -50,7 +50,7 @@ pub nothing_left : {X : Type 0} (F : List X → Round) (xs : List X) (k : ℕ) (
 nothing_left F xs k done all none past walked =
     sym (append-nil done) ∙ (ap (λ (l : Round). done ++ l) (sym none) ∙ (ap (λ l. done ++ F l) (sym (drop_all k xs past)) ∙ walked))
 
--- After k rounds of so many, what comes of the round that stands is what is asked for.
+-- After k rounds of `number`, the rounds that are left lead from this one to the result.
 pub record IsUnderWay (ring : List ℕ) (number k : ℕ) (round : Round) : Type 0 where
   pub rises : Rises 0 (length ring) round
   pub ahead : rounds (number - k) round ≡ rounds number (first_round ring)

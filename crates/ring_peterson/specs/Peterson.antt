@@ -17,16 +17,18 @@ peterson_first me = record { me = me; mode = Active; uid1 = me; uid2 = None; cho
 abbrev pub is_peak : ℕ → ℕ → ℕ → Bool
 is_peak own second third = nat_lt own second && nat_lt third second
 
--- An active node that has its own value, its left neighbour's and now that one's left neighbour's:
--- where the second is the greatest it takes the second over, else it becomes a relay.
+-- An active node that has its own value, its left neighbour's and now that one's left neighbour's.
+-- If the second is the greatest, it takes the second over; otherwise it becomes a relay.
 abbrev pub third_next : PetersonState → ℕ → ℕ → PetersonState
-third_next s second third = cond (is_peak s.uid1 second third) (record s { uid1 = second; uid2 = None }) (record s { mode = Relay })
+third_next s second third =
+    cond (is_peak s.uid1 second third) (record s { uid1 = second; uid2 = None })
+    (record s { mode = Relay })
 
 -- it sends the value that it took over
 abbrev pub third_sends : PetersonState → ℕ → ℕ → Sends ℕ
 third_sends s second third = cond (is_peak s.uid1 second third) (rightward second) (nothing ℕ)
 
--- An active node that has no second value keeps this one; its own value come back chooses it.
+-- An active node without a second value keeps this one. If this is its own value, it is chosen.
 abbrev pub active_next : PetersonState → Option ℕ → ℕ → PetersonState
 active_next s None v = record s { uid2 = Some v; chosen = s.chosen || (v == s.uid1) }
 active_next s (Some second) v = third_next s second v
@@ -41,25 +43,32 @@ abbrev pub left_next : PetersonState → Mode → ℕ → PetersonState
 left_next s Active v = active_next s s.uid2 v
 left_next s Relay v = s
 
--- a relay passes on what comes
+-- a relay passes each message on
 abbrev pub left_sends : PetersonState → Mode → ℕ → Sends ℕ
 left_sends s Active v = active_sends s s.uid2 v
 left_sends s Relay v = rightward v
 
--- a receipt: what comes from the right changes nothing
+-- a receipt: a message from the right changes nothing
 abbrev pub peterson_next : PetersonState → Side → ℕ → PetersonState
 peterson_next s Left v = left_next s s.mode v
 peterson_next s Right v = s
 
--- and is not answered
+-- a message from the right is not answered
 abbrev pub peterson_sends : PetersonState → Side → ℕ → Sends ℕ
 peterson_sends s Left v = left_sends s s.mode v
 peterson_sends s Right v = nothing ℕ
 
--- a chosen node decides on itself, whatever value it holds
+-- a chosen node decides on itself, whichever value it holds
 abbrev pub peterson_decided : PetersonState → Option ℕ
 peterson_decided s = cond s.chosen (Some s.me) None
 
 -- the table
 abbrev pub peterson_table : Table PetersonState ℕ
-peterson_table = record { first = peterson_first; first_sends = λ me. rightward me; next = peterson_next; next_sends = peterson_sends; decided = peterson_decided }
+peterson_table =
+    record {
+      first = peterson_first;
+      first_sends = λ me. rightward me;
+      next = peterson_next;
+      next_sends = peterson_sends;
+      decided = peterson_decided;
+    }

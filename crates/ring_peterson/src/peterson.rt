@@ -4,10 +4,10 @@ use ring_election::{RingElection, Sends};
 use ring_id::{NoMemory, NodeId, Side};
 use std::alloc::Global;
 
-/// Peterson's algorithm, which elects one node of a ring, though not the greatest (PetersonLeader;
+/// Peterson's algorithm, which elects one node of a ring, but not the greatest (PetersonLeader;
 /// Lynch, Distributed Algorithms, 15.1.3).
 ///
-/// A message is an identity, and all of them go to the right.
+/// A message is an identity, and all messages go to the right.
 #[derive(Clone, Copy, Debug, PartialEq, Eq)]
 pub struct Peterson;
 
@@ -16,13 +16,13 @@ pub struct Peterson;
 pub enum Mode {
     /// It compares values.
     Active,
-    /// It passes on what it receives.
+    /// It passes on each message that it receives.
     Relay,
 }
 
-/// What a node of this algorithm remembers: itself, its mode, the value that it holds in this
-/// round (Lynch's uid(1)), the value of the active node to its left once that has come (uid(2)),
-/// and whether it is chosen.
+/// The memory of a node of this algorithm: its identity, its mode, its value in this round (Lynch's
+/// uid(1)), and whether it is chosen. Once the value of the active node to its left has come
+/// (uid(2)), the node keeps that too.
 #[derive(Clone, Copy, Debug, PartialEq, Eq)]
 pub struct PetersonState {
     me: NodeId,
@@ -35,7 +35,7 @@ pub struct PetersonState {
 impl PetersonState {
     ghost use Rattle.ring_peterson.specs.Peterson.{left_next, left_sends};
 
-    /// One receipt from the left: changes the state, and gives what goes to the right.
+    /// Takes one message from the left: changes the state, and returns the message to the right.
     fn receive_from_left(&mut self, message: NodeId) -> Option<NodeId>
         ensures state { self.new ≡ left_next self.old self.old.mode message }
         ensures sends { result ≡ (left_sends self.old self.old.mode message).right }
@@ -86,22 +86,23 @@ impl RingElection for Peterson {
 
     ghost bound = { λ _. peterson_bound };
 
-    /// Never: messages go to the right alone.
+    /// Never: messages go only to the right.
     fn two_way(&self) -> bool
         ensures { result ≡ false }
     {
         false
     }
 
-    /// Never. In a ring of two or more the greatest identity becomes a relay in the first round, and
-    /// another wins, which no contract says.
+    /// Never. Another identity may win, and does on each ring of two or more members in
+    /// `the_last_position_alone_decides_by_peterson`: tested, not proved.
     fn greatest(&self) -> bool
         ensures { result ≡ false }
     {
         false
     }
 
-    /// An active node that holds its own identity and sends it to the right. Takes no memory.
+    /// Returns an active state with the node's own identity, and that identity to the right. Does
+    /// not allocate.
     fn start(&self, _: Global, me: NodeId) -> (PetersonState, Sends<NodeId>)
         ensures state { result.0 ≡ peterson_first me }
         ensures sends { result.1 ≡ rightward me }
@@ -120,9 +121,10 @@ impl RingElection for Peterson {
         (state, sends)
     }
 
-    /// From the left, an active node keeps the first of two messages and passes it on; at the second
-    /// it takes the first over and sends it, or becomes a relay and sends nothing. A relay passes
-    /// each message on. From the right nothing happens. Takes no memory.
+    /// Takes a message. From the left, an active node keeps the first of two messages and passes it
+    /// on. At the second it takes the first over and sends it, or becomes a relay and sends
+    /// nothing. A relay passes each message on. A message from the right changes nothing. Does not
+    /// allocate.
     fn receive(
         &self,
         state: &mut PetersonState,
@@ -141,7 +143,7 @@ impl RingElection for Peterson {
         Ok(Sends { left: None, right })
     }
 
-    /// The node itself once it is chosen, or none.
+    /// The node itself once it is chosen; otherwise `None`.
     fn decision(&self, state: &PetersonState) -> Option<NodeId>
         ensures { result ≡ peterson_decided state.now }
     {

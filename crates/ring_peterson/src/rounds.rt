@@ -6,13 +6,13 @@ use ring_id::{NoMemory, NodeId};
 use ring_roster::Roster;
 use std::alloc::Global;
 
-/// How fast Peterson's election shrinks (Lynch, Distributed Algorithms, 15.1.3: at least half of the
-/// active processes become relays in each phase).
+/// Peterson's election shrinks by rounds (Lynch, Distributed Algorithms, 15.1.3: at least half of
+/// the active processes become relays in each phase).
 ///
-/// The laws are the contract; the call does nothing. Each round of two or more active nodes leaves at
-/// least one of them active, and at most half; the last round has one node, which wins; a link
-/// carries two messages for each round; and the logarithm in the bound on all messages is the
-/// greatest exponent whose power of two is not above the ring's length.
+/// The laws are the contract; the call does nothing. Each round of two or more active nodes leaves
+/// at least one of them active, and at most half. The last round has one node, which wins. A link
+/// carries two messages for each round. The logarithm in the bound on all messages is the greatest
+/// exponent whose power of two is at most the ring's length.
 pub fn rounds_shrink()
     ensures shrink { RoundsShrink }
     ensures last { LastRoundIsOne }
@@ -20,11 +20,11 @@ pub fn rounds_shrink()
     ensures logarithm { LogarithmIsGreatest }
 {}
 
-/// The round of this number of Peterson's election on a ring: the positions that are still active,
-/// in their order, each with the value that it holds (Lynch, Distributed Algorithms, 15.1.3). In
-/// round 0 all positions hold their own identities; past the last round the list is empty. A plain
-/// reading of that definition, which walks over the ring once or twice in each round, to compare
-/// elections with; nodes have no use for it. Refused for want of memory alone.
+/// Returns round `number` of Peterson's election on a ring: the positions that are still active, in
+/// their order, each with its value (Lynch, Distributed Algorithms, 15.1.3). In round 0 all
+/// positions hold their own identities. Past the last round the list is empty. Tests compare
+/// elections with this plain reading of the definition; nodes do not use it. `NoMemory` if an
+/// allocation fails.
 pub fn round_of(
     alloc: Global,
     ring: &Roster,
@@ -73,15 +73,15 @@ fn next_of(alloc: Global, round: &[(usize, NodeId)]) -> Result<Vec<(usize, NodeI
     Ok(next)
 }
 
-/// Whether a position that holds this value stays active, where these two values stand to its left.
+/// Whether a position that holds this value stays active, if these two values are to its left.
 fn stays(value: NodeId, before: NodeId, last: NodeId) -> bool
     ensures { result ≡ stays_active value (two_of before last) }
 {
     value < last && before < last
 }
 
-/// The last two values of a round, which stand to the left of its first position; a position that
-/// is alone is its own predecessor.
+/// The last two values of a round, which are to the left of its first position. A position that is
+/// alone is its own predecessor.
 fn ends(round: &[(usize, NodeId)]) -> Option<(NodeId, NodeId)>
     ensures { MatchOption result (round.now ≡ []) (λ two. two_of two.0 two.1 ≡ two_ends round.now) }
 {

@@ -1,5 +1,5 @@
--- The work of Peterson's election: each round at most halves, and each link carries two messages a
--- round.
+-- The messages of Peterson's election: each round at most halves, and each link carries two
+-- messages a round.
 use Rattle.std.specs.Prelude.{◌≡◌, ◌+◌, ◌*◌, ◌^◌, ◌<◌, ◌≤◌, ℕ, zero, suc, true, false, cond, nat_lt, List, [], ◌∷◌, length, Some}
 use Rattle.std.proofs.Common.{refl, ap, arith, inl, inr, get_or}
 use Rattle.std.proofs.lemmas.Bool.{cases_lt, ltb-true}
@@ -19,7 +19,7 @@ use Rattle.ring_peterson.specs.laws.Messages.{AreMessages}
 use Rattle.ring_peterson.specs.laws.FirstRound.{length-first}
 use Rattle.ring_peterson.specs.laws.Lawful.{taken-messages}
 
--- a round of fewer than 2 ^ t has no message from 2 * t on
+-- a round of fewer than 2 ^ t positions has no message from 2 * t on
 message_bound : (t : ℕ) (round : Round) (i k m : ℕ) → length round < 2 ^ t → walk_message round i k ≡ Some m → k < 2 * t
 message_bound t [] i k m small e = absurd (cc)
 message_bound zero (x ∷ round) i k m small e = absurd (omega arith)
@@ -53,7 +53,7 @@ log2_up_to-above (suc limit) n h =
 pub floor_log2-above : (n : ℕ) → n < 2 ^ suc (floor_log2 n)
 floor_log2-above n = log2_up_to-above n n (below_power n)
 
--- what one position has taken
+-- the messages that one position has taken
 taken_bound : (ring : List ℕ) (i : ℕ) (receipts : List (Side × ℕ)) → AllFit peterson_fits ring i receipts → length receipts ≤ 2 * (floor_log2 (length ring) + 1)
 taken_bound ring i receipts all =
     let power = floor_log2-above (length ring) in

@@ -1,5 +1,5 @@
--- Which node is chosen: the one at the position of the last round. It is chosen before it becomes a
--- relay, and no other ever is.
+-- The node that is chosen: the one at the position of the last round. It is chosen before it
+-- becomes a relay, and no other node ever is.
 use Rattle.std.specs.Prelude.{◌≡◌, ◌<◌, ◌≤◌, ◌==◌, ◌||◌, ℕ, zero, suc, Bool, true, false, cond, nat_lt, List, [], ◌∷◌, length, Option, Some, None}
 use Rattle.std.proofs.Common.{inl, inr, refl, sym, ap, ◌∙◌, arith}
 use Rattle.std.proofs.lemmas.Bool.{cases_lt, eq-eqb, lt-ltb, or_cases, or_right}
@@ -30,7 +30,7 @@ active-decided s None m v h =
     elim s.chosen as (λ b. cond b (Some s.me) None ≡ Some v → cond (b || (m == s.uid1)) (Some s.me) None ≡ Some v) [ true ↦ λ e. e | false ↦ λ e. absurd (cc) ] h
 active-decided s (Some second) m v h = third-decided s second m v h
 
--- what a state has decided it has still decided after a receipt
+-- a decision of a state stays after a receipt
 pub next-decided : (s : PetersonState) (side : Side) (m v : ℕ) → peterson_decided s ≡ Some v → peterson_decided (peterson_next s side m) ≡ Some v
 next-decided s Left m v h = elim s.mode as (λ mode. peterson_decided (left_next s mode m) ≡ Some v) [ Active ↦ active-decided s s.uid2 m v h | Relay ↦ h ]
 next-decided s Right m v h = h
@@ -78,13 +78,13 @@ walk_last-single : (limit i v : ℕ) → walk_last limit (single i v) ≡ single
 walk_last-single zero i v = refl
 walk_last-single (suc limit) i v = refl
 
--- where a position stays there are two or more
+-- if a position stays, there are two or more
 two_or_more : (round : Round) (i v : ℕ) → value_at (walk_next round) i ≡ Some v → 2 ≤ length round
 two_or_more [] i v there = absurd (cc)
 two_or_more ((q, u) ∷ []) i v there = absurd (grind (arith, nat_tests))
 two_or_more (e ∷ (f ∷ round)) i v there = omega arith
 
--- a position that stands alone is its own predecessor
+-- a position that is alone is its own predecessor
 reads_itself : (round : Round) (i v : ℕ) → length round ≤ 1 → value_at round i ≡ Some v → (two_before round i).last ≡ v
 reads_itself [] i v le there = absurd (cc)
 reads_itself ((q, u) ∷ []) i v le there =
@@ -92,9 +92,9 @@ reads_itself ((q, u) ∷ []) i v le there =
     elim (nat_lt q i) as (λ b. (cond b (two_of u u) (two_of u u)).last ≡ v) [ true ↦ parts.1 | false ↦ parts.1 ]
 reads_itself (e ∷ (f ∷ round)) i v le there = absurd (omega arith)
 
--- ---- Whoever is chosen is the last
+-- ---- A chosen node is the last
 
--- a node that takes its own value stands alone
+-- a node that takes its own value is alone
 chosen_now : (n i v m limit : ℕ) (c : Bool) (round : Round) (ms : List ℕ) → IsRound n round → i < n → value_at round i ≡ Some v → AreMessages round (left_of n i) (m ∷ ms) →
     (c ≡ true → IsLast limit i round) → (c || (m == v)) ≡ true → IsLast limit i round
 chosen_now n i v m limit c round ms h below there from before chosen =
@@ -124,9 +124,9 @@ chosen_is_last n i me v limit c round (m ∷ (third ∷ ms)) h below le there fr
     ]
     (value_at-next n i v m third round ms below h.rises there from) chosen
 
--- ---- And the last is chosen
+-- ---- The last node is chosen
 
--- the position of the last round leaves a round only where it stands alone in it
+-- the position of the last round leaves a round only if it is alone in it
 leaves_alone : (i v w limit : ℕ) (round : Round) → length round ≤ limit → value_at round i ≡ Some v → walk_last limit round ≡ single i w → value_at (walk_next round) i ≡ None → (two_before round i).last ≡ v
 leaves_alone i v w limit round le there last leaves =
     elim (cases_lt 1 (length round)) [

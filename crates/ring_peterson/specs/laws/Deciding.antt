@@ -1,6 +1,6 @@
--- Where all that was sent was taken, a ring under Peterson's election is decided. A node sends one
--- message for each that it takes, and one more until it becomes a relay; so on a ring where all was
--- taken every node is a relay, and the one at the position of the last round was chosen.
+-- If every sent message was taken, a ring under Peterson's election is decided. A node sends one
+-- message for each that it takes, and one more until it becomes a relay. So every node is a relay,
+-- and the node at the position of the last round was chosen.
 use Rattle.std.specs.Prelude.{◌≡◌, ◌+◌, ◌≤◌, ℕ, Bool, true, false, cond, List, [], ◌∷◌, length, Option, Some, None, slice_get}
 use Rattle.std.proofs.Common.{refl, sym, ap, ◌∙◌, arith, get_or, length-append}
 use Rattle.std.proofs.lemmas.Option.{slice_get-get_or, slice_get_within}
@@ -51,7 +51,7 @@ answered-lead s (m ∷ ms) =
     let later = answered-lead (left_next s s.mode m) ms in
     omega (arith, length-append (listed (left_sends s s.mode m).right) (answered (left_next s s.mode m) ms))
 
--- what a node has sent, counted
+-- the number of messages that a node has sent
 length-sent : (me : ℕ) (receipts : List (Side × ℕ)) →
     length (sent_after peterson_table me Right receipts) ≡ length (taken_from Left receipts) + lead (after_left (peterson_first me) (taken_from Left receipts)).mode
 length-sent me receipts =
@@ -59,8 +59,8 @@ length-sent me receipts =
     let same = ap (length {A = ℕ}) (sent_from-right (peterson_first me) receipts) in
     omega arith
 
--- On a ring where all was taken no node is active: it would have sent more than it took, and what
--- each node sent was taken by the next, all round.
+-- On a ring with every message taken no node is active. An active node would have sent more
+-- messages than it took, but the next node took each of them, all round.
 none_active : (ring : List ℕ) (family : ℕ → List (Side × ℕ)) (p me : ℕ) → IsComplete peterson_table ring family → slice_get ring p ≡ Some me →
     (after_left (peterson_first me) (taken_from Left (family p))).mode ≡ Active → ⊥
 none_active ring family p me complete here is =

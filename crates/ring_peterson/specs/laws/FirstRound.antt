@@ -1,4 +1,5 @@
--- The first round of a ring is one: its positions are those of the ring, each with its identity.
+-- The first round of a ring is a round: its positions are those of the ring, each with its
+-- identity.
 use Rattle.std.specs.Prelude.{◌≡◌, ◌+◌, ◌≤◌, ℕ, zero, suc, false, List, [], ◌∷◌, length, Some, slice_get}
 use Rattle.std.specs.List.{list_any}
 use Rattle.std.proofs.Common.{refl, arith, ap, ◌∙◌}
@@ -28,7 +29,7 @@ pub numbered_rises : (p n : ℕ) (ring : List ℕ) → p + length ring ≤ n →
 numbered_rises p n [] h = tt
 numbered_rises p n (x ∷ ring) h = (record { from = omega arith; below = omega arith }, numbered_rises (p + 1) n ring (omega arith))
 
--- the first round of a ring is one
+-- the first round of a ring is a round
 pub IsRound-first : (ring : List ℕ) → IsRing ring → IsRound (length ring) (first_round ring)
 IsRound-first ring h = record { rises = numbered_rises 0 (length ring) ring (omega arith); different = numbered_different 0 ring h.distinct }
 

@@ -20,7 +20,7 @@ use Rattle.ring_peterson.specs.laws.Receipts.{sent_from-left, sent_from-right, s
 use Rattle.ring_peterson.specs.laws.Messages.{AreMessages, answered-messages, own_first}
 use Rattle.ring_peterson.specs.laws.Choice.{chosen_is_last, decided_self, next-decided}
 
--- ---- What a node took and sent
+-- ---- The messages that a node took and sent
 
 -- the messages of the first round are those of the walks
 message_of-first : (ring : List ℕ) (i k : ℕ) → message_of (first_round ring) i k ≡ walk_message (first_round ring) i k
@@ -45,7 +45,7 @@ sends_fit ring i me receipts Right k m is_ring here all e =
     message_of-first ring i k
     ∙ sent.each k m (sym (ap (λ (l : List ℕ). slice_get (me ∷ l) k) (sent_from-right (peterson_first me) receipts)) ∙ e)
 
--- ---- Who wins
+-- ---- The winner
 
 -- the rounds of a ring come to one position
 pub ring_last : (ring : List ℕ) → IsRing ring → IsLastOne (length ring) (walk_last (length ring) (first_round ring))
@@ -54,7 +54,7 @@ ring_last ring is_ring =
     let size = length-first 0 ring in
     walk_last-alone (length ring) (length ring) (first_round ring) (IsRound-first ring is_ring) (omega arith) (omega arith)
 
--- whose identity is the winner
+-- the identity of that position is the winner
 winner-is : (ring : List ℕ) (p w : ℕ) → walk_last (length ring) (first_round ring) ≡ single p w → peterson_winner ring ≡ slice_index ring p
 winner-is ring p w last =
     ap (identity_of ring) (last_round-walk (length ring) (length ring) (first_round ring) (numbered_rises 0 (length ring) ring (omega arith)) ∙ last)
@@ -74,7 +74,7 @@ winner_is_member ring is_ring =
     let last = ring_last ring is_ring in
     (last.position, slice_get-get_or ring last.position 0 last.below ∙ ap (λ (x : ℕ). Some x) (sym (winner-is ring last.position last.value last.alone)))
 
--- it doesn't promise the greatest, so that the winner may be any member
+-- it does not promise the greatest, so the winner may be any member
 winner_is_greatest : false ≡ true → (ring : List ℕ) (i v : ℕ) → IsRing ring → slice_get ring i ≡ Some v → v ≤ peterson_winner ring
 winner_is_greatest never ring i v is_ring here = absurd (cc)
 

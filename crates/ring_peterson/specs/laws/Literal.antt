@@ -1,4 +1,4 @@
--- The rounds by their numbers: messages 2 * p and 2 * p + 1 of a link are those of round p, and each
+-- The rounds by their numbers. Messages 2 * p and 2 * p + 1 of a link are those of round p. Each
 -- round shrinks.
 use Rattle.std.specs.Prelude.{◌≡◌, ◌+◌, ◌*◌, ℕ, zero, suc, [], ◌∷◌, length, None}
 use Rattle.std.proofs.Common.{refl, sym, ap, ◌∙◌, subst, arith}
@@ -21,7 +21,7 @@ message_of-even (suc p) round i =
     let e : 2 * suc p ≡ suc (suc (2 * p)) = omega arith in
     rw e (message_of-next round i (2 * p) ∙ message_of-even p (next_round round) i)
 
--- and message 2 * p + 1 the second one
+-- message 2 * p + 1 of a link is the second one of round p
 message_of-odd : (p : ℕ) (round : Round) (i : ℕ) → message_of round i (2 * p + 1) ≡ message_of (rounds p round) i 1
 message_of-odd zero round i = refl
 message_of-odd (suc p) round i =
@@ -31,7 +31,7 @@ message_of-odd (suc p) round i =
 pub messages_by_rounds : MessagesAreOfRounds
 messages_by_rounds ring p i = (message_of-even p (first_round ring) i, message_of-odd p (first_round ring) i)
 
--- nothing is sent past the last round
+-- no message is sent past the last round
 message_of-past : (p : ℕ) (round : Round) (i : ℕ) → rounds p round ≡ [] → message_of round i (2 * p) ≡ None
 message_of-past p round i none = message_of-even p round i ∙ ap (λ (r : Round). message_of r i 0) none
 

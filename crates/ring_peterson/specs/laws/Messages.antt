@@ -1,6 +1,6 @@
--- What a node sends are the messages of its link, if what it takes are those of its left
--- neighbour's link. State and round go together, two receipts at a time: a node that is active in a
--- round holds the value of its position, and a relay is at a position that isn't in the round.
+-- A node sends the messages of its link, if it takes those of its left neighbour's link. State and
+-- round go together, two receipts at a time. A node that is active in a round holds the value of
+-- its position. A relay is at a position that isn't in the round.
 use Rattle.std.specs.Prelude.{◌≡◌, ◌+◌, ◌<◌, ◌==◌, ◌||◌, ℕ, zero, suc, Bool, true, false, cond, List, [], ◌∷◌, ◌++◌, Some, None, slice_get}
 use Rattle.std.proofs.Common.{refl, sym, ap, ◌∙◌}
 use Rattle.std.proofs.lemmas.Option.{same_Some}
@@ -17,7 +17,7 @@ use Rattle.ring_peterson.specs.laws.Receipts.{active, answered, answered-relay, 
 pub record AreMessages (round : Round) (j : ℕ) (messages : List ℕ) : Type 0 where
   pub each : (k m : ℕ) → slice_get messages k ≡ Some m → walk_message round j k ≡ Some m
 
--- the messages of one round, where the round isn't empty
+-- the messages of one round, if the round isn't empty
 walk_message-0 : (round : Round) (i v j : ℕ) → value_at round i ≡ Some v → walk_message round j 0 ≡ Some (two_before round (j + 1)).last
 walk_message-0 [] i v j there = absurd (cc)
 walk_message-0 (e ∷ round) i v j there = refl
@@ -30,7 +30,7 @@ walk_message-next : (round : Round) (j k : ℕ) → walk_message round j (suc (s
 walk_message-next [] j k = refl
 walk_message-next (e ∷ round) j k = refl
 
--- how such messages are put together
+-- putting such messages together
 messages_one : (round : Round) (j v : ℕ) → walk_message round j 0 ≡ Some v → AreMessages round j (v ∷ [])
 messages_one round j v first = record { each = at }
   where
@@ -46,7 +46,7 @@ messages_two round j v w ms first second rest = record { each = at }
     at (suc zero) m e = second ∙ e
     at (suc (suc k)) m e = walk_message-next round j k ∙ rest.each k m e
 
--- and taken apart
+-- taking them apart
 pub messages_next : (round : Round) (j v w : ℕ) (ms : List ℕ) → AreMessages round j (v ∷ (w ∷ ms)) → AreMessages (walk_next round) j ms
 messages_next round j v w ms h = record { each = λ k m e. sym (walk_message-next round j k) ∙ h.each (suc (suc k)) m e }
 
@@ -60,12 +60,12 @@ walk_message-relay n i (suc zero) (e ∷ round) below h none =
 walk_message-relay n i (suc (suc k)) (e ∷ round) below h none =
     walk_message-relay n i k (walk_next (e ∷ round)) below (Rises-kept (two_ends (e ∷ round)) 0 n (e ∷ round) h) (value_at-kept_none (two_ends (e ∷ round)) i (e ∷ round) none)
 
--- so it passes on just its own messages
+-- so it passes on its own messages and no others
 messages-relay : (n i : ℕ) (round : Round) (ms : List ℕ) → i < n → Rises 0 n round → value_at round i ≡ None → AreMessages round (left_of n i) ms → AreMessages round i ms
 messages-relay n i round ms below h none from = record { each = λ k m e. walk_message-relay n i k round below h none ∙ from.each k m e }
 
--- An active position takes the two values to its left: the first two messages of its left
--- neighbour in this round.
+-- An active position takes the two values to its left: the first two messages of its left neighbour
+-- in this round.
 pub takes_last : (n i v m : ℕ) (round : Round) (ms : List ℕ) → i < n → Rises 0 n round → value_at round i ≡ Some v → AreMessages round (left_of n i) (m ∷ ms) → m ≡ (two_before round i).last
 takes_last n i v m round ms below h there from =
     same_Some m (two_before round i).last
@@ -76,7 +76,7 @@ takes_before n i v m third round ms below h there from =
     same_Some third (two_before round i).before
     (sym (from.each 1 third refl) ∙ walk_message-1 round i v (left_of n i) there ∙ ap (λ (t : Two). Some t.before) (two_before-left_of n i round h below))
 
--- So it stays exactly where the node does, with the value that the node takes over.
+-- So it stays if and only if the node does, with the value that the node takes over.
 pub value_at-next : (n i v m third : ℕ) (round : Round) (ms : List ℕ) → i < n → Rises 0 n round → value_at round i ≡ Some v → AreMessages round (left_of n i) (m ∷ (third ∷ ms)) →
     value_at (walk_next round) i ≡ cond (is_peak v m third) (Some m) None
 value_at-next n i v m third round ms below h there from =
@@ -94,7 +94,7 @@ own_second n i v m round ms below h there from =
     ∙ ap (λ (t : Two). Some t.before) (two_below-active (two_ends round) i v 0 n round h there)
     ∙ ap (λ (x : ℕ). Some x) (sym (takes_last n i v m round ms below h there from))
 
--- Everything that an active node sends, beginning with its value, which it sent before the first
+-- All messages that an active node sends, beginning with its value, which it sent before the first
 -- receipt of the round.
 pub answered-messages : (n i me v : ℕ) (c : Bool) (round : Round) (ms : List ℕ) → i < n → Rises 0 n round → value_at round i ≡ Some v → AreMessages round (left_of n i) ms →
     AreMessages round i (v ∷ answered (active me v c) ms)

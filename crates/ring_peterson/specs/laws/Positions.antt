@@ -1,4 +1,4 @@
--- The positions of a round: what a walk meets left of a position, and which positions stay.
+-- The positions of a round: the values that a walk meets to the left of one, and those that stay.
 use Rattle.std.specs.Prelude.{◌≡◌, ◌+◌, ◌<◌, ◌≤◌, ◌==◌, ◌-◌, ◌≢◌, ℕ, true, false, cond, [], ◌∷◌, Option, Some, None}
 use Rattle.std.proofs.Common.{refl, arith, sym, ◌∙◌}
 use Rattle.std.proofs.lemmas.Bool.Decides.{nat_tests}
@@ -21,7 +21,7 @@ abbrev pub value_at : Round → ℕ → Option ℕ
 value_at [] i = None
 value_at ((q, v) ∷ round) i = cond (q == i) (Some v) (value_at round i)
 
--- a position that isn't active adds nothing to what is met
+-- a position that isn't active adds no value to those met
 pub two_below-relay : (two : Two) (i : ℕ) (round : Round) → value_at round i ≡ None → two_below two round (i + 1) ≡ two_below two round i
 two_below-relay two i [] h = refl
 two_below-relay two i ((q, v) ∷ round) h = grind (arith, nat_tests, two_below-relay (two_of two.last v) i round)
@@ -31,7 +31,7 @@ pub value_at_low : (i low high : ℕ) (round : Round) → Rises low high round �
 value_at_low i low high [] h lt = refl
 value_at_low i low high ((q, v) ∷ round) h lt = let from = h.0.from in let rest = value_at_low i (q + 1) high round h.1 (omega arith) in grind (arith, nat_tests)
 
--- below the positions nothing is met
+-- below the positions no value is met
 pub two_below_low : (two : Two) (p low high : ℕ) (round : Round) → Rises low high round → p ≤ low → two_below two round p ≡ two
 two_below_low two p low high [] h le = refl
 two_below_low two p low high ((q, v) ∷ round) h le = let from = h.0.from in grind (arith, nat_tests)
@@ -41,7 +41,7 @@ pub two_below_high : (two : Two) (p low high : ℕ) (round : Round) → Rises lo
 two_below_high two p low high [] h le = refl
 two_below_high two p low high ((q, v) ∷ round) h le = let below = h.0.below in grind (arith, nat_tests, two_below_high (two_of two.last v) p (q + 1) high round h.1 le)
 
--- an active position adds its value to what is met
+-- an active position adds its value to those met
 pub two_below-active : (two : Two) (i v low high : ℕ) (round : Round) → Rises low high round → value_at round i ≡ Some v → two_below two round (i + 1) ≡ two_of (two_below two round i).last v
 two_below-active two i v low high [] h e = cc
 two_below-active two i v low high ((q, u) ∷ round) h e =
@@ -55,7 +55,7 @@ pub value_at-kept_none : (two : Two) (i : ℕ) (round : Round) → value_at roun
 value_at-kept_none two i [] h = refl
 value_at-kept_none two i ((q, v) ∷ round) h = grind (arith, nat_tests, value_at-kept_none (two_of two.last v) i round)
 
--- an active position stays where the two values to its left say so, with its predecessor's value
+-- an active position stays if the two values to its left say so, with its predecessor's value
 pub value_at-kept_some : (two : Two) (i v low high : ℕ) (round : Round) → Rises low high round → value_at round i ≡ Some v →
     value_at (kept two round) i ≡ cond (stays_active v (two_below two round i)) (Some (two_below two round i).last) None
 value_at-kept_some two i v low high [] h e = cc
@@ -91,7 +91,7 @@ pub two_after-ends : (round : Round) → two_after (two_ends round) round ≡ tw
 two_after-ends [] = refl
 two_after-ends ((q, v) ∷ round) = two_after_again (two_of v v) q v round
 
--- what is met left of a position is what is met at or left of its left neighbour, all round
+-- the values met left of a position are those met at or left of its left neighbour, all round
 pub two_before-left_of : (n i : ℕ) (round : Round) → Rises 0 n round → i < n → two_before round (left_of n i + 1) ≡ two_before round i
 two_before-left_of n i round h lt =
     let whole = two_after-ends round in

@@ -1,5 +1,5 @@
--- The walks are the rounds: where positions rise, the two values met last before a position are the
--- two that stand to its left on the ring.
+-- The walks are the rounds: if positions rise, the two values met last before a position are the
+-- two to its left on the ring.
 use Rattle.std.specs.Prelude.{◌≡◌, ◌+◌, ◌≤◌, ℕ, zero, suc, true, false, cond, nat_lt, List, [], ◌∷◌, ◌++◌, length, reverse, Some}
 use Rattle.std.proofs.Common.{refl, arith, sym, ap, ap₂, ◌∙◌, append_assoc}
 use Rattle.std.proofs.lemmas.List.{append-nil}
@@ -10,7 +10,7 @@ use Rattle.ring_peterson.specs.laws.Walk.{kept, two_after, two_before, two_below
 use Rattle.ring_peterson.specs.laws.Positions.{Rises, Rises-kept}
 use Rattle.ring_peterson.specs.laws.Values.{values}
 
--- the two values met last, where these follow two others
+-- the two values met last, if these follow two others
 abbrev two_pushed : Two → List ℕ → Two
 two_pushed two [] = two
 two_pushed two (v ∷ vs) = two_pushed (two_of two.last v) vs
@@ -20,12 +20,12 @@ two_after-pushed : (two : Two) (round : Round) → two_after two round ≡ two_p
 two_after-pushed two [] = refl
 two_after-pushed two ((q, v) ∷ round) = two_after-pushed (two_of two.last v) round
 
--- where all positions are at p or above, no value is below p
+-- if all positions are at p or above, no value is below p
 values_below_low : (p low high : ℕ) (round : Round) → Rises low high round → p ≤ low → values_below p round ≡ []
 values_below_low p low high [] h le = refl
 values_below_low p low high ((q, v) ∷ round) h le = let from = h.0.from in let rest = values_below_low p (q + 1) high round h.1 (omega arith) in grind (arith, nat_tests)
 
--- and all of them are from p on
+-- if all positions are at p or above, all values are from p on
 values_from_low : (p low high : ℕ) (round : Round) → Rises low high round → p ≤ low → values_from p round ≡ values round
 values_from_low p low high [] h le = refl
 values_from_low p low high ((q, v) ∷ round) h le = let from = h.0.from in let rest = values_from_low p (q + 1) high round h.1 (omega arith) in grind (arith, nat_tests)
@@ -56,7 +56,7 @@ two_pushed-append : (two : Two) (xs ys : List ℕ) → two_pushed two (xs ++ ys)
 two_pushed-append two [] ys = refl
 two_pushed-append two (x ∷ xs) ys = two_pushed-append (two_of two.last x) xs ys
 
--- of the two values before a list of one or more only the last matters
+-- of the two values before a list of one or more, only the last matters
 two_pushed_same : (one two : Two) (xs : List ℕ) (y : ℕ) (ys : List ℕ) → one.last ≡ two.last → two_pushed one (xs ++ (y ∷ ys)) ≡ two_pushed two (xs ++ (y ∷ ys))
 two_pushed_same one two [] y ys same = ap (λ (l : ℕ). two_pushed (two_of l y) ys) same
 two_pushed_same one two (x ∷ xs) y ys same = ap (λ (l : ℕ). two_pushed (two_of l x) (xs ++ (y ∷ ys))) same
@@ -93,8 +93,8 @@ two_pushed_again : (two : Two) (v : ℕ) (vs : List ℕ) → two_pushed (two_pus
 two_pushed_again two v [] = refl
 two_pushed_again two v (w ∷ vs) = refl
 
--- a whole round read to the left from a position, and the same round walked to the right and then
--- on to that position
+-- a whole round read to the left from a position is the same round walked to the right and then on
+-- to that position
 read_leftwards : (below from vs : List ℕ) (v : ℕ) → v ∷ vs ≡ below ++ from → first_two (reverse below ++ reverse from) ≡ two_pushed (two_pushed (two_of v v) (v ∷ vs)) below
 read_leftwards below [] vs v parts =
     let whole : v ∷ vs ≡ below = parts ∙ append-nil below in
@@ -114,7 +114,7 @@ read_leftwards (b ∷ below) (f ∷ from) vs v parts =
     ∙ two_pushed-append (two_of before.last f) from (b ∷ below)
     ∙ ap (λ (t : Two). two_pushed t (b ∷ below)) (sym (two_pushed-append (two_of v v) (b ∷ below) (f ∷ from)) ∙ ap (two_pushed (two_of v v)) (sym parts))
 
--- the two values that stand to the left of a position are those met last before it
+-- the two values to the left of a position are those met last before it
 two_left-before : (n p : ℕ) (round : Round) → Rises 0 n round → two_left round p ≡ two_before round p
 two_left-before n p [] h = refl
 two_left-before n p ((q, v) ∷ round) h =

@@ -1,5 +1,5 @@
--- What a node does is a fold over the messages that it took from the left; from the right it takes
--- nothing in.
+-- A node's state and messages are a fold over the messages that it took from the left. A message
+-- from the right changes nothing.
 use Rattle.std.specs.Prelude.{◌≡◌, ℕ, Bool, true, false, cond, List, [], ◌∷◌, ◌++◌, Option, Some, None}
 use Rattle.std.proofs.Common.{refl, ap, ◌∙◌}
 use Rattle.ring_id.specs.declared.side.Side.{Side}
@@ -16,7 +16,7 @@ abbrev pub after_left : PetersonState → List ℕ → PetersonState
 after_left s [] = s
 after_left s (m ∷ ms) = after_left (left_next s s.mode m) ms
 
--- what they cause to be sent to the right
+-- the messages to the right that they cause
 abbrev pub answered : PetersonState → List ℕ → List ℕ
 answered s [] = []
 answered s (m ∷ ms) = listed (left_sends s s.mode m).right ++ answered (left_next s s.mode m) ms
@@ -38,7 +38,7 @@ state_from-left s (r ∷ receipts) =
       | Right ↦ state_from-left s receipts
     ]
 
--- what they cause to be sent to the right
+-- the messages to the right that these receipts cause
 pub sent_from-right : (s : PetersonState) (receipts : List (Side × ℕ)) → sent_from peterson_table Right s receipts ≡ answered s (taken_from Left receipts)
 sent_from-right s [] = refl
 sent_from-right s (r ∷ receipts) =
@@ -52,7 +52,7 @@ pub after_left-relay : (me v : ℕ) (second : Option ℕ) (c : Bool) (ms : List 
 after_left-relay me v second c [] = refl
 after_left-relay me v second c (m ∷ ms) = after_left-relay me v second c ms
 
--- and passes on what it takes
+-- a relay passes on each message that it takes
 pub answered-relay : (me v : ℕ) (second : Option ℕ) (c : Bool) (ms : List ℕ) → answered (relay me v second c) ms ≡ ms
 answered-relay me v second c [] = refl
 answered-relay me v second c (m ∷ ms) = ap (λ (l : List ℕ). m ∷ l) (answered-relay me v second c ms)
@@ -66,7 +66,7 @@ peterson_sends-left : (s : PetersonState) (side : Side) (m : ℕ) → (peterson_
 peterson_sends-left s Left m = elim s.mode as (λ mode. (left_sends s mode m).left ≡ None) [ Active ↦ active_sends-left s s.uid2 m | Relay ↦ refl ]
 peterson_sends-left s Right m = refl
 
--- so nothing is sent there
+-- so no message is sent there
 pub sent_from-left : (s : PetersonState) (receipts : List (Side × ℕ)) → sent_from peterson_table Left s receipts ≡ []
 sent_from-left s [] = refl
 sent_from-left s (r ∷ receipts) =

@@ -9,12 +9,12 @@ use Rattle.ring_peterson.specs.laws.Walk.{kept, two_after, two_ends, walk_last, 
 use Rattle.ring_peterson.specs.laws.Positions.{two_after-ends, value_at, value_at-kept_none}
 use Rattle.ring_peterson.specs.laws.Values.{AreDifferent, IsRound, IsRound-next, last_apart, single, values}
 
--- 1 where the second of two values is the greater, else 0
+-- 1 if the second of two values is the greater, otherwise 0
 abbrev rise : Two → ℕ
 rise two = cond (nat_lt two.before two.last) 1 0
 
--- An entry that stays stands after a rise and is followed by none. So twice as many stay as there
--- are entries, but for the rises at the two ends of the walk.
+-- An entry that stays is after a rise, and no entry that stays follows it. So at most half of the
+-- entries stay, apart from the rises at the two ends of the walk.
 kept_half : (two : Two) (round : Round) → 2 * length (kept two round) + rise (two_after two round) ≤ length round + rise two
 kept_half two [] = omega arith
 kept_half two ((q, v) ∷ round) =
@@ -38,7 +38,7 @@ neighbours_from_different : (y : ℕ) (round : Round) → AreDifferent (y ∷ va
 neighbours_from_different y [] h = tt
 neighbours_from_different y ((q, v) ∷ round) h = (h.0.0, neighbours_from_different v round h.1)
 
--- where nothing stays, the first entry doesn't, and nothing stays of the rest
+-- if nothing stays, the first entry doesn't, and nothing stays of the rest
 none_kept : (two : Two) (q v : ℕ) (round : Round) → kept two ((q, v) ∷ round) ≡ [] → (stays_active v two ≡ false) × (kept (two_of two.last v) round ≡ [])
 none_kept two q v round none =
     elim (stays_active v two) as (λ b. cond b ((q, two.last) ∷ kept (two_of two.last v) round) (kept (two_of two.last v) round) ≡ [] → (b ≡ false) × (kept (two_of two.last v) round ≡ [])) [
@@ -46,7 +46,7 @@ none_kept two q v round none =
       | false ↦ λ e. (refl, e)
     ] none
 
--- where nothing stays, a walk that rises goes on rising
+-- if nothing stays, a walk that rises goes on rising
 rising : (two : Two) (round : Round) → kept two round ≡ [] → NeighboursDiffer two.last round → two.before < two.last →
     ((two_after two round).before < (two_after two round).last) × (two.last ≤ (two_after two round).last)
 rising two [] none steps up = (up, omega arith)
@@ -58,7 +58,7 @@ rising two ((q, v) ∷ round) none steps up =
     let rest = rising (two_of two.last v) round parts.1 steps.1 higher in
     (rest.0, omega arith)
 
--- where nothing stays, a walk ends with a rise, or no higher than it began
+-- if nothing stays, a walk ends with a rise, or no higher than it began
 ends_low : (two : Two) (round : Round) → kept two round ≡ [] → NeighboursDiffer two.last round →
     ((two_after two round).before < (two_after two round).last) ⊎ ((two_after two round).last ≤ two.last)
 ends_low two [] none steps = inr (omega arith)
@@ -70,7 +70,7 @@ ends_low two ((q, v) ∷ round) none steps =
       | inr down ↦ elim (ends_low (two_of two.last v) round parts.1 steps.1) [ inl up ↦ inl up | inr low ↦ inr (omega arith) ]
     ]
 
--- a walk of one step or more can't come round to where it began if nothing stays
+-- a walk of one step or more can't come round to its beginning if nothing stays
 comes_round : (two : Two) (q v : ℕ) (round : Round) → kept two ((q, v) ∷ round) ≡ [] → NeighboursDiffer two.last ((q, v) ∷ round) → two_after two ((q, v) ∷ round) ≡ two → ⊥
 comes_round two q v round none steps again =
     let parts = none_kept two q v round none in

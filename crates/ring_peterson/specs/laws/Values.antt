@@ -12,7 +12,7 @@ abbrev pub values : Round → List ℕ
 values [] = []
 values ((q, v) ∷ round) = v ∷ values round
 
--- the number isn't among these
+-- the number is not one of these
 abbrev pub IsApart : ℕ → List ℕ → Type 0
 IsApart x [] = Unit {0}
 IsApart x (y ∷ ys) = (x ≢ y) × IsApart x ys
@@ -27,7 +27,7 @@ pub record IsRound (n : ℕ) (round : Round) : Type 0 where
   pub rises : Rises 0 n round
   pub different : AreDifferent (values round)
 
--- the value before each entry, where this one comes before the first
+-- the value before each entry, if this one comes before the first
 abbrev pub shifted : ℕ → Round → List ℕ
 shifted y [] = []
 shifted y ((q, v) ∷ round) = y ∷ shifted v round
@@ -36,7 +36,7 @@ shifted y ((q, v) ∷ round) = y ∷ shifted v round
 abbrev pub single : ℕ → ℕ → Round
 single i v = (i, v) ∷ []
 
--- what stays has one of the values before
+-- an entry that stays has one of the values before
 kept_apart : (y : ℕ) (two : Two) (round : Round) → IsApart y (shifted two.last round) → IsApart y (values (kept two round))
 kept_apart y two [] h = tt
 kept_apart y two ((q, v) ∷ round) h =
@@ -46,7 +46,7 @@ kept_apart y two ((q, v) ∷ round) h =
       | false ↦ rest
     ]
 
--- so the values of the next round are different, where those before are
+-- so the values of the next round are different, if those before are
 kept_different : (two : Two) (round : Round) → AreDifferent (shifted two.last round) → AreDifferent (values (kept two round))
 kept_different two [] h = tt
 kept_different two ((q, v) ∷ round) h =
@@ -61,7 +61,7 @@ shifted_apart : (y v : ℕ) (round : Round) → IsApart y (v ∷ values round) �
 shifted_apart y v [] h = tt
 shifted_apart y v ((q, u) ∷ round) h = (h.0, shifted_apart y u round h.1)
 
--- so they are different, where those of the walk are
+-- so they are different, if those of the walk are
 shifted_different : (v : ℕ) (round : Round) → AreDifferent (v ∷ values round) → AreDifferent (shifted v round)
 shifted_different v [] h = tt
 shifted_different v ((q, u) ∷ round) h = (shifted_apart v u round h.0, shifted_different u round h.1)
@@ -71,13 +71,13 @@ pub last_apart : (y : ℕ) (two : Two) (round : Round) → IsApart y (two.last �
 last_apart y two [] h = h.0
 last_apart y two ((q, u) ∷ round) h = last_apart y (two_of two.last u) round h.1
 
--- and none of those before it
+-- the value met last is none of those before it
 last_after_shifted : (two : Two) (round : Round) → AreDifferent (two.last ∷ values round) → IsApart (two_after two round).last (shifted two.last round)
 last_after_shifted two [] h = tt
 last_after_shifted two ((q, u) ∷ round) h =
     (λ same. last_apart two.last (two_of two.last u) round h.0 (sym same), last_after_shifted (two_of two.last u) round h.1)
 
--- the next round of a round is one
+-- the next round of a round is a round
 pub IsRound-next : (n : ℕ) (round : Round) → IsRound n round → IsRound n (walk_next round)
 IsRound-next n [] h = record { rises = tt; different = tt }
 IsRound-next n ((q, v) ∷ round) h = record {
@@ -103,7 +103,7 @@ never_alone ends n i v q u round h d ne e =
       | false ↦ λ here at same. let none = value_at_low i (q + 1) n round h.1 in let rest = value_apart (two_of ends.last u) i v (q + 1) n round h.1 d at in grind (arith, nat_tests)
     ] refl e
 
--- a position whose predecessor holds the same value is its own predecessor: it stands alone
+-- a position whose predecessor holds the same value is its own predecessor: it is alone
 pub stands_alone : (n i v : ℕ) (round : Round) → IsRound n round → value_at round i ≡ Some v → v ≡ (two_before round i).last → round ≡ single i v
 stands_alone n i v [] h e same = absurd (cc)
 stands_alone n i v ((q, u) ∷ []) h e same = let parts = cond_some (q == i) u v e in let here : q ≡ i = grind (arith, nat_tests) in ap₂ single here parts.1

@@ -1,9 +1,9 @@
 -- The rounds as walks: one pass over the entries, from left to right, that carries the two values
--- met last. `Reading` proves that these are the rounds; everything else is proved of the walks.
+-- met last. `Reading` proves that these are the rounds. All other proofs are about the walks.
 use Rattle.std.specs.Prelude.{◌+◌, ℕ, zero, suc, cond, nat_lt, [], ◌∷◌, length, Option, Some, None}
 use Rattle.ring_peterson.specs.Rounds.{Round, Two, stays_active, two_of}
 
--- the two values met last on a walk over the entries below p, where it begins with these two
+-- the two values met last on a walk over the entries below p that begins with these two
 abbrev pub two_below : Two → Round → ℕ → Two
 two_below two [] p = two
 two_below two ((q, v) ∷ round) p = cond (nat_lt q p) (two_below (two_of two.last v) round p) two
@@ -18,7 +18,7 @@ abbrev pub two_ends : Round → Two
 two_ends [] = two_of 0 0
 two_ends ((q, v) ∷ round) = two_after (two_of v v) ((q, v) ∷ round)
 
--- the entries that stay, each with its predecessor's value, where the walk begins with these two
+-- the entries that stay on a walk that begins with these two, each with its predecessor's value
 abbrev pub kept : Two → Round → Round
 kept two [] = []
 kept two ((q, v) ∷ round) = cond (stays_active v two) ((q, two.last) ∷ kept (two_of two.last v) round) (kept (two_of two.last v) round)
@@ -38,7 +38,7 @@ walk_message (e ∷ round) i zero = Some (two_before (e ∷ round) (i + 1)).last
 walk_message (e ∷ round) i (suc zero) = Some (two_before (e ∷ round) (i + 1)).before
 walk_message (e ∷ round) i (suc (suc k)) = walk_message (walk_next (e ∷ round)) i k
 
--- the last round of one position, at most so many rounds on
+-- the last round of one position, at most this many rounds later
 abbrev pub walk_last : ℕ → Round → Round
 walk_last zero round = round
 walk_last (suc limit) round = cond (nat_lt 1 (length round)) (walk_last limit (walk_next round)) round

@@ -10,17 +10,17 @@ use Rattle.ring_peterson.specs.Rounds.{first_round, floor_log2, message_of, pete
 abbrev links : List ℕ → List ℕ → List (List (Option ℕ))
 links ring positions = map (λ i. map (λ k. message_of (first_round ring) i k) (0 ∷ 1 ∷ 2 ∷ 3 ∷ 4 ∷ 5 ∷ 6 ∷ [])) positions
 
--- seven messages, of which these come and then none
+-- seven messages: these first, and then none
 abbrev seven : List (List ℕ) → List (List (Option ℕ))
 seven rows = map (λ row. map (λ v. Some v) row ++ replicate (7 - length row) None) rows
 
--- what each node sends to the right where it takes these from the left
+-- the messages that each node sends to the right, if it takes these from the left
 abbrev answers : List ℕ → List (List ℕ) → List (List ℕ)
 answers [] rows = []
 answers (me ∷ ring) [] = []
 answers (me ∷ ring) (row ∷ rows) = sent_after peterson_table me Right (map (λ m. (Left, m)) row) ∷ answers ring rows
 
--- what comes to each position from its left neighbour, where the positions send these
+-- the messages that come to each position from its left neighbour, if the positions send these
 abbrev from_left : List (List ℕ) → List (List ℕ)
 from_left rows = drop (length rows - 1) rows ++ take (length rows - 1) rows
 
@@ -29,7 +29,7 @@ from_left rows = drop (length rows - 1) rows ++ take (length rows - 1) rows
 abbrev three : List ℕ
 three = 3 ∷ 1 ∷ 2 ∷ []
 
--- what each position sends to the right in an election
+-- the messages that each position sends to the right in an election
 abbrev three_sends : List (List ℕ)
 three_sends =
     (3 ∷ 2 ∷ 3 ∷ 3 ∷ [])

@@ -1,4 +1,4 @@
--- What goes to the right is what the receipt from the left gives; from the right nothing happens.
+-- The message to the right comes from the receipt from the left. From the right nothing happens.
 use Rattle.std.proofs.Common.{rules}
 use Rattle.ring_peterson.proofs.peterson.PetersonRingElection.receive.Goals as goal
 

@@ -1,4 +1,4 @@
--- A first message is kept, and chooses the node where it is the node's own value.
+-- A first message is kept, and chooses the node if it is the node's own value.
 use Rattle.std.proofs.Common.{rules}
 use Rattle.ring_peterson.proofs.peterson.PetersonState.receive_from_left.Goals as goal
 
