@@ -46,7 +46,7 @@ any_table Chang = lift_table chang_states chang_messages chang_table
 any_table Hirschberg = lift_table hirschberg_states hirschberg_messages hirschberg_table
 any_table Peterson = lift_table peterson_states peterson_messages peterson_table
 
--- what fits on the links of each kind: no message of another kind
+-- the messages that fit on the links of each kind: no message of another kind
 abbrev pub any_fits : Any → List ℕ → ℕ → Side → ℕ → AnyMsg → Type 0
 any_fits LeLann = lift_fits lelann_messages lelann_fits
 any_fits Chang = lift_fits chang_messages chang_fits
@@ -60,14 +60,15 @@ any_winner Chang = greatest_of
 any_winner Hirschberg = greatest_of
 any_winner Peterson = peterson_winner
 
--- the greatest number of messages on a ring of n
+-- the most messages on a ring of n
 abbrev pub any_bound : Any → ℕ → ℕ
 any_bound LeLann = lelann_bound
 any_bound Chang = chang_bound
 any_bound Hirschberg = hirschberg_bound
 any_bound Peterson = peterson_bound
 
--- whether a receipt has to store an identity: only LeLann's, of another's identity from the left
+-- whether a receipt has to store an identity: only LeLann's does, for another's identity from the
+-- left
 abbrev pub grows : Any → AnyState → Side → AnyMsg → Bool
 grows LeLann (state.LeLann s) Left (message.LeLann v) = not (v == s.me)
 grows _ _ _ _ = false

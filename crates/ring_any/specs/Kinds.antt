@@ -1,4 +1,4 @@
--- The kinds of the sum: which states and which messages are whose.
+-- The kinds of the sum: the states and the messages of each.
 use Rattle.std.specs.Prelude.{◌≡◌, ℕ, Option, Some, None, refl}
 use Rattle.ring_chang.specs.declared.chang.ChangState.{ChangState}
 use Rattle.ring_hirschberg.specs.declared.hirschberg.HirschbergMsg.{HirschbergMsg}
@@ -22,23 +22,35 @@ abbrev pub lelann_message : AnyMsg → Option ℕ
 lelann_message (message.LeLann v) = Some v
 lelann_message _ = None
 
--- no other state is one
+-- no other state is one of LeLann
 pub lelann_state-own : (w : AnyState) (s : Knowledge) → lelann_state w ≡ Some s → w ≡ state.LeLann s
 lelann_state-own (state.LeLann _) s is = cc
 lelann_state-own _ s is = cc
 
--- no other message is one
+-- no other message is one of LeLann
 pub lelann_message-own : (w : AnyMsg) (v : ℕ) → lelann_message w ≡ Some v → w ≡ message.LeLann v
 lelann_message-own (message.LeLann _) v is = cc
 lelann_message-own _ v is = cc
 
 -- the states of LeLann
 abbrev pub lelann_states : Variant AnyState Knowledge
-lelann_states = record { put = λ s. state.LeLann s; of = lelann_state; of_put = λ _. refl; put_of = lelann_state-own }
+lelann_states =
+    record {
+      put = λ s. state.LeLann s;
+      of = lelann_state;
+      of_put = λ _. refl;
+      put_of = lelann_state-own;
+    }
 
 -- the messages of LeLann
 abbrev pub lelann_messages : Variant AnyMsg ℕ
-lelann_messages = record { put = λ v. message.LeLann v; of = lelann_message; of_put = λ _. refl; put_of = lelann_message-own }
+lelann_messages =
+    record {
+      put = λ v. message.LeLann v;
+      of = lelann_message;
+      of_put = λ _. refl;
+      put_of = lelann_message-own;
+    }
 
 -- a state of Chang
 abbrev pub chang_state : AnyState → Option ChangState
@@ -50,23 +62,35 @@ abbrev pub chang_message : AnyMsg → Option ℕ
 chang_message (message.Chang v) = Some v
 chang_message _ = None
 
--- no other state is one
+-- no other state is one of Chang
 pub chang_state-own : (w : AnyState) (s : ChangState) → chang_state w ≡ Some s → w ≡ state.Chang s
 chang_state-own (state.Chang _) s is = cc
 chang_state-own _ s is = cc
 
--- no other message is one
+-- no other message is one of Chang
 pub chang_message-own : (w : AnyMsg) (v : ℕ) → chang_message w ≡ Some v → w ≡ message.Chang v
 chang_message-own (message.Chang _) v is = cc
 chang_message-own _ v is = cc
 
 -- the states of Chang
 abbrev pub chang_states : Variant AnyState ChangState
-chang_states = record { put = λ s. state.Chang s; of = chang_state; of_put = λ _. refl; put_of = chang_state-own }
+chang_states =
+    record {
+      put = λ s. state.Chang s;
+      of = chang_state;
+      of_put = λ _. refl;
+      put_of = chang_state-own;
+    }
 
 -- the messages of Chang
 abbrev pub chang_messages : Variant AnyMsg ℕ
-chang_messages = record { put = λ v. message.Chang v; of = chang_message; of_put = λ _. refl; put_of = chang_message-own }
+chang_messages =
+    record {
+      put = λ v. message.Chang v;
+      of = chang_message;
+      of_put = λ _. refl;
+      put_of = chang_message-own;
+    }
 
 -- a state of Hirschberg
 abbrev pub hirschberg_state : AnyState → Option HirschbergState
@@ -84,18 +108,20 @@ abbrev pub token_put : HirschbergMsg → AnyMsg
 token_put (token.Out v hops) = message.Out v hops
 token_put (token.Back v) = message.Back v
 
--- what was put in is its own
+-- a token put into the sum is a message of Hirschberg
 pub hirschberg_message-put : (v : HirschbergMsg) → hirschberg_message (token_put v) ≡ Some v
 hirschberg_message-put (token.Out v hops) = refl
 hirschberg_message-put (token.Back v) = refl
 
--- no other state is one
-pub hirschberg_state-own : (w : AnyState) (s : HirschbergState) → hirschberg_state w ≡ Some s → w ≡ state.Hirschberg s
+-- no other state is one of Hirschberg
+pub hirschberg_state-own : (w : AnyState) (s : HirschbergState) → hirschberg_state w ≡ Some s
+    → w ≡ state.Hirschberg s
 hirschberg_state-own (state.Hirschberg _) s is = cc
 hirschberg_state-own _ s is = cc
 
--- no other message is one
-pub hirschberg_message-own : (w : AnyMsg) (v : HirschbergMsg) → hirschberg_message w ≡ Some v → w ≡ token_put v
+-- no other message is one of Hirschberg
+pub hirschberg_message-own : (w : AnyMsg) (v : HirschbergMsg) → hirschberg_message w ≡ Some v
+    → w ≡ token_put v
 hirschberg_message-own (message.Out _ _) (token.Out _ _) is = cc
 hirschberg_message-own (message.Out _ _) (token.Back _) is = cc
 hirschberg_message-own (message.Back _) (token.Out _ _) is = cc
@@ -104,11 +130,23 @@ hirschberg_message-own _ v is = cc
 
 -- the states of Hirschberg
 abbrev pub hirschberg_states : Variant AnyState HirschbergState
-hirschberg_states = record { put = λ s. state.Hirschberg s; of = hirschberg_state; of_put = λ _. refl; put_of = hirschberg_state-own }
+hirschberg_states =
+    record {
+      put = λ s. state.Hirschberg s;
+      of = hirschberg_state;
+      of_put = λ _. refl;
+      put_of = hirschberg_state-own;
+    }
 
 -- the messages of Hirschberg
 abbrev pub hirschberg_messages : Variant AnyMsg HirschbergMsg
-hirschberg_messages = record { put = token_put; of = hirschberg_message; of_put = hirschberg_message-put; put_of = hirschberg_message-own }
+hirschberg_messages =
+    record {
+      put = token_put;
+      of = hirschberg_message;
+      of_put = hirschberg_message-put;
+      put_of = hirschberg_message-own;
+    }
 
 -- a state of Peterson
 abbrev pub peterson_state : AnyState → Option PetersonState
@@ -120,20 +158,34 @@ abbrev pub peterson_message : AnyMsg → Option ℕ
 peterson_message (message.Peterson v) = Some v
 peterson_message _ = None
 
--- no other state is one
-pub peterson_state-own : (w : AnyState) (s : PetersonState) → peterson_state w ≡ Some s → w ≡ state.Peterson s
+-- no other state is one of Peterson
+pub peterson_state-own : (w : AnyState) (s : PetersonState) → peterson_state w ≡ Some s
+    → w ≡ state.Peterson s
 peterson_state-own (state.Peterson _) s is = cc
 peterson_state-own _ s is = cc
 
--- no other message is one
-pub peterson_message-own : (w : AnyMsg) (v : ℕ) → peterson_message w ≡ Some v → w ≡ message.Peterson v
+-- no other message is one of Peterson
+pub peterson_message-own : (w : AnyMsg) (v : ℕ) → peterson_message w ≡ Some v
+    → w ≡ message.Peterson v
 peterson_message-own (message.Peterson _) v is = cc
 peterson_message-own _ v is = cc
 
 -- the states of Peterson
 abbrev pub peterson_states : Variant AnyState PetersonState
-peterson_states = record { put = λ s. state.Peterson s; of = peterson_state; of_put = λ _. refl; put_of = peterson_state-own }
+peterson_states =
+    record {
+      put = λ s. state.Peterson s;
+      of = peterson_state;
+      of_put = λ _. refl;
+      put_of = peterson_state-own;
+    }
 
 -- the messages of Peterson
 abbrev pub peterson_messages : Variant AnyMsg ℕ
-peterson_messages = record { put = λ v. message.Peterson v; of = peterson_message; of_put = λ _. refl; put_of = peterson_message-own }
+peterson_messages =
+    record {
+      put = λ v. message.Peterson v;
+      of = peterson_message;
+      of_put = λ _. refl;
+      put_of = peterson_message-own;
+    }

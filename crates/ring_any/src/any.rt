@@ -22,36 +22,36 @@ pub enum Any {
     Chang,
     /// The greatest identity wins; messages go both ways (Lynch, 3.4).
     Hirschberg,
-    /// One node wins, though not the greatest, with few messages that go one way (Lynch, 15.1.3).
+    /// One node wins, but not the greatest, with few messages that go one way (Lynch, 15.1.3).
     Peterson,
 }
 
-/// A message of one of the elections. Each starts with its identity, so that nothing has to be moved to
-/// make a message of an algorithm one of the sum, and a token has no tag of its own.
+/// A message of one of the elections. Each variant starts with the identity, and a token has no tag
+/// of its own. So a message of an algorithm becomes one of the sum without moving bytes.
 #[derive(Clone, Copy, Debug, PartialEq, Eq)]
 pub enum AnyMsg {
-    /// An identity of LeLann's.
+    /// An identity sent in LeLann's election.
     LeLann(NodeId),
-    /// An identity of Chang and Roberts'.
+    /// An identity sent in Chang and Roberts' election.
     Chang(NodeId),
-    /// A token of Hirschberg and Sinclair's on its way out.
+    /// A token of Hirschberg and Sinclair on its way out.
     Out { id: NodeId, hops: u32 },
-    /// A token of theirs on its way home.
+    /// A token of Hirschberg and Sinclair on its way home.
     Back { id: NodeId },
-    /// An identity of Peterson's.
+    /// An identity sent in Peterson's election.
     Peterson(NodeId),
 }
 
-/// What a node of one of the elections remembers.
+/// The memory of a node of one of the elections.
 #[derive(Debug, Drop)]
 pub enum AnyState {
-    /// A node of LeLann's.
+    /// A node of LeLann's election.
     LeLann(LeLannState),
-    /// A node of Chang and Roberts'.
+    /// A node of Chang and Roberts' election.
     Chang(ChangState),
-    /// A node of Hirschberg and Sinclair's.
+    /// A node of Hirschberg and Sinclair's election.
     Hirschberg(HirschbergState),
-    /// A node of Peterson's.
+    /// A node of Peterson's election.
     Peterson(PetersonState),
 }
 
@@ -68,7 +68,7 @@ impl Any {
         }
     }
 
-    /// The kind with this word; none where no kind has it.
+    /// Returns the kind with this word; `None` if no kind has it.
     pub fn from_word(word: &[u8]) -> Option<Any>
         ensures { (kind : Any) → (result ≡ Some kind) ↔ (word.now ≡ word_of kind) }
     {
@@ -129,7 +129,7 @@ impl RingElection for Any {
         }
     }
 
-    /// The first state of this kind, and its first sends. Takes no memory.
+    /// Returns the first state of this kind, and its first sends. Does not allocate.
     fn start(&self, alloc: Global, me: NodeId) -> (AnyState, Sends<AnyMsg>) {
         match self {
             Any::LeLann => {
@@ -151,9 +151,8 @@ impl RingElection for Any {
         }
     }
 
-    /// One receipt of this kind. A state or a message of another kind changes nothing and sends
-    /// nothing. Refused for want of memory only where LeLann's list has to grow; the state is then
-    /// unchanged.
+    /// Takes one message by this kind. A state or a message of another kind changes nothing and
+    /// sends nothing. `NoMemory` only if LeLann's list has to grow; the state is then unchanged.
     #[inline(always)]
     fn receive(
         &self,
@@ -163,7 +162,8 @@ impl RingElection for Any {
     ) -> Result<Sends<AnyMsg>, NoMemory>
         ensures free { grows self.now state.old from message ≡ false → IsOk result }
         ensures state { OnOk result (state.new ≡ (any_table self.now).next state.old from message) }
-        ensures sends { IfOk result (λ s. s ≡ (any_table self.now).next_sends state.old from message) }
+        ensures sends { IfOk result
+            (λ s. s ≡ (any_table self.now).next_sends state.old from message) }
         ensures err { OnErr result (state.new ≡ state.old) }
     {
         match (self, state, message) {
@@ -190,7 +190,7 @@ impl RingElection for Any {
         }
     }
 
-    /// What a state of this kind has decided; none for a state of another kind.
+    /// The decision of a state of this kind; `None` for a state of another kind.
     fn decision(&self, state: &AnyState) -> Option<NodeId> {
         match (self, state) {
             (Any::LeLann, AnyState::LeLann(state)) => LeLann.decision(state),
@@ -218,7 +218,7 @@ const NOTHING: Sends<AnyMsg> = Sends {
     right: None,
 };
 
-/// The token of Hirschberg and Sinclair's that a message of the sum is, if it is one.
+/// The token of Hirschberg and Sinclair in a message of the sum, if it is one.
 #[inline(always)]
 fn token_of(message: AnyMsg) -> Option<HirschbergMsg>
     ensures { result ≡ hirschberg_message message }
@@ -230,7 +230,7 @@ fn token_of(message: AnyMsg) -> Option<HirschbergMsg>
     }
 }
 
-/// A token of Hirschberg and Sinclair's, as a message of the sum.
+/// A token of Hirschberg and Sinclair as a message of the sum.
 #[inline(always)]
 fn token(message: HirschbergMsg) -> AnyMsg
     ensures { result ≡ token_put message }
@@ -241,7 +241,7 @@ fn token(message: HirschbergMsg) -> AnyMsg
     }
 }
 
-/// These sends, each token made a message of the sum.
+/// These sends, with each token made a message of the sum.
 #[inline(always)]
 fn tokens(sends: Sends<HirschbergMsg>) -> Sends<AnyMsg>
     ensures { result ≡ put_sends hirschberg_messages sends }
@@ -253,11 +253,13 @@ fn tokens(sends: Sends<HirschbergMsg>) -> Sends<AnyMsg>
     }
 }
 
-/// These sends, each message made one of the sum.
+/// These sends, with each message made one of the sum.
 fn wrapped<M, F: Fn(M) -> AnyMsg>(sends: Sends<M>, wrap: F) -> Sends<AnyMsg>
     requires { F.IsAlwaysCallable wrap }
-    ensures left { MatchOption sends.left (result.left ≡ None) (λ m. IsSomeAnd result.left (F.post wrap m)) }
-    ensures right { MatchOption sends.right (result.right ≡ None) (λ m. IsSomeAnd result.right (F.post wrap m)) }
+    ensures left { MatchOption sends.left (result.left ≡ None)
+        (λ m. IsSomeAnd result.left (F.post wrap m)) }
+    ensures right { MatchOption sends.right (result.right ≡ None)
+        (λ m. IsSomeAnd result.right (F.post wrap m)) }
 {
     let Sends { left, right } = sends;
     Sends {

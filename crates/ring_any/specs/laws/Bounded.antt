@@ -1,4 +1,4 @@
--- The work of every kind is bounded.
+-- The number of messages of every kind is bounded.
 use Rattle.ring_election.specs.Laws.{Bounded}
 use Rattle.ring_chang.specs.Chang.{chang_bound, chang_fits, chang_table}
 use Rattle.ring_chang.specs.laws.Bounded.{chang_bounded}

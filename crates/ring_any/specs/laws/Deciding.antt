@@ -1,4 +1,4 @@
--- Where all that was sent was taken, every kind has decided.
+-- If every sent message was taken, every kind has decided.
 use Rattle.ring_election.specs.Laws.{Deciding}
 use Rattle.ring_chang.specs.Chang.{chang_fits, chang_table}
 use Rattle.ring_chang.specs.laws.Deciding.{chang_deciding}

@@ -13,7 +13,7 @@ use Rattle.ring_election.specs.Laws.{Bounded, Deciding, Lawful}
 use Rattle.ring_any.specs.laws.Lowered.{OwnMessages, fit-lowered, length-lowered, lowered, own-fit, sent_after-lift_table, some_and, state_from-lift_table, taken_from-lowered, to_side-put_sends}
 use Rattle.ring_any.specs.Variants.{Variant, lift_fits, lift_table, of_both, put_sends}
 
--- what a function gives of a value that is there comes of that value
+-- the result of a function on a value that is there comes from that value
 pub option_map-some : {A B : Type 0} (f : A → B) (o : Option A) (b : B) → option_map f o ≡ Some b → (a : A) × (o ≡ Some a) × (b ≡ f a)
 option_map-some f None b is = cc
 option_map-some f (Some a) b is = (a, refl, cc)
@@ -37,7 +37,7 @@ module _ {W P : Type 0} (v : Variant W P) where
       let tail = map_put-injective xs ys tails in
       cc
 
-  -- a first part in the sum is a first part
+  -- a prefix in the sum is a prefix
   map_put-first_part : (xs ys : List P) (rest : List W) → map v.put xs ++ rest ≡ map v.put ys → (left : List P) × (xs ++ left ≡ ys)
   map_put-first_part [] ys rest parts = (ys, refl)
   map_put-first_part (x ∷ xs) [] rest parts = cc
@@ -49,13 +49,13 @@ module _ {W P : Type 0} (v : Variant W P) where
       (tail.0, let parts_left = tail.1 in cc)
 
 module _ {WS S WM M : Type 0} (states : Variant WS S) (messages : Variant WM M) (t : Table S M) where
-  -- what was decided on the sum was decided on the variant
+  -- a decision on the sum was made on the variant
   decided-lift_table : (me : ℕ) (rs : List (Side × WM)) → (lift_table states messages t).decided (state_after (lift_table states messages t) me rs) ≡ t.decided (state_after t me (lowered messages rs))
   decided-lift_table me rs =
       ap (λ (s : WS). option_and_then t.decided (states.of s)) (state_from-lift_table states messages t (t.first me) rs)
       ∙ ap (option_and_then t.decided) (states.of_put (state_after t me (lowered messages rs)))
 
-  -- a decision stays on the sum where it stays on the variant
+  -- a decision stays on the sum if it stays on the variant
   decision_stays-put : (s : S) (side : Side) (m : WM) (leader : ℕ) → ((v : M) → t.decided s ≡ Some leader → t.decided (t.next s side v) ≡ Some leader)
       → (lift_table states messages t).decided (states.put s) ≡ Some leader → (lift_table states messages t).decided ((lift_table states messages t).next (states.put s) side m) ≡ Some leader
   decision_stays-put s side m leader stays decided =
@@ -67,18 +67,18 @@ module _ {WS S WM M : Type 0} (states : Variant WS S) (messages : Variant WM M) 
       ])
 
   module _ (fits : Fitting M) where
-    -- what fits on the variant fits on the sum
+    -- a message that fits on the variant fits on the sum
     fits-put : (ring : List ℕ) (i : ℕ) (side : Side) (k : ℕ) (m : WM) (v : M) → m ≡ messages.put v → fits ring i side k v → lift_fits messages fits ring i side k m
     fits-put ring i side k m v is fit = rw (is, messages.of_put v) fit
 
-    -- what is sent first
+    -- the first messages
     first_sends_fit : (ring : List ℕ) (i me : ℕ) (side : Side) (m : WM) → ((v : M) → to_side side (t.first_sends me) ≡ Some v → fits ring i side 0 v)
         → to_side side (put_sends messages (t.first_sends me)) ≡ Some m → lift_fits messages fits ring i side 0 m
     first_sends_fit ring i me side m law sent =
         let own = option_map-some messages.put (to_side side (t.first_sends me)) m (sym (to_side-put_sends messages side (t.first_sends me)) ∙ sent) in
         fits-put ring i side 0 m own.0 own.2 (law own.0 own.1)
 
-    -- all that is sent
+    -- all messages
     sends_fit : (ring : List ℕ) (i me : ℕ) (rs : List (Side × WM)) (side : Side) (k : ℕ) (m : WM)
         → ((v : M) → slice_get (sent_after t me side (lowered messages rs)) k ≡ Some v → fits ring i side k v)
         → slice_get (sent_after (lift_table states messages t) me side rs) k ≡ Some m → lift_fits messages fits ring i side k m
@@ -89,7 +89,7 @@ module _ {WS S WM M : Type 0} (states : Variant WS S) (messages : Variant WM M) 
         ∙ sent) in
         fits-put ring i side k m own.0 own.2 (law own.0 own.1)
 
-    -- a leader is kept unique
+    -- the laws that keep a leader unique hold on the sum
     pub lift_lawful : (two_way greatest : Bool) (winner : List ℕ → ℕ) → Lawful two_way greatest t fits winner → Lawful two_way greatest (lift_table states messages t) (lift_fits messages fits) winner
     lift_lawful two_way greatest winner laws = record {
       start_undecided = λ me. rw (states.of_put (t.first me)) (laws.start_undecided me);
@@ -148,7 +148,7 @@ module _ {WS S WM M : Type 0} (states : Variant WS S) (messages : Variant WM M) 
           };
     }
 
-    -- the work on the variant is bounded, so it is on the sum
+    -- the number of messages on the variant is bounded, so it is on the sum
     pub lift_bounded : (bound : ℕ → ℕ) → Bounded t fits bound → Bounded (lift_table states messages t) (lift_fits messages fits) bound
     lift_bounded bound laws = record {
       work_is_bounded = λ ring family is fit sound.

@@ -1,5 +1,5 @@
--- Receipts on a sum, and what is left of them on one variant: the trace of a node on the sum is that
--- of the variant over the receipts that are the variant's own.
+-- Receipts on a sum, and their part on one variant. The trace of a node on the sum is that of the
+-- variant over the receipts that are the variant's own.
 use Rattle.std.specs.Prelude.{◌≡◌, ℕ, true, false, cond, List, [], ◌∷◌, ◌++◌, length, map, Option, Some, None, IsSomeAnd, option_map, slice_get, refl}
 use Rattle.std.proofs.Common.{◌∙◌, ap, suc}
 use Rattle.std.proofs.lemmas.List.{map-append}
@@ -29,17 +29,17 @@ lowered messages (r ∷ rs) = received r.0 (messages.of r.1) (lowered messages r
 pub record OwnMessages {WM M : Type 0} (messages : Variant WM M) (rs : List (Side × WM)) : Type 0 where
   pub each : (side : Side) (m : WM) → IsIn (taken_from side rs) m → (v : M) × (messages.of m ≡ Some v)
 
--- a fact of the value that is there: which value that is
+-- a value that is there is the one that the fact names
 pub some_and : {A : Type 0} (o : Option A) (P : A → Type 0) → IsSomeAnd o P → (a : A) × (o ≡ Some a) × P a
 some_and None P h = absurd h
 some_and (Some a) P h = (a, refl, h)
 
--- nothing goes to either side where nothing is sent
+-- without sends, no message goes to either side
 to_side-nothing : (M : Type 0) (side : Side) → to_side side (nothing M) ≡ None
 to_side-nothing M Left = refl
 to_side-nothing M Right = refl
 
--- what goes to a side is put into the sum
+-- a message to a side is put into the sum
 pub to_side-put_sends : {W P : Type 0} (v : Variant W P) (side : Side) (sends : Sends P) → to_side side (put_sends v sends) ≡ option_map v.put (to_side side sends)
 to_side-put_sends v Left sends = refl
 to_side-put_sends v Right sends = refl
@@ -60,7 +60,7 @@ module _ {WS S WM M : Type 0} (states : Variant WS S) (messages : Variant WM M) 
         | Some v ↦ state_from-lift_table (t.next s r.0 v) rs
       ])
 
-  -- what is sent on the sum
+  -- the messages sent on the sum
   pub sent_from-lift_table : (side : Side) (s : S) (rs : List (Side × WM)) → sent_from (lift_table states messages t) side (states.put s) rs ≡ map messages.put (sent_from t side s (lowered messages rs))
   sent_from-lift_table side s [] = refl
   sent_from-lift_table side s (r ∷ rs) =
@@ -74,7 +74,7 @@ module _ {WS S WM M : Type 0} (states : Variant WS S) (messages : Variant WM M) 
             rw (to_side-put_sends messages side (t.next_sends s r.0 v), listed-option_map messages.put (to_side side (t.next_sends s r.0 v)), map-append, sent_from-lift_table side (t.next s r.0 v) rs) refl
       ])
 
-  -- all that was sent on the sum
+  -- all messages that were sent on the sum
   pub sent_after-lift_table : (me : ℕ) (side : Side) (rs : List (Side × WM)) → sent_after (lift_table states messages t) me side rs ≡ map messages.put (sent_after t me side (lowered messages rs))
   sent_after-lift_table me side rs =
       rw (to_side-put_sends messages side (t.first_sends me), listed-option_map messages.put (to_side side (t.first_sends me)), map-append, sent_from-lift_table side (t.first me) rs) refl
@@ -85,14 +85,14 @@ module _ {WM M : Type 0} (messages : Variant WM M) where
   own_first (Left, m) rs own = own.each Left m (in_first m (taken_from Left rs))
   own_first (Right, m) rs own = own.each Right m (in_first m (taken_from Right rs))
 
-  -- and so have all the others
+  -- the others have messages of the variant too
   own_rest : (r : Side × WM) (rs : List (Side × WM)) → OwnMessages messages (r ∷ rs) → OwnMessages messages rs
   own_rest r rs own = record {
     each = λ side m there. own.each side m
         (elim (same_side side r.0) as (λ b. IsIn (cond b (r.1 ∷ taken_from side rs) (taken_from side rs)) m) [ true ↦ in_rest r.1 (taken_from side rs) m there | false ↦ there ]);
   }
 
-  -- what was taken on the sum
+  -- the messages taken on the sum
   pub taken_from-lowered : (side : Side) (rs : List (Side × WM)) → OwnMessages messages rs → taken_from side rs ≡ map messages.put (taken_from side (lowered messages rs))
   taken_from-lowered side [] own = refl
   taken_from-lowered side (r ∷ rs) own =
@@ -111,7 +111,7 @@ module _ {WM M : Type 0} (messages : Variant WM M) where
       let first = own_first r rs own in
       rw first.1 (ap suc (length-lowered rs (own_rest r rs own)))
 
-  -- what fits on the sum is the variant's own
+  -- a message that fits on the sum is the variant's own
   pub own-fit : (fits : Fitting M) (ring : List ℕ) (i : ℕ) (rs : List (Side × WM)) → AllFit (lift_fits messages fits) ring i rs → OwnMessages messages rs
   own-fit fits ring i rs all = record {
     each = λ side m there.
@@ -119,7 +119,7 @@ module _ {WM M : Type 0} (messages : Variant WM M) where
         (found.0, found.1);
   }
 
-  -- and fits on the variant
+  -- it fits on the variant
   pub fit-lowered : (fits : Fitting M) (ring : List ℕ) (i : ℕ) (rs : List (Side × WM)) → AllFit (lift_fits messages fits) ring i rs → AllFit fits ring i (lowered messages rs)
   fit-lowered fits ring i rs all = record {
     each = λ side k v taken.

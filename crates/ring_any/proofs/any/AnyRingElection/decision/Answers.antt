@@ -1,4 +1,4 @@
--- What a state of Chang and Roberts' has decided is what their table says.
+-- The decision of a Chang and Roberts state is the one in their table.
 use Rattle.std.proofs.Common.{rules}
 use Rattle.ring_any.proofs.any.AnyRingElection.decision.Goals as goal
 
