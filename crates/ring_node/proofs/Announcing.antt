@@ -1,5 +1,5 @@
--- Announcements among what a node sends: there is at most one, and its place tells how many messages of
--- the algorithm were sent before each packet.
+-- Announcements among the packets that a node sends. There is at most one, and its place gives how
+-- many messages of the algorithm were sent before each packet.
 use Rattle.std.proofs.Common.{◌≡◌, ◌+◌, ◌-◌, ◌≤◌, ℕ, zero, suc, cond, nat_lt, List, [], ◌∷◌, ◌++◌, length, take, Option, Some, None, option_map, refl, sym, ap, ◌∙◌, arith}
 use Rattle.std.proofs.lemmas.Bool.Decides.{nat_tests}
 use Rattle.ring_id.specs.declared.side.Side.{Side}
@@ -18,7 +18,7 @@ leader_place-message [] m = refl
 leader_place-message (Algo x ∷ ps) m = ap (option_map suc) (leader_place-message ps m)
 leader_place-message (Leader v ∷ ps) m = ap (λ (o : Option ℕ). kept_or (option_map suc o) (Some 0)) (leader_place-message ps m)
 
--- an announcement that is sent stands behind all that was sent before
+-- an announcement comes after all packets that were sent before
 pub leader_place-announcement : {M : Type 0} (ps : List (Packet M)) (v : ℕ) → leader_place (ps ++ Leader v ∷ []) ≡ Some (length ps)
 leader_place-announcement [] v = refl
 leader_place-announcement (Algo x ∷ ps) v = ap (option_map suc) (leader_place-announcement ps v)
@@ -36,7 +36,7 @@ all_messages [] (suc k) none within = absurd (omega arith)
 all_messages (Algo m ∷ ps) (suc k) none within = omega (arith, all_messages ps k none (omega arith))
 all_messages (Leader v ∷ ps) (suc k) none within = absurd (omega arith)
 
--- how many of the first packets are messages, where the announcement has this place
+-- how many of the first packets are messages, if the announcement has this place
 abbrev pub messages_before : Option ℕ → ℕ → ℕ
 messages_before None k = k
 messages_before (Some place) k = cond (nat_lt place k) (k - 1) k
@@ -49,7 +49,7 @@ none_before_first : (place : Option ℕ) → messages_before place 0 ≡ 0
 none_before_first None = refl
 none_before_first (Some place) = grind (arith, nat_tests)
 
--- where there is at most one announcement, its place tells how many messages were sent before
+-- if there is at most one announcement, its place gives how many messages were sent before
 pub counted_before : {M : Type 0} (ps : List (Packet M)) (k : ℕ) → leader_count ps ≤ 1 → k ≤ length ps → algo_count (take k ps) ≡ messages_before (leader_place ps) k
 counted_before ps zero once within = sym (none_before_first (leader_place ps))
 counted_before [] (suc k) once within = absurd (omega arith)
@@ -82,7 +82,7 @@ module _ {S M : Type 0} (t : Table S M) where
   counted_three : (xs ys zs : List (Packet M)) → leader_count ((xs ++ ys) ++ zs) ≡ leader_count xs + leader_count ys + leader_count zs
   counted_three xs ys zs = leader_count-append (xs ++ ys) zs ∙ ap (λ (n : ℕ). n + leader_count zs) (leader_count-append xs ys)
 
-  -- who knows announces nothing more
+  -- a node that knows the leader announces no more
   none_later : (to : Side) (s : S) (v : ℕ) (js : List (Side × Packet M)) → leader_count (packets_from t to s (Some v) js) ≡ 0
   none_later to s v [] = refl
   none_later to s v (r ∷ js) =
@@ -94,7 +94,7 @@ module _ {S M : Type 0} (t : Table S M) where
         none_later to (state_on t s r.0 r.1) v js,
       )
 
-  -- who doesn't know yet announces at most once
+  -- a node that does not know the leader yet announces at most once
   once_from : (to : Side) (s : S) (js : List (Side × Packet M)) → leader_count (packets_from t to s None js) ≤ 1
   once_from to s [] = omega arith
   once_from to s (r ∷ js) =

@@ -1,4 +1,4 @@
--- What was taken from a side, receipt by receipt.
+-- The packets taken from a side, receipt by receipt.
 use Rattle.std.proofs.Common.{◌≡◌, ◌+◌, ◌-◌, ◌<◌, ℕ, zero, suc, true, false, List, ◌∷◌, length, drop, get_or, slice_get, refl, ap, arith}
 use Rattle.std.proofs.lemmas.List.{drop_more}
 use Rattle.ring_id.specs.declared.side.Side.{Side}
@@ -17,7 +17,7 @@ differ Right Left not = refl
 differ Right Right not = absurd (not refl)
 
 module _ {M : Type 0} (side : Side) (journal : List (Side × M)) (i : ℕ) (receipt : Side × M) (inside : i < length journal) (is : receipt ≡ get_or journal i receipt) where
-  -- a receipt from the side stands first of what is left
+  -- a receipt from the side is the first of the rest
   pub taken_here : receipt.0 ≡ side → taken_from side (drop i journal) ≡ receipt.1 ∷ taken_from side (drop (i + 1) journal)
   taken_here of = rw (drop_more journal i receipt inside, ← is, of, same_side-refl side) refl
 
@@ -25,7 +25,7 @@ module _ {M : Type 0} (side : Side) (journal : List (Side × M)) (i : ℕ) (rece
   pub taken_passed : (receipt.0 ≡ side → ⊥) → taken_from side (drop i journal) ≡ taken_from side (drop (i + 1) journal)
   taken_passed not = rw (drop_more journal i receipt inside, ← is, differ side receipt.0 not) refl
 
--- behind the first element places count one less
+-- after the first element places count one less
 pub get_behind : {A : Type 0} (x : A) (xs : List A) (n m : ℕ) → (n ≡ 0 → ⊥) → m ≡ n - 1 → slice_get (x ∷ xs) n ≡ slice_get xs m
 get_behind x xs zero m some is = absurd (some refl)
 get_behind x xs (suc n) m some is =

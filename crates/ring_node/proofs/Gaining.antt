@@ -1,4 +1,4 @@
--- What a receipt adds to what a node has sent and taken.
+-- The packets that a receipt adds to those that a node has sent and taken.
 use Rattle.std.proofs.Common.{◌≡◌, ◌≤◌, ℕ, List, [], ◌∷◌, ◌++◌, length, Option, Some, None, ◌∙◌, length-append, arith}
 use Rattle.std.proofs.lemmas.List.{append-nil}
 use Rattle.ring_id.specs.declared.side.Side.{Side}

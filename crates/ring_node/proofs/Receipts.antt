@@ -15,7 +15,7 @@ use Rattle.ring_node.specs.private.Journals.{algo_of, algos_of}
 use Rattle.ring_node.specs.private.Kept.{AllName}
 use Rattle.ring_node.specs.Ports.{all_algos}
 
--- the element behind a list, or one of the list's own
+-- the element after a list, or one of the list's own
 pub get_snoc : {A : Type 0} (xs : List A) (x : A) (k : ℕ) (y : A) → slice_get (xs ++ x ∷ []) k ≡ Some y → (slice_get xs k ≡ Some y) ⊎ ((k ≡ length xs) × (x ≡ y))
 get_snoc [] x zero y e = let same : x ≡ y = cc in inr (refl, same)
 get_snoc [] x (suc k) y e = cc
@@ -108,7 +108,7 @@ algos_of-announcement M Left o = refl
 algos_of-announcement M Right None = refl
 algos_of-announcement M Right (Some v) = refl
 
--- a message of the algorithm stands among its messages at its own index
+-- a message of the algorithm is among its messages at its own index
 pub algo_at : {M : Type 0} (ps : List (Packet M)) (k : ℕ) (m : M) → slice_get ps k ≡ Some (Algo m) → slice_get (algos_of ps) (algo_count (take k ps)) ≡ Some m
 algo_at [] k m h = cc
 algo_at (Algo x ∷ ps) zero m h = let same : x ≡ m = cc in ap Some same

@@ -1,4 +1,4 @@
--- One step of a node keeps what its type keeps, whatever lawful algorithm runs on it.
+-- One step of a node keeps the invariant of its type, with any lawful algorithm.
 use Rattle.std.proofs.Common.{◌≡◌, ◌+◌, ℕ, Bool, false, List, [], ◌∷◌, ◌++◌, length, Option, Some, None, IfSome, slice_get, take, refl, sym, ap, ap₂, ◌∙◌, append_assoc}
 use Rattle.std.proofs.lemmas.List.{append-nil}
 use Rattle.std.proofs.lemmas.Option.{slice_get_within}
@@ -98,12 +98,12 @@ pub sendable_at : {M : Type 0} (fits : Fitting M) (winner : List ℕ → ℕ) (r
 sendable_at fits winner ring from side packets k all None is = tt
 sendable_at fits winner ring from side packets k all (Some p) is = all.each k p (sym is)
 
--- what is known after a step is news where it was not known before
+-- the leader known after a step is news if none was known before it
 news_of_kept : (known coming : Option ℕ) → news known (kept_or known coming) ≡ news known coming
 news_of_kept None coming = refl
 news_of_kept (Some v) coming = refl
 
--- what stands after a list stands at its length
+-- an element after a list is at its length
 after_all : {A : Type 0} (xs : List A) (y : A) (ys : List A) → slice_get (xs ++ y ∷ ys) (length xs) ≡ Some y
 after_all [] y ys = refl
 after_all (x ∷ xs) y ys = after_all xs y ys
@@ -245,7 +245,7 @@ module _ {S M : Type 0} {two_way greatest : Bool} (t : Table S M) (fits : Fittin
       (algos_right ∙ ap (λ (n : ℕ). n + algo_count (taken_from Right ((from, p) ∷ []))) (told_algos ∙ counts_right.0 ∙ ready_right.1))
       (leaders_right ∙ ap (λ (n : ℕ). n + leader_count (taken_from Right ((from, p) ∷ []))) (told_leaders ∙ counts_right.1 ∙ ready_right.2))))
 
-  -- the news of the step, by what is known before and after it
+  -- the news of the step, by the leaders known before and after it
   pub news_next : (p : Packet M) → news (known_after t me js) (known_after t me (js ++ (from, p) ∷ [])) ≡ news known (brought t state from p)
   news_next p = rw (known_next p, ← old.known_is) (news_of_kept known (brought t state from p))
 

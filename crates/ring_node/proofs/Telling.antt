@@ -1,4 +1,4 @@
--- What a node tells of itself and of what it takes, by what its fields keep.
+-- The reports of a node on itself and on the packets that it takes, by the fields that it keeps.
 use Rattle.std.proofs.Common.{◌≡◌, ◌∙◌, ℕ, List, length, ap, ap₂, refl, sym, subst, Option, None, Some, IfSome, Result, Ok}
 use Rattle.std.specs.Prelude.{option_map, slice_get}
 use Rattle.std.proofs.lemmas.Option.{get_or_from_slice_get}
@@ -18,7 +18,7 @@ use Rattle.ring_node.specs.Journals.{known_after}
 use Rattle.ring_node.specs.Nodes.{Gains, IsComing, IsForNode, IsNext, Seated, Takes, member_of, news_of, receiving, report_of, taken_of}
 use Rattle.ring_node.specs.Reports.{IsTruthful, Told}
 
--- where the member at its position knows a leader, its report is of that leader
+-- if the member at its position knows a leader, its report is of that leader
 pub tells_known : {E S M : Type 0} (t : E → Table S M) (node : Seated E M) (charter : Charter E) (me leader : ℕ) (told : Told E) → charter ≡ node.charter
     → slice_get node.charter.roster node.position ≡ Some me → known_after (t node.charter.algorithm) me node.journal ≡ Some leader
     → told ≡ record { charter = charter; member = me; leader = leader } → Some told ≡ report_of t node
@@ -26,12 +26,12 @@ tells_known {E = E} t node charter me leader told same here knows is =
     let of_charter : Charter E → Told E = λ (c : Charter E). record { charter = c; member = me; leader = leader } in
     rw (get_or_from_slice_get _ _ _ 0 here, knows) (ap (λ (r : Told E). Some r) (is ∙ ap of_charter same))
 
--- and where it knows none there is no report
+-- if it knows none, there is no report
 pub tells_unknown : {E S M : Type 0} (t : E → Table S M) (node : Seated E M) (me : ℕ)
     → slice_get node.charter.roster node.position ≡ Some me → known_after (t node.charter.algorithm) me node.journal ≡ None → None ≡ report_of t node
 tells_unknown t node me here unknown = rw (get_or_from_slice_get _ _ _ 0 here, unknown) refl
 
--- news that is told names the winner, as the member's own place on the ring shows
+-- reported news names the winner, as the member's own place on the ring shows
 pub tells_truly : {E : Type 0} (winner : E → List ℕ → ℕ) (term kept sent : Charter E) → kept ≡ term → sent ≡ term
     → (position me : ℕ) → slice_get kept.roster position ≡ Some me
     → (member : ℕ) (news : Option ℕ) (leader : ℕ) → news ≡ Some leader → IfSome news (IsTruthful (winner term.algorithm) term.roster member)
@@ -50,7 +50,7 @@ other-other : (side : Side) → other (other side) ≡ side
 other-other Left = refl
 other-other Right = refl
 
--- the packet of an envelope that comes next is proper where it arrives
+-- the next packet to a node is proper on its link
 pub coming_proper : {E M : Type 0} (fits : E → Fitting M) (winner : E → List ℕ → ℕ) (node : Seated E M) (envelope : Sent E M) (from : Side) (packet : Packet M)
     → from ≡ other envelope.side → packet ≡ envelope.packet
     → IsForNode node envelope × IsNext (taken_of node (other envelope.side)) envelope.index envelope.packet
@@ -71,7 +71,7 @@ module _ {E S M : Type 0} (t : E → Table S M) (old new : Seated E M) (envelope
 
   module _ (result : Result (Option (Told E)) (TakeFault × Sent E M))
       (coming : IsForNode old envelope × IsNext (taken_of old (other envelope.side)) envelope.index envelope.packet) (journal : new ≡ receiving old from packet) where
-    -- an envelope that comes next is taken, and nothing is told where nothing is news
+    -- the next envelope is taken, and there is no report without news
     pub takes_silently : None ≡ news_of t old new → result ≡ Ok None → Takes t old envelope result new
     takes_silently news result_is =
         rw result_is (record {
@@ -81,7 +81,7 @@ module _ {E S M : Type 0} (t : E → Table S M) (old new : Seated E M) (envelope
           report_is = ap (λ (o : Option ℕ). option_map (λ (v : ℕ). record { charter = old.charter; member = member_of old; leader = v }) o) news;
         })
 
-    -- where there is news it is told
+    -- if there is news, it is reported
     pub takes_news : (charter : Charter E) (position : ℕ) (before : List (Side × Packet M)) → record { charter = charter; position = position; journal = before } ≡ new
         → (me : ℕ) → slice_get charter.roster position ≡ Some me
         → (leader : ℕ) → Some leader ≡ news_of t old new

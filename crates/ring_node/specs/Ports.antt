@@ -1,4 +1,4 @@
--- What a port sends, as packets.
+-- The packets that a port sends.
 use Rattle.std.specs.Prelude.{ℕ, List, [], ◌∷◌, Option, Some, None}
 use Rattle.ring_node.specs.declared.packet.Packet.{Packet}
 use Rattle.ring_node.specs.declared.packet.Packet.TheVariants.{Algo, Leader}

@@ -3,7 +3,7 @@ use Rattle.std.specs.Prelude.{◌≡◌, ℕ, List, Some, slice_get}
 use Rattle.ring_roster.specs.Ring.{IsRing}
 use Rattle.ring_node.specs.declared.charter.Charter.{Charter}
 
--- what a report tells
+-- the content of a report
 pub record Told (E : Type 0) : Type 0 where
   pub charter : Charter E
   pub member : ℕ

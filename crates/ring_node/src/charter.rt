@@ -6,10 +6,10 @@ use ring_roster::Roster;
 use std::alloc::Global;
 use std::sync::Arc;
 
-/// What a term is about: its group, its number, the algorithm that decides it, and its ring.
+/// The facts of a term: its group, its number, the algorithm that decides it, and its ring.
 ///
-/// All nodes, envelopes and reports of a term share its charter in memory. Contracts compare charters
-/// by value.
+/// Nodes, envelopes and reports of a term each own a share of its charter. Contracts compare
+/// charters by value.
 #[derive(Debug, Drop)]
 pub struct Charter<E> {
     group: GroupName,
@@ -19,7 +19,7 @@ pub struct Charter<E> {
 }
 
 impl<E: RingElection> Charter<E> {
-    /// The charter of this term, ready to be shared. Refused for want of memory alone.
+    /// Returns the charter of this term as a shared owner. `NoMemory` if an allocation fails.
     pub fn new(
         alloc: Global,
         group: GroupName,
@@ -27,7 +27,9 @@ impl<E: RingElection> Charter<E> {
         algorithm: E,
         roster: Roster,
     ) -> Result<Arc<Charter<E>>, NoMemory>
-        ensures { IfOk result (λ c. c.value ≡ record { group = group; term = term; algorithm = algorithm; roster = roster }) }
+        ensures { IfOk result
+            (λ c. c.value
+            ≡ record { group = group; term = term; algorithm = algorithm; roster = roster }) }
     {
         let charter = Charter {
             group,
@@ -41,20 +43,27 @@ impl<E: RingElection> Charter<E> {
         Ok(shared)
     }
 
-    /// The charter of the same term, which this algorithm decides. It shares the ring in memory. Refused
-    /// for want of memory alone.
+    /// Returns the charter of the same term with this algorithm as a shared owner. `NoMemory` if an
+    /// allocation fails.
     pub fn under<F: RingElection>(
         &self,
         alloc: Global,
         algorithm: F,
     ) -> Result<Arc<Charter<F>>, NoMemory>
-        ensures { IfOk result (λ c. c.value ≡ record { group = self.now.group; term = self.now.term; algorithm = algorithm; roster = self.now.roster }) }
+        ensures { IfOk result
+            (λ c. c.value
+            ≡ record {
+              group = self.now.group;
+              term = self.now.term;
+              algorithm = algorithm;
+              roster = self.now.roster;
+            }) }
     {
         let roster = self.roster.shared()?;
         Charter::new(alloc, self.group, self.term, algorithm, roster)
     }
 
-    /// The group of this term. Takes no memory, like the other readers.
+    /// The group of this term. Does not allocate, like the other readers.
     pub fn group(&self) -> GroupName
         ensures { result ≡ self.now.group }
     {
@@ -82,7 +91,7 @@ impl<E: RingElection> Charter<E> {
         &self.roster
     }
 
-    /// Whether two charters are of one group, term, algorithm and ring. Takes no memory.
+    /// Whether two charters have the same group, term, algorithm and ring. Does not allocate.
     pub fn same(&self, other: &Charter<E>) -> bool
         ensures { IsTrue result ↔ (self.now ≡ other.now) }
     {

@@ -8,10 +8,12 @@ use ring_id::Side;
 use std::marker::Model;
 use std::sync::Arc;
 
-/// A packet on its way: the term that it is of, the link that it goes over, its index and itself.
+/// A packet on its way: its term, the link that it goes over, its index there, and the packet
+/// itself.
 ///
-/// The index counts the earlier packets of the same sort on that link. The type keeps that a message
-/// of the algorithm fits its link at its index, and that an announcement names the ring's winner.
+/// The index counts the earlier packets of the same sort on that link. The type keeps two facts: a
+/// message of the algorithm fits its link at its index, and an announcement names the ring's
+/// winner.
 #[derive(Drop)]
 pub struct Envelope<E: RingElection> {
     charter: Arc<Charter<E>>,
@@ -26,13 +28,21 @@ impl<E: RingElection> Model for Envelope<E> {
 
     ghost Value = { Sent E E.Msg };
 
-    ghost view = { λ a. record { charter = a.charter.value; from = a.from; side = a.side; index = a.index; packet = a.packet } };
+    ghost view = { λ a. record {
+      charter = a.charter.value;
+      from = a.from;
+      side = a.side;
+      index = a.index;
+      packet = a.packet;
+    } };
 
-    ghost invariant = { λ a. IsSendable (E.fits a.charter.value.algorithm) (E.winner a.charter.value.algorithm) a.charter.value.roster a.from a.side a.index a.packet };
+    ghost invariant = { λ a. IsSendable (E.fits a.charter.value.algorithm)
+        (E.winner a.charter.value.algorithm) a.charter.value.roster a.from a.side a.index
+        a.packet };
 }
 
 impl<E: RingElection> Envelope<E> {
-    /// The envelope of a packet that the node at position `from` sent to a side.
+    /// Returns the envelope of a packet that the node at position `from` sent to a side.
     pub(crate) fn new(
         charter: Arc<Charter<E>>,
         from: usize,
@@ -40,8 +50,16 @@ impl<E: RingElection> Envelope<E> {
         index: usize,
         packet: Packet<E::Msg>,
     ) -> Envelope<E>
-        requires { IsSendable (E.fits charter.value.algorithm) (E.winner charter.value.algorithm) charter.value.roster from side index packet }
-        ensures { result ≡ record { charter = charter.value; from = from; side = side; index = index; packet = packet } }
+        requires { IsSendable (E.fits charter.value.algorithm) (E.winner charter.value.algorithm)
+            charter.value.roster from side index packet }
+        ensures { result
+            ≡ record {
+              charter = charter.value;
+              from = from;
+              side = side;
+              index = index;
+              packet = packet;
+            } }
     {
         Envelope {
             charter,
@@ -52,7 +70,7 @@ impl<E: RingElection> Envelope<E> {
         }
     }
 
-    /// The charter of the term. Takes no memory, like the other readers.
+    /// The charter of the term. Does not allocate, like the other readers.
     pub fn charter(&self) -> &Arc<Charter<E>>
         ensures { result.now.value ≡ self.now.charter }
     {
@@ -73,7 +91,7 @@ impl<E: RingElection> Envelope<E> {
         self.side
     }
 
-    /// How many packets of this sort were sent on the link before.
+    /// The number of earlier packets of this sort on the link.
     pub fn index(&self) -> usize
         ensures { result ≡ self.now.index }
     {
@@ -83,12 +101,14 @@ impl<E: RingElection> Envelope<E> {
     /// The packet, which is proper on its link at its index.
     pub fn packet(&self) -> Packet<E::Msg>
         ensures value { result ≡ self.now.packet }
-        ensures sendable { IsSendable (E.fits self.now.charter.algorithm) (E.winner self.now.charter.algorithm) self.now.charter.roster self.now.from self.now.side self.now.index self.now.packet }
+        ensures sendable { IsSendable (E.fits self.now.charter.algorithm)
+            (E.winner self.now.charter.algorithm) self.now.charter.roster self.now.from
+            self.now.side self.now.index self.now.packet }
     {
         self.packet
     }
 
-    /// The charter, out of an envelope that was taken.
+    /// The charter, taken out of the envelope.
     pub(crate) fn into_charter(self) -> Arc<Charter<E>>
         ensures { result.value ≡ self.charter }
     {

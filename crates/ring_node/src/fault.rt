@@ -1,12 +1,12 @@
-/// Why a node didn't take an envelope. The envelope comes back, and the node is unchanged.
+/// Why a node did not take an envelope. The envelope comes back, and the node is unchanged.
 #[derive(Clone, Copy, Debug, PartialEq, Eq)]
 pub enum TakeFault {
-    /// Of another charter, or on a link that doesn't lead to this node.
+    /// The envelope has another charter, or its link does not lead to this node.
     Stranger,
-    /// Its index was taken before on that link.
+    /// A packet of this sort with this index was taken before on that link.
     Repeat,
-    /// A message of the algorithm whose index is above the number taken from that link.
+    /// A message of the algorithm whose index is greater than the number taken from that link.
     Gap,
-    /// A growth was refused.
+    /// An allocation failed.
     NoMemory,
 }

@@ -1,10 +1,12 @@
 //! One node of a term: what it received, what it sent, and whether it knows the leader.
 //!
-//! A node runs its algorithm on the ring of a charter. Whatever it receives goes into its journal;
-//! what it has sent to each side follows from the journal alone: the algorithm's messages, and after
-//! those of the first receipt by which it knows the leader, the announcement to the right. An
-//! envelope's message fits its link at its index, and an announcement and a report name the winner
-//! of the ring: these are facts of their types, whichever thread made them.
+//! A node runs its algorithm on the ring of a charter. Its journal has every packet that it
+//! received. Its messages to each side follow from the journal. They are the algorithm's messages,
+//! and an announcement to the right after those of the receipt by which the node first knows the
+//! leader.
+//!
+//! The message in an envelope fits its link at its index. An announcement and a report name the
+//! winner of the ring. These are facts of their types, whichever thread made them.
 #![tactic(auto)]
 
 mod charter;

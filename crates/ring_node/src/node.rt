@@ -18,9 +18,9 @@ use std::alloc::Global;
 use std::marker::Model;
 use std::sync::Arc;
 
-/// One node of a term: its state, the journal of all that it received, and all that it has sent.
+/// One node of a term: its state, the journal of its receipts, and the packets that it has sent.
 ///
-/// Contracts see a node as its charter, its position and its journal, from which the rest follows.
+/// Contracts see a node as its charter, its position and its journal. The rest follows from these.
 #[derive(Drop)]
 pub struct Node<E: RingElection> {
     charter: Arc<Charter<E>>,
@@ -39,23 +39,30 @@ impl<E: RingElection> Model for Node<E> {
 
     ghost Value = { Seated E E.Msg };
 
-    ghost view = { λ a. record { charter = a.charter.value; position = a.position; journal = a.journal.items } };
+    ghost view = { λ a. record {
+      charter = a.charter.value;
+      position = a.position;
+      journal = a.journal.items;
+    } };
 
-    ghost invariant = { λ a. IsSeated (E.table a.charter.value.algorithm) (E.fits a.charter.value.algorithm) (E.winner a.charter.value.algorithm) a.charter.value.roster a.position a.me a.state a.journal.items a.left a.right a.known };
+    ghost invariant = { λ a. IsSeated (E.table a.charter.value.algorithm)
+        (E.fits a.charter.value.algorithm) (E.winner a.charter.value.algorithm)
+        a.charter.value.roster a.position a.me a.state a.journal.items a.left a.right a.known };
 }
 
 impl<E: RingElection> Node<E> {
     ghost use Rattle.ring_node.specs.private.Kept.{IsPort};
 
-    /// The node at this position of the charter's ring, which has started and received nothing.
-    /// Refused for want of memory alone.
+    /// Returns the node at this position of the charter's ring, which has started and received
+    /// nothing. `NoMemory` if an allocation fails.
     pub fn seat(
         alloc: Global,
         charter: Arc<Charter<E>>,
         position: usize,
     ) -> Result<Node<E>, NoMemory>
         requires { position < length charter.value.roster }
-        ensures node { IfOk result (λ node. node ≡ record { charter = charter.value; position = position; journal = [] }) }
+        ensures node { IfOk result
+            (λ node. node ≡ record { charter = charter.value; position = position; journal = [] }) }
         ensures faithful { IfOk result (IsFaithful E.table E.fits E.winner) }
         ensures few { IfOk result (HasSentFew E.table) }
     {
@@ -76,7 +83,7 @@ impl<E: RingElection> Node<E> {
         })
     }
 
-    /// The charter of the term. Takes no memory, like the other readers.
+    /// The charter of the term. Does not allocate, like the other readers.
     pub fn charter(&self) -> &Arc<Charter<E>>
         ensures { result.now.value ≡ self.now.charter }
     {
@@ -91,14 +98,14 @@ impl<E: RingElection> Node<E> {
         self.position
     }
 
-    /// How many packets it has sent to a side.
+    /// The number of packets that it has sent to a side.
     pub fn sent(&self, side: Side) -> usize
         ensures { result ≡ length (sent_of E.table self.now side) }
     {
         self.port(side).sent.len()
     }
 
-    /// How many packets it has taken from a side.
+    /// The number of packets that it has taken from a side.
     pub fn taken(&self, side: Side) -> usize
         ensures { result ≡ length (taken_of self.now side) }
     {
@@ -106,15 +113,16 @@ impl<E: RingElection> Node<E> {
         port.algos + port.leaders
     }
 
-    /// The leader, if this node knows it: it has decided, or the announcement has reached it.
+    /// The leader if this node has decided or the announcement has reached it; otherwise `None`.
     pub fn known(&self) -> Option<NodeId>
         ensures value { result ≡ known_of E.table self.now }
-        ensures wins { IfSome result (λ v. v ≡ E.winner self.now.charter.algorithm self.now.charter.roster) }
+        ensures wins { IfSome result
+            (λ v. v ≡ E.winner self.now.charter.algorithm self.now.charter.roster) }
     {
         self.known
     }
 
-    /// The packet that it sent to a side at this place, from 0 on; none past the last.
+    /// The packet that it sent to a side at this place, from 0 on; `None` past the last.
     pub fn packet(&self, side: Side, place: usize) -> Option<Packet<E::Msg>>
         ensures value { result ≡ slice_get (sent_of E.table self.now side) place }
         ensures sendable { IfSome result (IsSentWell E.table E.fits E.winner self.now side place) }
@@ -122,22 +130,22 @@ impl<E: RingElection> Node<E> {
         self.port(side).nth(place)
     }
 
-    /// The packet that it took from a side at this place, from 0 on; none past the last.
+    /// The packet that it took from a side at this place, from 0 on; `None` past the last.
     pub fn receipt(&self, side: Side, place: usize) -> Option<Packet<E::Msg>>
         ensures { result ≡ slice_get (taken_of self.now side) place }
     {
         nth_from(&self.journal, side, place)
     }
 
-    /// All that it has received, in order: the side from which each packet came, and the packet.
+    /// The receipts in order: the side from which each packet came, and the packet.
     pub fn receipts(&self) -> &[(Side, Packet<E::Msg>)]
         ensures { result.now ≡ self.now.journal }
     {
         &self.journal
     }
 
-    /// The envelope of the packet that it sent to a side at this place; none past the last. `copy` is
-    /// an owner of this node's charter, since making one can be refused.
+    /// The envelope of the packet that it sent to a side at this place; `None` past the last.
+    /// `copy` is a share of this node's charter: the caller makes it, since that can fail.
     pub fn envelope(&self, copy: Arc<Charter<E>>, side: Side, place: usize) -> Option<Envelope<E>>
         requires { copy.value ≡ self.now.charter }
         ensures { result ≡ envelope_of E.table self.now side place }
@@ -150,8 +158,8 @@ impl<E: RingElection> Node<E> {
         Some(Envelope::new(copy, self.position, side, index, packet))
     }
 
-    /// What this node tells of its term: there exactly where it knows the leader. `copy` is an owner of
-    /// this node's charter.
+    /// The report that this node knows the leader; `None` if it does not. `copy` is a share of this
+    /// node's charter.
     pub fn report(&self, copy: Arc<Charter<E>>) -> Option<Report<E>>
         requires { copy.value ≡ self.now.charter }
         ensures { result ≡ report_of E.table self.now }
@@ -160,17 +168,19 @@ impl<E: RingElection> Node<E> {
         Some(Report::new(copy, self.position, self.me, leader))
     }
 
-    /// Takes an envelope. The answer is this node's report, which is there exactly where this receipt
-    /// is the first by which the node knows the leader. What it has sent stays, and behind it come at
-    /// most one packet more to the left and two to the right. Faults, the first that holds:
-    /// `Stranger`, `Repeat`, `Gap`, `NoMemory`; a fault gives the envelope back and leaves the node
-    /// unchanged.
+    /// Takes an envelope. Returns this node's report if this receipt is the first by which the node
+    /// knows the leader, and `None` otherwise. The packets already sent stay, and at most one to
+    /// the left and two to the right follow them.
+    ///
+    /// Faults, the first that holds: `Stranger`, `Repeat`, `Gap`, `NoMemory`. A fault returns the
+    /// envelope and leaves the node unchanged.
     pub fn take(
         &mut self,
         envelope: Envelope<E>,
     ) -> Result<Option<Report<E>>, (TakeFault, Envelope<E>)>
         ensures takes { Takes E.table self.old envelope result self.new }
-        ensures gains { OnOk result (Gains E.table self.old (other envelope.side) envelope.packet self.new) }
+        ensures gains { OnOk result
+            (Gains E.table self.old (other envelope.side) envelope.packet self.new) }
     {
         if let Some(fault) = self.fault_of(&envelope) {
             return Err((fault, envelope));
@@ -186,15 +196,19 @@ impl<E: RingElection> Node<E> {
         }
     }
 
-    /// Takes the packet that comes next from a side: the leader, exactly where this receipt is the
-    /// first by which the node knows it. Refused for want of memory alone; the node is then unchanged.
+    /// Takes the next packet from a side. Returns the leader if this receipt is the first by which
+    /// the node knows it, and `None` otherwise. `NoMemory` if an allocation fails; the node is then
+    /// unchanged.
     #[inline(always)]
     pub fn accept(&mut self, from: Side, packet: Packet<E::Msg>) -> Result<Option<NodeId>, NoMemory>
         requires { IsComing E.fits E.winner self.old from packet }
         ensures journal { OnOk result (self.new ≡ receiving self.old from packet) }
         ensures gains { OnOk result (Gains E.table self.old from packet self.new) }
         ensures news { IfOk result (λ leader. leader ≡ news_of E.table self.old self.new) }
-        ensures truthful { IfOk result (λ leader. IfSome leader (IsTruthful (E.winner self.old.charter.algorithm) self.old.charter.roster (member_of self.old))) }
+        ensures truthful { IfOk result
+            (λ leader. IfSome leader
+            (IsTruthful (E.winner self.old.charter.algorithm) self.old.charter.roster
+            (member_of self.old))) }
         ensures faithful { OnOk result (IsFaithful E.table E.fits E.winner self.new) }
         ensures err { OnErr result (self.new ≡ self.old) }
     {
@@ -222,9 +236,12 @@ impl<E: RingElection> Node<E> {
         Ok(news)
     }
 
-    /// Why this envelope can't be taken, but for memory; none where it can.
+    /// The fault of this envelope, apart from memory; `None` if it can be taken.
     fn fault_of(&self, envelope: &Envelope<E>) -> Option<TakeFault>
-        ensures { MatchOption result (IsForNode self.now envelope.now × IsNext (taken_of self.now (other envelope.now.side)) envelope.now.index envelope.now.packet) (IsFault self.now envelope.now) }
+        ensures { MatchOption result
+            (IsForNode self.now envelope.now
+            × IsNext (taken_of self.now (other envelope.now.side)) envelope.now.index
+            envelope.now.packet) (IsFault self.now envelope.now) }
     {
         let packet = envelope.packet();
         let index = envelope.index();
@@ -246,7 +263,9 @@ impl<E: RingElection> Node<E> {
     fn port(&self, side: Side) -> &Port<E::Msg>
         ensures port { IsPort (sent_of E.table self.now side) (taken_of self.now side) result.now }
         ensures few { result.now.algos + result.now.leaders < 2 ^ 63 }
-        ensures sendable { AllSendable (E.fits self.now.charter.algorithm) (E.winner self.now.charter.algorithm) self.now.charter.roster self.now.position side (sent_of E.table self.now side) }
+        ensures sendable { AllSendable (E.fits self.now.charter.algorithm)
+            (E.winner self.now.charter.algorithm) self.now.charter.roster self.now.position side
+            (sent_of E.table self.now side) }
     {
         match side {
             Side::Left => &self.left,
@@ -255,7 +274,7 @@ impl<E: RingElection> Node<E> {
     }
 }
 
-/// The packet at this place of those that came from a side; none past the last.
+/// The packet at this place of those that came from a side; `None` past the last.
 fn nth_from<M: Copy>(journal: &[(Side, Packet<M>)], side: Side, place: usize) -> Option<Packet<M>>
     ensures { result ≡ slice_get (taken_from side journal.now) place }
 {

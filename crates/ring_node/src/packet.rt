@@ -1,6 +1,6 @@
 use ring_id::NodeId;
 
-/// What goes over a link: a message of the algorithm, or the announcement of the leader.
+/// A packet on a link: a message of the algorithm, or the announcement of the leader.
 #[derive(Clone, Copy, Debug, PartialEq, Eq)]
 pub enum Packet<M> {
     /// A message of the algorithm.

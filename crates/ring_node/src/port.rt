@@ -9,8 +9,8 @@ use crate::room::{find_room, least};
 use ring_id::{NoMemory, NodeId};
 use std::alloc::Global;
 
-/// One side of a node: what it sent there, where among that its announcement stands, and how many
-/// packets of each sort it took from there.
+/// One side of a node: the packets sent there, the place of its announcement among them, and the
+/// number of packets of each sort taken from there.
 #[derive(Drop)]
 pub struct Port<M> {
     pub sent: Vec<Packet<M>>,
@@ -21,7 +21,8 @@ pub struct Port<M> {
 }
 
 impl<M: Copy> Port<M> {
-    /// A side at which this was sent and nothing was taken, at a node of a ring of this length.
+    /// Returns a side with this first message sent and nothing taken, at a node of a ring of this
+    /// length.
     pub fn opened(alloc: Global, first: Option<M>, ring: usize) -> Result<Port<M>, NoMemory>
         ensures sent { IfOk result (λ port. port.sent.items ≡ all_algos first) }
         ensures algos { IfOk result (λ port. port.algos ≡ 0) }
@@ -40,13 +41,14 @@ impl<M: Copy> Port<M> {
         Ok(port)
     }
 
-    /// Finds room for a message and an announcement, at a node of a ring of this length, where this side
-    /// is one to which something is sent. What was sent and taken stays in any case.
+    /// Finds room for a message and an announcement if this side is open. The node is in a ring of
+    /// this length. The packets sent stay in any case, and so do the numbers of those taken.
     pub fn make_room(&mut self, is_open: bool, ring: usize) -> Result<(), NoMemory>
         ensures sent { self.new.sent.items ≡ self.old.sent.items }
         ensures algos { self.new.algos ≡ self.old.algos }
         ensures leaders { self.new.leaders ≡ self.old.leaders }
-        ensures room { OnOk result (is_open ≡ true → vec_len self.new.sent + 2 ≤ vec_capacity self.new.sent) }
+        ensures room { OnOk result
+            (is_open ≡ true → vec_len self.new.sent + 2 ≤ vec_capacity self.new.sent) }
     {
         if is_open {
             return find_room(&mut self.sent, 2, ring);
@@ -81,15 +83,15 @@ impl<M: Copy> Port<M> {
         }
     }
 
-    /// The packet that was sent here at this place; none past the last.
+    /// The packet that was sent here at this place; `None` past the last.
     pub fn nth(&self, place: usize) -> Option<Packet<M>>
         ensures { result ≡ slice_get self.now.sent.items place }
     {
         self.sent.get(place).copied()
     }
 
-    /// How many messages of the algorithm were sent here before this place, of packets among which is
-    /// at most one announcement.
+    /// The number of messages of the algorithm sent here before this place. At most one of the
+    /// packets is an announcement.
     pub fn algos_before(&self, place: usize) -> usize
         requires within { place ≤ vec_len self.now.sent }
         requires once { leader_count self.now.sent.items ≤ 1 }

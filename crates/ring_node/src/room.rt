@@ -2,9 +2,9 @@ ghost use Rattle.std.specs.Prelude.{◌≡◌, ◌+◌, ◌<◌, ◌≤◌, vec_
 
 use ring_id::NoMemory;
 
-/// The least capacity of a list that has any, at a node of a ring of this length: two packets for each round
-/// that halves the ring, and one more. Where a ring elects by few messages, most of its nodes send and
-/// take no more than so many, and their lists are made once.
+/// The least capacity of a non-empty list, at a node of a ring of this length. It is two packets
+/// for each round that halves the ring, and one more. If a ring elects by few messages, most of its
+/// nodes send and take no more, so their lists are allocated once.
 pub fn least(ring: usize) -> usize
     ensures { 0 < result }
 {
@@ -12,8 +12,8 @@ pub fn least(ring: usize) -> usize
     2 * rounds as usize + 1
 }
 
-/// Finds room in a list for so many more elements, at a node of a ring of this length. What stands in
-/// the list stays in any case.
+/// Finds room in a list for `more` elements, at a node of a ring of this length. The elements of
+/// the list stay in any case.
 pub fn find_room<T>(list: &mut Vec<T>, more: usize, ring: usize) -> Result<(), NoMemory>
     ensures items { list.new.items ≡ list.old.items }
     ensures room { OnOk result (vec_len list.new + more ≤ vec_capacity list.new) }
@@ -28,9 +28,9 @@ pub fn find_room<T>(list: &mut Vec<T>, more: usize, ring: usize) -> Result<(), N
     Ok(())
 }
 
-/// The capacity of a list that has outgrown this one: twice as much. But where each identity passes
-/// once, a node takes and sends no more than the ring is long, and an announcement: a list that gets
-/// near that is made just as long, for to double it would leave half of it empty.
+/// The next capacity of a full list: twice this one. But if each identity passes once, a node takes
+/// and sends at most one packet for each member, and an announcement. A list near that size is made
+/// just as long, since a double one would be half empty.
 fn next_capacity(capacity: usize, ring: usize) -> usize {
     let double = capacity.saturating_mul(2).max(least(ring));
     let round = ring.saturating_add(3);

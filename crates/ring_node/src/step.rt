@@ -9,8 +9,8 @@ use crate::room::find_room;
 use ring_election::RingElection;
 use ring_id::{NoMemory, NodeId, Side};
 
-/// Finds room for all that a step may send, and for its receipt, at a node of a ring of this length. What
-/// was sent, taken and received stays in any case.
+/// Finds room for the packets of a step and for its receipt, at a node of a ring of this length.
+/// The packets sent, taken and received stay in any case.
 #[inline(always)]
 pub fn prepare<M: Copy>(
     two_way: bool,
@@ -19,10 +19,13 @@ pub fn prepare<M: Copy>(
     right: &mut Port<M>,
     journal: &mut Vec<(Side, Packet<M>)>,
 ) -> Result<(), NoMemory>
-    ensures left { (left.new.sent.items ≡ left.old.sent.items) × (left.new.algos ≡ left.old.algos) × (left.new.leaders ≡ left.old.leaders) }
-    ensures right { (right.new.sent.items ≡ right.old.sent.items) × (right.new.algos ≡ right.old.algos) × (right.new.leaders ≡ right.old.leaders) }
+    ensures left { (left.new.sent.items ≡ left.old.sent.items) × (left.new.algos ≡ left.old.algos)
+        × (left.new.leaders ≡ left.old.leaders) }
+    ensures right { (right.new.sent.items ≡ right.old.sent.items)
+        × (right.new.algos ≡ right.old.algos) × (right.new.leaders ≡ right.old.leaders) }
     ensures journal { journal.new.items ≡ journal.old.items }
-    ensures room_left { OnOk result (two_way ≡ true → vec_len left.new.sent + 2 ≤ vec_capacity left.new.sent) }
+    ensures room_left { OnOk result
+        (two_way ≡ true → vec_len left.new.sent + 2 ≤ vec_capacity left.new.sent) }
     ensures room_right { OnOk result (vec_len right.new.sent + 2 ≤ vec_capacity right.new.sent) }
     ensures room_journal { OnOk result (vec_len journal.new + 1 ≤ vec_capacity journal.new) }
 {
@@ -31,8 +34,8 @@ pub fn prepare<M: Copy>(
     find_room(journal, 1, ring)
 }
 
-/// Gives a packet to the algorithm: its new state, what it sends, and the leader that the packet
-/// brings. Refused for want of memory alone; nothing has changed then.
+/// Gives a packet to the algorithm: changes the state, sends its messages, and returns the leader
+/// that the packet brings. `NoMemory` if an allocation fails; nothing has changed then.
 pub fn run<E: RingElection>(
     algorithm: E,
     state: &mut E::State,
@@ -41,15 +44,23 @@ pub fn run<E: RingElection>(
     left: &mut Port<E::Msg>,
     right: &mut Port<E::Msg>,
 ) -> Result<Option<NodeId>, NoMemory>
-    requires room_left { E.is_two_way algorithm ≡ true → vec_len left.old.sent + 2 ≤ vec_capacity left.old.sent }
-    requires closed { E.is_two_way algorithm ≡ false → algo_sends (E.table algorithm) Left state.old from packet ≡ [] }
+    requires room_left { E.is_two_way algorithm ≡ true
+        → vec_len left.old.sent + 2 ≤ vec_capacity left.old.sent }
+    requires closed { E.is_two_way algorithm ≡ false
+        → algo_sends (E.table algorithm) Left state.old from packet ≡ [] }
     requires room_right { vec_len right.old.sent + 2 ≤ vec_capacity right.old.sent }
     ensures state { OnOk result (state.new ≡ state_on (E.table algorithm) state.old from packet) }
     ensures brought { IfOk result (λ o. o ≡ brought (E.table algorithm) state.old from packet) }
-    ensures left { OnOk result (left.new.sent.items ≡ left.old.sent.items ++ algo_sends (E.table algorithm) Left state.old from packet) }
-    ensures right { OnOk result (right.new.sent.items ≡ right.old.sent.items ++ algo_sends (E.table algorithm) Right state.old from packet) }
-    ensures counts_left { (left.new.algos ≡ left.old.algos) × (left.new.leaders ≡ left.old.leaders) }
-    ensures counts_right { (right.new.algos ≡ right.old.algos) × (right.new.leaders ≡ right.old.leaders) }
+    ensures left { OnOk result
+        (left.new.sent.items
+        ≡ left.old.sent.items ++ algo_sends (E.table algorithm) Left state.old from packet) }
+    ensures right { OnOk result
+        (right.new.sent.items
+        ≡ right.old.sent.items ++ algo_sends (E.table algorithm) Right state.old from packet) }
+    ensures counts_left { (left.new.algos ≡ left.old.algos)
+        × (left.new.leaders ≡ left.old.leaders) }
+    ensures counts_right { (right.new.algos ≡ right.old.algos)
+        × (right.new.leaders ≡ right.old.leaders) }
     ensures room { vec_len right.new.sent + 1 ≤ vec_capacity right.new.sent }
     ensures err { OnErr result (state.new ≡ state.old) }
     ensures err_left { OnErr result (left.new.sent.items ≡ left.old.sent.items) }
@@ -66,7 +77,7 @@ pub fn run<E: RingElection>(
     }
 }
 
-/// Keeps the first leader that is brought: it is the news of this step.
+/// Keeps the first leader that is brought, and returns it as the news of this step.
 pub fn learn(known: &mut Option<NodeId>, brought: Option<NodeId>) -> Option<NodeId>
     ensures known { known.new ≡ kept_or known.old brought }
     ensures news { result ≡ news known.old brought }
@@ -85,10 +96,14 @@ pub fn count<M: Copy>(from: Side, packet: Packet<M>, left: &mut Port<M>, right: 
     requires right_fits { (right.old.algos + 1 < 2 ^ 64) × (right.old.leaders + 1 < 2 ^ 64) }
     ensures sent_left { left.new.sent.items ≡ left.old.sent.items }
     ensures sent_right { right.new.sent.items ≡ right.old.sent.items }
-    ensures algos_left { left.new.algos ≡ left.old.algos + algo_count (taken_from Left ((from, packet) ∷ [])) }
-    ensures algos_right { right.new.algos ≡ right.old.algos + algo_count (taken_from Right ((from, packet) ∷ [])) }
-    ensures leaders_left { left.new.leaders ≡ left.old.leaders + leader_count (taken_from Left ((from, packet) ∷ [])) }
-    ensures leaders_right { right.new.leaders ≡ right.old.leaders + leader_count (taken_from Right ((from, packet) ∷ [])) }
+    ensures algos_left { left.new.algos
+        ≡ left.old.algos + algo_count (taken_from Left ((from, packet) ∷ [])) }
+    ensures algos_right { right.new.algos
+        ≡ right.old.algos + algo_count (taken_from Right ((from, packet) ∷ [])) }
+    ensures leaders_left { left.new.leaders
+        ≡ left.old.leaders + leader_count (taken_from Left ((from, packet) ∷ [])) }
+    ensures leaders_right { right.new.leaders
+        ≡ right.old.leaders + leader_count (taken_from Right ((from, packet) ∷ [])) }
 {
     match from {
         Side::Left => left.count(packet),

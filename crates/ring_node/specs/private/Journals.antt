@@ -1,4 +1,4 @@
--- What inner functions of a node say of packets and places among them.
+-- Packets and places among them, for inner functions of a node.
 use Rattle.std.specs.Prelude.{◌+◌, ℕ, suc, List, [], ◌∷◌, ◌++◌, Option, Some, None, option_map}
 use Rattle.ring_node.specs.declared.packet.Packet.{Packet}
 use Rattle.ring_node.specs.declared.packet.Packet.TheVariants.{Algo, Leader}

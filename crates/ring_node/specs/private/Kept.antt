@@ -1,5 +1,5 @@
--- What the type of a node keeps: its fields are what follows from its journal, and all that it took
--- fits the ring.
+-- The invariant of a node's type: its fields follow from its journal, and all messages that it took
+-- fit the ring.
 use Rattle.std.specs.Prelude.{◌≡◌, ℕ, List, [], ◌∷◌, Option, Some, slice_get}
 use Rattle.ring_id.specs.declared.side.Side.{Side}
 use Rattle.ring_id.specs.declared.side.Side.TheVariants.{Left, Right}
@@ -12,7 +12,7 @@ use Rattle.ring_node.specs.declared.packet.Packet.TheVariants.{Algo, Leader}
 use Rattle.ring_node.specs.declared.port.Port.{Port}
 use Rattle.ring_node.specs.Journals.{algo_count, algo_part, known_after, leader_count, packets_after}
 
--- a port holds what was sent at its side, and the numbers of what was taken there
+-- a port holds the packets sent at its side, and the numbers of those taken there
 pub record IsPort {M : Type 0} (sent taken : List (Packet M)) (port : Port M) : Type 0 where
   pub sent_is : port.sent.items ≡ sent
   pub algos_is : port.algos ≡ algo_count taken
@@ -25,16 +25,18 @@ AllName leader (Algo m ∷ ps) = AllName leader ps
 AllName leader (Leader v ∷ ps) = (v ≡ leader) × AllName leader ps
 
 pub record IsSeated {S M : Type 0} (t : Table S M) (fits : Fitting M) (winner : List ℕ → ℕ)
-    (ring : List ℕ) (position me : ℕ) (state : S) (journal : List (Side × Packet M)) (left right : Port M) (known : Option ℕ) : Type 0 where
+    (ring : List ℕ) (position me : ℕ) (state : S) (journal : List (Side × Packet M))
+    (left right : Port M) (known : Option ℕ) : Type 0 where
   pub is_ring : IsRing ring
   pub here : slice_get ring position ≡ Some me
   pub state_is : state ≡ state_after t me (algo_part journal)
   pub known_is : known ≡ known_after t me journal
   pub left_is : IsPort (packets_after t me Left journal) (taken_from Left journal) left
   pub right_is : IsPort (packets_after t me Right journal) (taken_from Right journal) right
-  -- what the algorithm took fits, so by the laws what it sends fits and what it decides is the winner
+  -- The messages that the algorithm took fit. So, by the laws, the messages that it sends fit, and
+  -- it decides only on the winner.
   pub fitting : AllFit fits ring position (algo_part journal)
-  -- what is known is the winner
+  -- the known leader is the winner
   pub knows : (v : ℕ) → known ≡ Some v → v ≡ winner ring
-  -- what is announced is the winner
+  -- the announced leader is the winner
   pub names : (to : Side) → AllName (winner ring) (packets_after t me to journal)

@@ -1,4 +1,4 @@
--- A receipt from the side is the next that is counted, and nothing is left behind the last one.
+-- A receipt from the side is the next that is counted, and nothing is left after the last one.
 use Rattle.std.proofs.Common.{◌≡◌, List, sym, ap, ap₂, ◌∙◌, rules, tests}
 use Rattle.std.specs.Prelude.{slice_get}
 use Rattle.std.proofs.lemmas.List.{at_drop_all}

@@ -1,5 +1,5 @@
--- What the algorithm sends stands behind what was sent before. Where memory is refused nothing has changed, and an
--- announcement does not touch the algorithm.
+-- The algorithm's messages come after those sent before. If an allocation fails, nothing has
+-- changed. An announcement does not change the algorithm's state.
 use Rattle.std.proofs.Common.{◌++◌, refl, sym, ap, ◌∙◌, arith}
 use Rattle.std.proofs.lemmas.List.{append-nil}
 use Rattle.std.proofs.lemmas.Result.{err_from_is_err_and}

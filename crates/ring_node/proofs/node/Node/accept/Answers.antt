@@ -1,4 +1,5 @@
--- The fields after the step are what follows from the longer journal, and the old ones where it was refused.
+-- The fields after the step follow from the longer journal. If it was refused, they are the old
+-- ones.
 use Rattle.std.proofs.Common.{◌+◌, ◌<◌, List, [], ◌∷◌, ◌++◌, refl, sym, ap, ◌∙◌, arith}
 use Rattle.std.proofs.lemmas.Option.{get_or_from_slice_get, slice_get_within}
 use Rattle.std.proofs.lemmas.Result.{err_from_is_err_and}

@@ -1,5 +1,5 @@
--- A node announces at most once, and there is an envelope exactly where there is a packet. Its index counts the
--- messages before it.
+-- A node announces at most once, and there is an envelope if and only if there is a packet. Its
+-- index counts the messages before it.
 use Rattle.std.proofs.Common.{◌≡◌, ◌<◌, length, take, refl, ap, sym, ◌∙◌, arith}
 use Rattle.std.proofs.lemmas.Option.{slice_get_within}
 use Rattle.ring_node.specs.Envelopes.{index_after}

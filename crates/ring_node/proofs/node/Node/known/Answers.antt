@@ -1,4 +1,4 @@
--- What is known is what follows from the journal of the member here.
+-- The known leader follows from the journal of the member here.
 use Rattle.std.proofs.lemmas.Option.{get_or_from_slice_get}
 use Rattle.ring_node.proofs.node.Node.known.Goals as goal
 

@@ -1,4 +1,4 @@
--- A node that has started knows nobody and has taken nothing.
+-- A node that has started knows no leader and has taken nothing.
 use Rattle.std.proofs.Common.{refl, sym, ap, ◌∙◌}
 use Rattle.std.specs.Prelude.{slice_index}
 use Rattle.std.proofs.lemmas.Option.{get_or_from_slice_get, slice_get-get_or, slice_get_within}

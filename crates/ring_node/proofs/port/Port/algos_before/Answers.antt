@@ -1,4 +1,4 @@
--- The announcement stands before the place, or it doesn't.
+-- The announcement is before the place, or it isn't.
 use Rattle.std.proofs.Common.{◌≡◌, ◌≤◌, true, false, nat_lt, length, Some, None, sym, ◌∙◌, arith}
 use Rattle.std.proofs.lemmas.Bool.Decides.{nat_tests}
 use Rattle.ring_node.specs.private.Journals.{leader_place}

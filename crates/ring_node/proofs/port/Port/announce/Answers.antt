@@ -1,4 +1,4 @@
--- The announcement stands behind all that was sent before.
+-- The announcement comes after all packets that were sent before.
 use Rattle.std.proofs.Common.{◌≡◌, ℕ, length, Some, sym, ap, ◌∙◌, arith}
 use Rattle.ring_node.specs.private.Journals.{leader_place}
 use Rattle.ring_node.proofs.Announcing.{leader_place-announcement}

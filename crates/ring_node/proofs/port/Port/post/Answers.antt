@@ -1,4 +1,4 @@
--- The message stands behind the announcement, if there is one.
+-- The message comes after the announcement, if there is one.
 use Rattle.std.proofs.Common.{sym, ap, ◌∙◌}
 use Rattle.ring_node.specs.private.Journals.{leader_place}
 use Rattle.ring_node.proofs.Announcing.{leader_place-message}
