@@ -1,4 +1,4 @@
--- Numbers in two words: how often 2^64 goes into one, and what is over.
+-- Numbers in two words: the quotient by 2^64, and the remainder.
 use Rattle.std.specs.Prelude.{ℕ, ◌+◌, ◌*◌, ◌/◌, ◌%◌}
 
 -- the number of these two words

@@ -2,12 +2,12 @@ ghost use Rattle.std.specs.Prelude.{◌≡◌, ℕ};
 
 use std::marker::Model;
 
-/// How many numbers one word tells apart, 2^64.
+/// How many values one word has, 2^64.
 const WORD: u128 = 18446744073709551616;
 
-/// So many packets. Contracts see it as that number.
+/// A number of packets. Contracts see it as that number.
 ///
-/// It is kept in two words, so that replies are divided at the same bytes whatever they say.
+/// It is kept in two words, so that all replies have the same layout.
 #[derive(Clone, Copy, Debug)]
 pub struct Count {
     high: u64,
@@ -27,11 +27,12 @@ impl Model for Count {
 
     ghost inverse = { λ count. record { high = high_of count; low = low_of count } };
 
-    ghost inverse_ok = { λ a h. Prim.rw (high_of-words a.high a.low h.1, low_of-words a.high a.low h.1) refl };
+    ghost inverse_ok = { λ a h. Prim.rw
+        (high_of-words a.high a.low h.1, low_of-words a.high a.low h.1) refl };
 }
 
 impl Count {
-    /// This number.
+    /// Returns the count of this number.
     pub fn new(count: u128) -> Count
         ensures { result ≡ count }
     {

@@ -1,49 +1,50 @@
 use ring_id::{GroupName, NodeId, NodeNo, Side};
 
-/// What a client asks for.
+/// A client's request.
 #[derive(Clone, Copy, Debug)]
 pub enum Command<E> {
-    /// A new group that elects by this algorithm.
+    /// Make a new group that elects by this algorithm.
     Create(GroupName, E),
-    /// A new member of a group, the last in joining order.
+    /// Add a member to a group, the last in joining order.
     Join(GroupName, NodeId),
-    /// The member with this number leaves a group.
+    /// Remove the member with this number from a group.
     Leave(GroupName, NodeNo),
-    /// A new term of a group.
+    /// Start a new term of a group.
     Start(GroupName),
-    /// What the member of the last term's ring with this number knows of its leader.
+    /// Ask for the leader that the member with this number knows, in the ring of the last term.
     Who(GroupName, NodeNo),
-    /// The members of a group.
+    /// Ask for the members of a group.
     Members(GroupName),
-    /// The terms of a group, with their leaders.
+    /// Ask for the leaders of the terms of a group.
     Terms(GroupName),
-    /// All groups.
+    /// Ask for all groups.
     Groups,
 }
 
-/// What happens: a client's command, or a line of a schedule.
+/// A client's command, or a line of a schedule.
 #[derive(Clone, Copy, Debug)]
 pub enum Event<E> {
     /// A command of a client.
     Client(Command<E>),
-    /// One delivery, at the member with the number `node` of a group's running term, from this side.
+    /// Deliver one packet from this side to the member with the number `node` of a group's running
+    /// term.
     Deliver {
         group: GroupName,
         node: NodeNo,
         side: Side,
     },
-    /// The link into the member with the number `node` of a group's running term, from this side, is cut:
-    /// nothing moves there any more.
+    /// Cut the link into the member with the number `node` of a group's running term, from this
+    /// side. No packet moves there any more.
     Cut {
         group: GroupName,
         node: NodeNo,
         side: Side,
     },
-    /// How many packets are in flight or stuck in a group's running term.
+    /// Ask how many packets are in flight or stuck in a group's running term.
     Pending {
         group: GroupName,
     },
-    /// At most `count` deliveries in a group's running term, each at the first ready link.
+    /// Make at most `count` deliveries in a group's running term, each at the first ready link.
     Drain {
         group: GroupName,
         count: u32,

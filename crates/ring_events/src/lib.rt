@@ -1,7 +1,7 @@
-//! What is asked of groups, and what is answered.
+//! Requests about groups, and the replies to them.
 //!
-//! An event is a client's command or a line of a schedule, and a reply answers one. Which reply an event may
-//! get, and what it then changes, is said where the groups are.
+//! An event is a client's command or a line of a schedule, and a reply answers one. The crates
+//! above define which reply an event may get, and what changes then.
 #![tactic(auto)]
 
 mod count;

@@ -3,7 +3,7 @@ ghost use Rattle.std.specs.Prelude.{◌≡◌, ◌≤◌, length};
 use ring_id::{GroupName, NodeId};
 use std::marker::Model;
 
-/// The members of a group in joining order. Contracts see it as that list.
+/// The members of a group in joining order. Contracts see the list.
 #[derive(Debug, Drop)]
 pub struct MemberList {
     members: Vec<NodeId>,
@@ -18,14 +18,14 @@ impl Model for MemberList {
 }
 
 impl MemberList {
-    /// The list of these members.
+    /// Returns the list of these members.
     pub fn new(members: Vec<NodeId>) -> MemberList
         ensures { result ≡ members.items }
     {
         MemberList { members }
     }
 
-    /// The members. Takes no memory.
+    /// The members. Does not allocate.
     pub fn as_slice(&self) -> &[NodeId]
         ensures { result.now ≡ self.now }
     {
@@ -33,8 +33,8 @@ impl MemberList {
     }
 }
 
-/// The leader of each term of a group, or none, in order, the first being that of term 1. Contracts
-/// see it as that list, which has at most 1000 elements.
+/// The leader of each term of a group, or `None`, in the order of the terms from 1. Contracts see
+/// the list, which has at most 1000 elements.
 #[derive(Debug, Drop)]
 pub struct TermList {
     leaders: Vec<Option<NodeId>>,
@@ -51,7 +51,7 @@ impl Model for TermList {
 }
 
 impl TermList {
-    /// The list of these leaders.
+    /// Returns the list of these leaders.
     pub fn new(leaders: Vec<Option<NodeId>>) -> TermList
         requires { length leaders.items ≤ 1000 }
         ensures { result ≡ leaders.items }
@@ -59,7 +59,7 @@ impl TermList {
         TermList { leaders }
     }
 
-    /// The leaders. Takes no memory.
+    /// The leaders. Does not allocate.
     pub fn as_slice(&self) -> &[Option<NodeId>]
         ensures value { result.now ≡ self.now }
         ensures few { length result.now ≤ 1000 }
@@ -68,7 +68,7 @@ impl TermList {
     }
 }
 
-/// The names of all groups in order of creation. Contracts see it as that list.
+/// The names of all groups in order of creation. Contracts see the list.
 #[derive(Debug, Drop)]
 pub struct GroupList {
     names: Vec<GroupName>,
@@ -83,14 +83,14 @@ impl Model for GroupList {
 }
 
 impl GroupList {
-    /// The list of these names.
+    /// Returns the list of these names.
     pub fn new(names: Vec<GroupName>) -> GroupList
         ensures { result ≡ names.items }
     {
         GroupList { names }
     }
 
-    /// The names. Takes no memory.
+    /// The names. Does not allocate.
     pub fn as_slice(&self) -> &[GroupName]
         ensures { result.now ≡ self.now }
     {

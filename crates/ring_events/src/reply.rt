@@ -15,7 +15,7 @@ pub enum Reply {
     Undecided(TermNo),
     /// The members of a group in joining order.
     Members(MemberList),
-    /// The leader of each term of a group, or none.
+    /// The leader of each term of a group, or `None`.
     Terms(TermList),
     /// The groups in order of creation.
     Groups(GroupList),
@@ -23,9 +23,10 @@ pub enum Reply {
     Moved,
     /// Nothing was in flight on that link, or it is cut.
     Idle,
-    /// So many packets are in flight or stuck.
+    /// This number of packets are in flight or stuck.
     Pending(Count),
-    /// So many deliveries were made and so many packets remain; whether a delivery was refused memory.
+    /// The number of deliveries made, the number of packets left, and whether a delivery ran out of
+    /// memory.
     Drained {
         done: u32,
         left: Count,
