@@ -1,4 +1,4 @@
--- The question who leads is read by its words behind the first.
+-- The question `who` is read by the words after its first.
 use Rattle.std.proofs.Common.{◌≡◌, ◌<◌, ◌^◌, ℕ, true, List, [], ◌∷◌, Option, None, Some, sym, ◌∙◌, ap, refl, arith, decimal, codes}
 use Rattle.std.proofs.lemmas.Bool.{and_from}
 use Rattle.std.proofs.lemmas.List.Splits.{join_with_byte-slice_split}
@@ -13,7 +13,7 @@ use Rattle.ring_grammar.specs.Spelling.{IsEvent, event_words, line_of}
 use Rattle.ring_grammar.proofs.Plain.{is_plain, words_in-line_of}
 use Rattle.ring_grammar.proofs.Words.{plain-number}
 
--- an event whose first word this is has a name and a number behind it
+-- an event with this first word has a name and a number after it
 record Asks (words : List (List ℕ)) : Type 0 where
   group : List ℕ
   number : ℕ

@@ -9,7 +9,7 @@ use Rattle.std.proofs.lemmas.List.Splits.{slice_split_first, slice_split_none}
 use Rattle.std.proofs.lemmas.Slice.{between_to_end}
 use Rattle.ring_grammar.specs.private.Reading.{parts_at}
 
--- what stands before the first separator is a part, and the others are behind it
+-- the text before the first separator is a part, and the other parts come after it
 pub parts_at-cut : (byte : ℕ) (text : List ℕ) (at : ℕ) → Some at ≡ position (λ b. b == byte) text → parts_at byte text ≡ take at text ∷ parts_at byte (take (length text - (at + 1)) (drop (at + 1) text))
 parts_at-cut byte text at found =
     let is_it = λ (b : ℕ). b == byte in

@@ -9,14 +9,14 @@ use Rattle.std.proofs.lemmas.Str.{digit_value_digit}
 use Rattle.std.proofs.lemmas.Str.Parse.{IsNumeralModel, digits_value_short, numerals_by_value, tells_by_index}
 use Rattle.ring_grammar.specs.private.Reading.{IsShortNumber}
 
--- the first bytes of a text, so many, are digits
+-- this many first bytes of a text are digits
 abbrev pub AreDigits : List ℕ → ℕ → Type 0
 AreDigits text end = (i : ℕ) → i < end → IsInRange 48 57 (get_or text i 0)
 
 numerals : IsNumeralModel (λ ds. AreDigits ds (length ds)) (digits_value 10)
 numerals = numerals_by_value (λ ds. AreDigits ds (length ds)) tells_by_index
 
--- What was read of the first bytes of a text.
+-- The number read from the first bytes of a text.
 pub record Reading (text : List ℕ) (end read : ℕ) : Type 0 where
   pub digits : AreDigits text end
   pub value : read ≡ digits_value 10 (take end text)
@@ -54,11 +54,11 @@ reading_printed text read some lead short reading =
 pub printed_digits : (text : List ℕ) (n : ℕ) → IsShortNumber n → text ≡ decimal n → AreDigits text (length text)
 printed_digits text n short printed = rw printed (digits_decimal numerals n (omega arith))
 
--- so many, and at most ten
+-- this many, and at most ten
 pub printed_length : (text : List ℕ) (n : ℕ) → IsShortNumber n → text ≡ decimal n → (0 < length text) × (length text ≤ 10)
 printed_length text n short printed = rw printed (decimal_nonempty n (omega arith), length-decimal-le 10 n (omega arith) (omega arith) (omega arith))
 
--- the first is 0 where there is no other
+-- the first is 0 if there is no other
 pub printed_first : (text : List ℕ) (n : ℕ) → IsShortNumber n → text ≡ decimal n → get_or text 0 0 ≡ 48 → length text ≡ 1
 printed_first text zero short printed first = ap length printed ∙ ap length (decimal_digit 0 (omega arith))
 printed_first text (suc n) short printed first =

@@ -1,4 +1,4 @@
--- The word of an identity: its number, and behind a slash its weight where it has one.
+-- The word of an identity: its number, and after a slash its weight if it has one.
 use Rattle.std.proofs.Common.{◌≡◌, ◌<◌, ◌↔◌, ◌==◌, ◌++◌, ◌^◌, ℕ, zero, suc, false, cond, List, [], ◌∷◌, length, Option, None, Some, IsSome, IfSome, All, get_or, sym, ap, ◌∙◌, append-nil, arith, refl, decimal}
 use Rattle.std.specs.List.{join_with_byte}
 use Rattle.std.specs.Int.{IsInRange}
@@ -14,7 +14,7 @@ use Rattle.ring_grammar.specs.private.Identities.{IsWeight}
 use Rattle.ring_grammar.specs.private.Reading.{IsShortNumber, Reads, parts_at}
 use Rattle.ring_grammar.proofs.Numbers.{printed_of_one}
 
--- the parts of an identity's word: its number, and its weight where it has one
+-- the parts of an identity's word: its number, and its weight if it has one
 abbrev pub parts_of : ℕ → ℕ → List (List ℕ)
 parts_of number weight = decimal number ∷ cond (weight == 0) [] (decimal weight ∷ [])
 
@@ -77,7 +77,7 @@ uncut_is_number word number (suc weight) short light parts same =
     let parted = rw (eqb-suc-zero weight) at (sym parts ∙ ap (parts_at 47) same ∙ parts-word number (suc weight) short light) in
     cc
 
--- What stands before and behind the slash of an identity's word.
+-- The text before and after the slash of an identity's word.
 record IsParted (front rest : List ℕ) (number weight : ℕ) : Type 0 where
   number_is : front ≡ decimal number
   weight_is : rest ≡ decimal weight
@@ -115,7 +115,7 @@ unread_rest word front rest parts unread = λ rank legal same.
     let found = cut_is_number_and_weight word front rest (number_of rank) (weight_of rank) legal.0.1 legal.1 parts same in
     unread (weight_of rank) (found.some, legal.1) found.weight_is
 
--- the identity of a number that was read, where the word isn't cut
+-- the identity of a number that was read, if the word isn't cut
 pub reads_uncut : (word : List ℕ) (n : ℕ) (node : Option ℕ) → parts_at 47 word ≡ word ∷ [] → Reads decimal IsShortNumber word (Some n) → IsSome node ↔ (0 < n) → IfSome node (λ id. id ≡ n) → Reads node_word IsNode word node
 reads_uncut word n None parts read there value = λ rank legal same.
     let number = printed_of_one word n (number_of rank) read.0 legal.0.1 read.1 (uncut_is_number word (number_of rank) (weight_of rank) legal.0.1 legal.1 parts same) in

@@ -19,7 +19,7 @@ use Rattle.ring_grammar.specs.OneSpelling.{HaveOneSpelling}
 use Rattle.ring_grammar.proofs.Identities.{same_node}
 use Rattle.ring_grammar.proofs.Words.{words_in-spelled}
 
--- a word as one number, by which words that are written out are told apart
+-- a word as one number; written words differ in it
 abbrev pub number_of_word : List ℕ → ℕ
 number_of_word word = fold (λ n b. n * 256 + b) 0 word
 

@@ -17,7 +17,7 @@ pub on_ok_anyway : {T E P : Type 0} (result : Result T E) → P → OnOk result 
 on_ok_anyway (Ok value) p = p
 on_ok_anyway (Err fault) p = tt
 
--- where a list grew by a text if one result is a value, and another is one exactly then, it grew by it where that is one
+-- if a list grew by a text when one result is a value, it grew by it when an equal result is one
 pub appended_whole : {T E U F : Type 0} (first : Result T E) (second : Result U F) (old text new : List ℕ) → new ≡ (if is_ok first then old ++ text else old) → is_ok second ≡ is_ok first → OnOk second (new ≡ old ++ text)
 appended_whole first (Ok value) old text new items same = rw (← same) at items
 appended_whole first (Err fault) old text new items same = tt
@@ -51,11 +51,11 @@ pub record IsAt {X : Type 0} (xs : List X) (i : ℕ) (x : X) : Type 0 where
   pub below : i < length xs
   pub is : x ≡ get_or xs i x
 
--- what is the same as an element stands there
+-- a value equal to an element is there
 pub at_same : {X : Type 0} (xs : List X) (i : ℕ) (x y : X) → y ≡ x → IsAt xs i x → IsAt xs i y
 at_same xs i x y same at = rw same at
 
--- the word of an element stands where the element does
+-- the word of an element is at the element's place
 pub at_map : {X : Type 0} (word_of : X → List ℕ) (xs : List X) (i : ℕ) (x : X) → IsAt xs i x → IsAt (map word_of xs) i (word_of x)
 at_map word_of xs i x at = record {
   below = omega (arith, at.below, length-map xs word_of);
@@ -98,7 +98,7 @@ spaced_more head words i word at = rw (take_more words i word at.below, spaced-a
 spaced_all : (head : List ℕ) (words : List (List ℕ)) (i : ℕ) → (head ++ spaced (take i words)) ++ spaced (drop i words) ≡ line_of (head ∷ words)
 spaced_all head words i = rw (append_assoc, ← spaced-append, take-append-drop) (sym (line_of-spaced head words))
 
--- where a second piece was not put, a front of it was, and so a front of both
+-- if a second piece was not put, a prefix of it was, and so a prefix of both
 pub put_stopped_last : {S T E : Type 0} {takes takes_front : S → List ℕ → S → Type 0} (laws : IsSequence takes takes_front) (result : Result T E) (a b c : S) (first second : List ℕ) → takes a first b → OnErr result (takes_front b second c) → OnErr result (takes_front a (first ++ second) c)
 put_stopped_last laws (Ok value) a b c first second put next = tt
 put_stopped_last laws (Err fault) a b c first second put next = laws.then_front a b c first second put next
@@ -108,7 +108,7 @@ module _ {S : Type 0} {takes takes_front : S → List ℕ → S → Type 0} (law
   pub put_first : {a b : S} → takes a head b → takes a (head ++ spaced (take 0 words)) b
   put_first {a} {b} put = subst (λ text. takes a text b) (sym (append-nil head)) put
 
-  -- a front of the first word was put
+  -- a prefix of the first word was put
   pub put_none : {a b : S} → takes_front a head b → takes_front a (line_of (head ∷ words)) b
   put_none {a} {b} put = subst (λ text. takes_front a text b) (sym (line_of-spaced head words)) (laws.front a b head (spaced words) put)
 
@@ -116,7 +116,7 @@ module _ {S : Type 0} {takes takes_front : S → List ℕ → S → Type 0} (law
   pub put_next : {a b c : S} (i : ℕ) (word : List ℕ) → IsAt words i word → takes a (head ++ spaced (take i words)) b → takes b (32 ∷ word) c → takes a (head ++ spaced (take (i + 1) words)) c
   put_next {a} {b} {c} i word at put next = subst (λ text. takes a text c) (spaced_more head words i word at) (laws.then a b c (head ++ spaced (take i words)) (32 ∷ word) put next)
 
-  -- a front of one word more was put
+  -- a prefix of one more word was put
   pub put_stopped : {a b c : S} (i : ℕ) (word : List ℕ) → IsAt words i word → takes a (head ++ spaced (take i words)) b → takes_front b (32 ∷ word) c → takes_front a (line_of (head ∷ words)) c
   put_stopped {a} {b} {c} i word at put next =
       let more = laws.then_front a b c (head ++ spaced (take i words)) (32 ∷ word) put next in

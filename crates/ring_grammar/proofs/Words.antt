@@ -34,7 +34,7 @@ one_to_four_words (Cut group node side) = (omega arith, omega arith)
 one_to_four_words (Pending group) = (omega arith, omega arith)
 one_to_four_words (Drain group count) = (omega arith, omega arith)
 
--- a text has one word more than what stands behind its first
+-- a text has one more word than the text after its first word
 one_word_more : (text first rest : List ℕ) → words_in text ≡ first ∷ words_in rest → length (words_in text) ≡ length (words_in rest) + 1
 one_word_more text first rest cut = rw cut (omega arith)
 
@@ -84,7 +84,7 @@ plain-event (Cut group number side) legal = and_from (is_plain group) (all_plain
 plain-event (Pending group) legal = and_from (is_plain group) true (plain-name group legal) refl
 plain-event (Drain group count) legal = both_plain group (decimal count) (plain-name group legal.0) (plain-decimal count (omega arith))
 
--- the words of the line that words are joined to, where there is a word
+-- the words of the line that words are joined to, if there is a word
 pub words_in-line_of_some : (words : List (List ℕ)) → 0 < length words → all_plain words ≡ true → words_in (line_of words) ≡ words
 words_in-line_of_some [] some plain = absurd (omega arith)
 words_in-line_of_some (word ∷ words) some plain = words_in-line_of word words plain

@@ -5,7 +5,7 @@ use Rattle.std.specs.Prelude.{◌≡◌, ℕ, List, ◌++◌}
 abbrev pub Appends : List ℕ → List ℕ → List ℕ → Type 0
 Appends old text new = new ≡ old ++ text
 
--- a front of a text was appended to a list
+-- a prefix of a text was appended to a list
 pub record AppendsFront (old text new : List ℕ) : Type 0 where
   pub front : List ℕ
   pub rest : List ℕ

@@ -1,9 +1,9 @@
--- How identities and the numbers of nodes are spelled: a node that joins by its whole identity, one that
--- is a member already by its number alone.
+-- The spelling of identities and of nodes' numbers. A node that joins is spelled by its whole
+-- identity, and a node that is a member by its number.
 use Rattle.std.specs.Prelude.{◌<◌, ◌^◌, ◌==◌, ◌++◌, ℕ, List, [], cond, codes, decimal}
 use Rattle.ring_id.specs.Identity.{number_of, weight_of}
 
--- a weight is spelled behind a slash, and the weight 0 not at all
+-- a weight is spelled after a slash, and the weight 0 is not spelled
 abbrev pub weight_text : ℕ → List ℕ
 weight_text weight = cond (weight == 0) [] (codes "/" ++ decimal weight)
 

@@ -1,5 +1,5 @@
--- Lines both ways: each line is its words in order, joined by one space. No value has two spellings:
--- the words are functions of the value.
+-- Lines both ways: each line is its words in order, joined by one space. No value has two
+-- spellings, since the words are functions of the value.
 use Rattle.std.specs.Prelude.{◌≡◌, ◌<◌, ◌≤◌, ◌+◌, ◌^◌, ℕ, Bool, true, false, List, [], ◌∷◌, ◌++◌, length, map, Option, None, Some, All, IfSome, codes, decimal}
 use Rattle.std.specs.List.{join_with_byte}
 use Rattle.ring_id.specs.GroupName.{IsName}
@@ -27,7 +27,7 @@ abbrev pub side_word : Side → List ℕ
 side_word Left = codes "left"
 side_word Right = codes "right"
 
--- the words of a client command: a member is made by its identity, and named by its number
+-- the words of a client command: `join` spells the identity, and other commands the number
 abbrev pub command_words : Command Any → List (List ℕ)
 command_words (Create group kind) = codes "create" ∷ group ∷ word_of kind ∷ []
 command_words (Join group node) = codes "join" ∷ group ∷ node_word node ∷ []
@@ -41,7 +41,8 @@ command_words Groups = codes "groups" ∷ []
 -- the words of an event: a client command, or a line of a schedule
 abbrev pub event_words : Event Any → List (List ℕ)
 event_words (Client command) = command_words command
-event_words (Deliver group number side) = codes "deliver" ∷ group ∷ decimal number ∷ side_word side ∷ []
+event_words (Deliver group number side) =
+    codes "deliver" ∷ group ∷ decimal number ∷ side_word side ∷ []
 event_words (Cut group number side) = codes "cut" ∷ group ∷ decimal number ∷ side_word side ∷ []
 event_words (Pending group) = codes "pending" ∷ group ∷ []
 event_words (Drain group count) = codes "drain" ∷ group ∷ decimal count ∷ []
@@ -71,7 +72,7 @@ pub record Spells (line : List ℕ) (event : Event Any) : Type 0 where
   pub legal : IsEvent event
   pub same : line ≡ line_of (event_words event)
 
--- a leader that was named is spelled as an identity, and no leader by a hyphen
+-- a named leader is spelled as an identity, and no leader by a hyphen
 abbrev pub leader_word : Option ℕ → List ℕ
 leader_word None = codes "-"
 leader_word (Some leader) = node_word leader
@@ -85,7 +86,7 @@ abbrev pub term_words : ℕ → List (Option ℕ) → List (List ℕ)
 term_words number [] = []
 term_words number (leader ∷ leaders) = term_word number leader ∷ term_words (number + 1) leaders
 
--- a last word where a drain was starved
+-- a last word if a drain was starved
 abbrev pub starved_words : Bool → List (List ℕ)
 starved_words true = codes "no-memory" ∷ []
 starved_words false = []
@@ -102,7 +103,8 @@ reply_words (reply.Groups names) = codes "groups" ∷ names
 reply_words Moved = codes "moved" ∷ []
 reply_words Idle = codes "idle" ∷ []
 reply_words (reply.Pending left) = codes "pending" ∷ decimal left ∷ []
-reply_words (Drained done left starved) = codes "drained" ∷ decimal done ∷ codes "left" ∷ decimal left ∷ starved_words starved
+reply_words (Drained done left starved) =
+    codes "drained" ∷ decimal done ∷ codes "left" ∷ decimal left ∷ starved_words starved
 reply_words (Refused refusal) = codes "no" ∷ word_in_table refusal ∷ []
 
 -- the line of a reply: its words, and an LF
@@ -115,7 +117,8 @@ IsReply (Term term) = IsTerm term
 IsReply (Leader term leader) = IsTerm term × IsNode leader
 IsReply (Undecided term) = IsTerm term
 IsReply (reply.Members members) = All IsNode members
-IsReply (reply.Terms leaders) = (length leaders ≤ 1000) × All (λ leader. IfSome leader IsNode) leaders
+IsReply (reply.Terms leaders) =
+    (length leaders ≤ 1000) × All (λ leader. IfSome leader IsNode) leaders
 IsReply (reply.Groups names) = All IsName names
 IsReply (reply.Pending left) = left < 2 ^ 128
 IsReply (Drained done left starved) = (done < 2 ^ 32) × (left < 2 ^ 128)

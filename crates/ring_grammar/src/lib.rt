@@ -1,7 +1,7 @@
 //! The grammar of lines both ways: the events that lines spell, and the spellings of replies.
 //!
-//! Each event and each reply has one spelling, and no bytes spell two of them. A line that spells no
-//! event is none of the grammar's. Reading and printing take no memory.
+//! Each event and each reply has one spelling, and no bytes spell two of them. A line that spells
+//! no event is not of the grammar. Reading and printing do not allocate.
 #![tactic(auto)]
 
 mod parse;

@@ -14,11 +14,12 @@ use ring_events::{Command, Event};
 /// The greatest number of bytes of a line, without its LF.
 const LONGEST: usize = 128;
 
-/// The event that a line spells, given without its LF; none exactly where it spells none.
+/// Returns the event that a line spells, given without its LF; `None` if and only if it spells
+/// none.
 ///
-/// Words are separated by one space, numbers have no leading zero and no sign, and a line of more
-/// than 128 bytes spells no event. A weight, behind a slash, stands in `join` alone, and a weight of
-/// 0 isn't written. Takes no memory.
+/// Words are separated by one space, and numbers have no leading zero and no sign. A line of more
+/// than 128 bytes spells no event. Only `join` has a weight, after a slash, and a weight of 0 isn't
+/// written. Does not allocate.
 #[inline(always)]
 pub fn parse_event(line: &[u8]) -> Option<Event<Any>>
     ensures some { IfSome result (Spells line.now) }
@@ -30,9 +31,11 @@ pub fn parse_event(line: &[u8]) -> Option<Event<Any>>
     event(line)
 }
 
-/// The client command that a line spells, given without its LF; none exactly where it spells none.
+/// Returns the client command that a line spells, given without its LF; `None` if and only if it
+/// spells none.
 ///
-/// Lines of a schedule, `deliver`, `cut`, `pending` and `drain`, spell no client command. Takes no memory.
+/// Lines of a schedule (`deliver`, `cut`, `pending` and `drain`) spell no client command. Does not
+/// allocate.
 pub fn parse_command(line: &[u8]) -> Option<Command<Any>>
     ensures some { IfSome result (λ command. Spells line.now (Client command)) }
     ensures none { IfNone result ((command : Command Any) → ¬ (Spells line.now (Client command))) }
@@ -50,7 +53,8 @@ fn client_command(event: Event<Any>) -> Option<Command<Any>>
     }
 }
 
-// The event that these bytes spell, however long they are. A question who leads, which clients ask most, is read at once.
+// Returns the event that these bytes spell, of any length. Clients ask `who` most, so it is read
+// first.
 #[inline(always)]
 fn event(line: &[u8]) -> Option<Event<Any>>
     ensures { Reads event_words IsEvent (words_in line.now) result }
@@ -61,7 +65,8 @@ fn event(line: &[u8]) -> Option<Event<Any>>
     }
 }
 
-// The question who leads that these bytes spell behind its first word. A number is cut no further, since it has no space.
+// Returns the question `who` with these bytes after its first word. The number has no space, so it
+// is not cut further.
 #[inline(always)]
 fn who(rest: &[u8]) -> Option<Event<Any>>
     ensures { Reads event_words IsEvent (codes "who" ∷ words_in rest.now) result }
@@ -71,7 +76,7 @@ fn who(rest: &[u8]) -> Option<Event<Any>>
     Some(Event::Client(Command::Who(group, number)))
 }
 
-// The event that these bytes spell, by its words.
+// Returns the event that these bytes spell, by its words.
 fn any_event(line: &[u8]) -> Option<Event<Any>>
     ensures { Reads event_words IsEvent (words_in line.now) result }
 {
@@ -144,7 +149,8 @@ fn event_of_three(word: &[u8], group: &[u8], argument: &[u8]) -> Option<Event<An
 
 #[inline(always)]
 fn event_of_four(word: &[u8], group: &[u8], argument: &[u8], end: &[u8]) -> Option<Event<Any>>
-    ensures { Reads event_words IsEvent (word.now ∷ group.now ∷ argument.now ∷ end.now ∷ []) result }
+    ensures { Reads event_words IsEvent (word.now ∷ group.now ∷ argument.now ∷ end.now ∷ [])
+        result }
 {
     let group = name(group)?;
     let node = node_number(argument)?;

@@ -12,9 +12,10 @@ pub use lists::{print_groups, print_members, print_terms};
 use ring_events::Reply;
 use ring_id::{GroupName, NodeId};
 
-/// Puts the line of a reply: its one spelling and an LF. What is put whole is a reply of the grammar.
+/// Puts the line of a reply: its one spelling and an LF. A reply that is put whole is one of the
+/// grammar.
 ///
-/// At `Err` a front of it was put. Takes no memory.
+/// At `Err` a prefix of the line was put. Does not allocate.
 #[inline(always)]
 pub fn print_reply<W: Sink>(reply: &Reply, out: &mut W) -> Result<(), SinkFailed>
     ensures ok { OnOk result (W.takes out.old (reply_line reply.now) out.new) }
@@ -25,7 +26,7 @@ pub fn print_reply<W: Sink>(reply: &Reply, out: &mut W) -> Result<(), SinkFailed
     out.put(b"\n")
 }
 
-// The words of a reply, joined by one space.
+// Puts the words of a reply, joined by one space.
 #[inline(always)]
 fn put_words<W: Sink>(reply: &Reply, out: &mut W) -> Result<(), SinkFailed>
     ensures ok { OnOk result (W.takes out.old (line_of (reply_words reply.now)) out.new) }
@@ -52,7 +53,7 @@ fn put_words<W: Sink>(reply: &Reply, out: &mut W) -> Result<(), SinkFailed>
     }
 }
 
-// One text and then another.
+// Puts one text and then another.
 #[inline(always)]
 fn put_both<W: Sink>(first: &[u8], second: &[u8], out: &mut W) -> Result<(), SinkFailed>
     ensures ok { OnOk result (W.takes out.old (first.now ++ second.now) out.new) }
@@ -62,7 +63,7 @@ fn put_both<W: Sink>(first: &[u8], second: &[u8], out: &mut W) -> Result<(), Sin
     out.put(second)
 }
 
-// A text and then a number.
+// Puts a text and then a number.
 #[inline(always)]
 fn put_number<N: Integer, W: Sink>(text: &[u8], number: N, out: &mut W) -> Result<(), SinkFailed>
     ensures ok { OnOk result (W.takes out.old (text.now ++ N.text number) out.new) }
@@ -71,7 +72,7 @@ fn put_number<N: Integer, W: Sink>(text: &[u8], number: N, out: &mut W) -> Resul
     put_both(text, Buffer::new().format(number).as_bytes(), out)
 }
 
-// A text and then an identity.
+// Puts a text and then an identity.
 #[inline(always)]
 fn put_node<W: Sink>(text: &[u8], node: NodeId, out: &mut W) -> Result<(), SinkFailed>
     ensures ok { OnOk result (W.takes out.old (text.now ++ node_word node) out.new) }
@@ -82,7 +83,7 @@ fn put_node<W: Sink>(text: &[u8], node: NodeId, out: &mut W) -> Result<(), SinkF
     put_weight(node.weight(), out)
 }
 
-// A slash and a weight, and nothing for the weight 0.
+// Puts a slash and a weight, and nothing for the weight 0.
 fn put_weight<W: Sink>(weight: u16, out: &mut W) -> Result<(), SinkFailed>
     ensures ok { OnOk result (W.takes out.old (weight_text weight) out.new) }
     ensures err { OnErr result (W.takes_front out.old (weight_text weight) out.new) }
@@ -95,15 +96,17 @@ fn put_weight<W: Sink>(weight: u16, out: &mut W) -> Result<(), SinkFailed>
 
 #[inline(always)]
 fn put_leader<W: Sink>(term: u16, leader: NodeId, out: &mut W) -> Result<(), SinkFailed>
-    ensures ok { OnOk result (W.takes out.old (line_of (reply_words (reply.Leader term leader))) out.new) }
-    ensures err { OnErr result (W.takes_front out.old (line_of (reply_words (reply.Leader term leader))) out.new) }
+    ensures ok { OnOk result
+        (W.takes out.old (line_of (reply_words (reply.Leader term leader))) out.new) }
+    ensures err { OnErr result
+        (W.takes_front out.old (line_of (reply_words (reply.Leader term leader))) out.new) }
     ensures legal { IsNode leader }
 {
     put_number(b"leader ", term, out)?;
     put_node(b" ", leader, out)
 }
 
-// A text and a number, twice.
+// Puts a text and a number, twice.
 fn put_numbers<W: Sink>(
     text: &[u8],
     number: u128,
@@ -111,8 +114,12 @@ fn put_numbers<W: Sink>(
     next_number: u128,
     out: &mut W,
 ) -> Result<(), SinkFailed>
-    ensures ok { OnOk result (W.takes out.old ((text.now ++ decimal number) ++ (next_text.now ++ decimal next_number)) out.new) }
-    ensures err { OnErr result (W.takes_front out.old ((text.now ++ decimal number) ++ (next_text.now ++ decimal next_number)) out.new) }
+    ensures ok { OnOk result
+        (W.takes out.old ((text.now ++ decimal number) ++ (next_text.now ++ decimal next_number))
+        out.new) }
+    ensures err { OnErr result
+        (W.takes_front out.old
+        ((text.now ++ decimal number) ++ (next_text.now ++ decimal next_number)) out.new) }
 {
     put_number(text, number, out)?;
     put_number(next_text, next_number, out)
@@ -124,8 +131,10 @@ fn put_drained<W: Sink>(
     starved: bool,
     out: &mut W,
 ) -> Result<(), SinkFailed>
-    ensures ok { OnOk result (W.takes out.old (line_of (reply_words (reply.Drained done left starved))) out.new) }
-    ensures err { OnErr result (W.takes_front out.old (line_of (reply_words (reply.Drained done left starved))) out.new) }
+    ensures ok { OnOk result
+        (W.takes out.old (line_of (reply_words (reply.Drained done left starved))) out.new) }
+    ensures err { OnErr result
+        (W.takes_front out.old (line_of (reply_words (reply.Drained done left starved))) out.new) }
 {
     put_numbers(b"drained ", done, b" left ", left, out)?;
     if starved {
@@ -136,8 +145,10 @@ fn put_drained<W: Sink>(
 }
 
 fn put_members<W: Sink>(members: &[NodeId], out: &mut W) -> Result<(), SinkFailed>
-    ensures ok { OnOk result (W.takes out.old (line_of (reply_words (reply.Members members.now))) out.new) }
-    ensures err { OnErr result (W.takes_front out.old (line_of (reply_words (reply.Members members.now))) out.new) }
+    ensures ok { OnOk result
+        (W.takes out.old (line_of (reply_words (reply.Members members.now))) out.new) }
+    ensures err { OnErr result
+        (W.takes_front out.old (line_of (reply_words (reply.Members members.now))) out.new) }
     ensures legal { OnOk result (All IsNode members.now) }
 {
     out.put(b"members")?;
@@ -148,8 +159,10 @@ fn put_members<W: Sink>(members: &[NodeId], out: &mut W) -> Result<(), SinkFaile
 }
 
 fn put_groups<W: Sink>(names: &[GroupName], out: &mut W) -> Result<(), SinkFailed>
-    ensures ok { OnOk result (W.takes out.old (line_of (reply_words (reply.Groups names.now))) out.new) }
-    ensures err { OnErr result (W.takes_front out.old (line_of (reply_words (reply.Groups names.now))) out.new) }
+    ensures ok { OnOk result
+        (W.takes out.old (line_of (reply_words (reply.Groups names.now))) out.new) }
+    ensures err { OnErr result
+        (W.takes_front out.old (line_of (reply_words (reply.Groups names.now))) out.new) }
     ensures legal { OnOk result (All IsName names.now) }
 {
     out.put(b"groups")?;
@@ -160,8 +173,10 @@ fn put_groups<W: Sink>(names: &[GroupName], out: &mut W) -> Result<(), SinkFaile
 }
 
 fn put_terms<W: Sink>(leaders: &[Option<NodeId>], out: &mut W) -> Result<(), SinkFailed>
-    ensures ok { OnOk result (W.takes out.old (line_of (reply_words (reply.Terms leaders.now))) out.new) }
-    ensures err { OnErr result (W.takes_front out.old (line_of (reply_words (reply.Terms leaders.now))) out.new) }
+    ensures ok { OnOk result
+        (W.takes out.old (line_of (reply_words (reply.Terms leaders.now))) out.new) }
+    ensures err { OnErr result
+        (W.takes_front out.old (line_of (reply_words (reply.Terms leaders.now))) out.new) }
     ensures legal { OnOk result (All (λ leader. IfSome leader IsNode) leaders.now) }
 {
     out.put(b"terms")?;
@@ -171,7 +186,7 @@ fn put_terms<W: Sink>(leaders: &[Option<NodeId>], out: &mut W) -> Result<(), Sin
     Ok(())
 }
 
-// A space, the number of a term, a colon, and its leader or a hyphen.
+// Puts a space, the number of a term, a colon, and its leader or a hyphen.
 fn put_term<W: Sink>(number: u128, leader: Option<NodeId>, out: &mut W) -> Result<(), SinkFailed>
     ensures ok { OnOk result (W.takes out.old (32 ∷ term_word number leader) out.new) }
     ensures err { OnErr result (W.takes_front out.old (32 ∷ term_word number leader) out.new) }

@@ -10,13 +10,13 @@ use crate::parts::cut;
 use ring_any::Any;
 use ring_id::{GroupName, NodeId, NodeNo, Side};
 
-/// The greatest number of digits of a number of 32 bits.
+/// The greatest number of digits of a 32-bit number.
 const MOST_DIGITS: usize = 10;
 
 /// The greatest number of deliveries that a line can ask for.
 const MOST_DELIVERIES: u32 = 1_000_000_000;
 
-// The number that is printed as this text: so no sign and no leading zero.
+// Returns the number that is printed as this text, so without a sign or a leading zero.
 fn number(text: &[u8]) -> Option<u32>
     ensures { Reads decimal IsShortNumber text.now result }
 {
@@ -39,14 +39,14 @@ fn number(text: &[u8]) -> Option<u32>
     Some(value as u32)
 }
 
-/// The number of a node that this word spells.
+/// Returns the number of a node that this word spells.
 pub(crate) fn node_number(word: &[u8]) -> Option<NodeNo>
     ensures { Reads decimal IsNumber word.now result }
 {
     NodeNo::new(number(word)?)
 }
 
-/// The identity that this word spells: a number, and behind a slash a weight that isn't 0.
+/// Returns the identity that this word spells: a number, and after a slash a weight that isn't 0.
 pub(crate) fn node(word: &[u8]) -> Option<NodeId>
     ensures { Reads node_word IsNode word.now result }
 {
@@ -56,7 +56,7 @@ pub(crate) fn node(word: &[u8]) -> Option<NodeId>
     }
 }
 
-// The weight that this text spells: so it isn't 0.
+// Returns the weight that this text spells, which isn't 0.
 fn weight(text: &[u8]) -> Option<u16>
     ensures { Reads decimal IsWeight text.now result }
 {
@@ -69,7 +69,7 @@ fn weight(text: &[u8]) -> Option<u16>
     Some(weight)
 }
 
-/// The number of deliveries that this word spells.
+/// Returns the number of deliveries that this word spells.
 pub(crate) fn count(word: &[u8]) -> Option<u32>
     ensures { Reads decimal (λ n. n ≤ 1000000000) word.now result }
 {
@@ -81,21 +81,21 @@ pub(crate) fn count(word: &[u8]) -> Option<u32>
     }
 }
 
-/// The group name that this word is.
+/// Returns the group name that this word is.
 pub(crate) fn name(word: &[u8]) -> Option<GroupName>
     ensures { Reads (λ n. n) IsName word.now result }
 {
     GroupName::from_bytes(word).ok()
 }
 
-/// The kind of election that this word spells.
+/// Returns the kind of election that this word spells.
 pub(crate) fn kind(word: &[u8]) -> Option<Any>
     ensures { Reads word_of (λ _. Unit {0}) word.now result }
 {
     Any::from_word(word)
 }
 
-/// The side that this word spells.
+/// Returns the side that this word spells.
 pub(crate) fn side(word: &[u8]) -> Option<Side>
     ensures { Reads side_word (λ _. Unit {0}) word.now result }
 {

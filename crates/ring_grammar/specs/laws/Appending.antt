@@ -1,4 +1,4 @@
--- That appending to a list is a sink's way to take bytes.
+-- Appending to a list is a sink's way to take bytes.
 use Rattle.std.specs.Prelude.{ℕ, List, ◌++◌, refl}
 use Rattle.std.proofs.Common.{sym, append_assoc, append-nil}
 use Rattle.ring_grammar.specs.Sinks.{IsSequence}

@@ -1,4 +1,4 @@
--- What an inner function reads of an identity.
+-- The weight that an inner function reads.
 use Rattle.std.specs.Prelude.{◌<◌, ◌^◌, ℕ}
 
 -- a weight of the grammar that is written: from 1 to 65535

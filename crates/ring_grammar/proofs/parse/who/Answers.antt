@@ -11,6 +11,6 @@ returns c = asked_read c.args.rest.now c.in_ok-group.group.now c.in_ok-group.arg
 pub returns-in_err-group : goal.returns-in_err-group
 returns-in_err-group c = rw c.from_residual.ensures (unasked-uncut c.args.rest.now c.in_err-group.ensures.none)
 
--- What stands before the space is no name.
+-- The text before the space is no name.
 pub returns-in_err-group-2 : goal.returns-in_err-group-2
 returns-in_err-group-2 c = rw c.from_residual-in_err-group-2.ensures (unasked-unnamed c.args.rest.now c.in_ok-group.group.now c.in_ok-group.argument.now c.in_ok-group.ensures.some c.in_err-group-2.ensures)

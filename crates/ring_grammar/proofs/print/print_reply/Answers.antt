@@ -1,4 +1,4 @@
--- Where the LF was not put, a front of it was, behind the words: so a front of the line was put.
+-- If the LF was not put, a prefix of it was, after the words. So a prefix of the line was put.
 use Rattle.ring_grammar.proofs.Putting.{put_stopped_last}
 use Rattle.ring_grammar.proofs.print.print_reply.Goals as goal
 

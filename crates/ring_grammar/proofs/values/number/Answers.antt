@@ -1,4 +1,4 @@
--- What is printed of a number is digits, and these digits say which.
+-- A number is printed as digits, and these digits give the number.
 use Rattle.std.proofs.Common.{◌≡◌, ◌<◌, length, get_or, arith}
 use Rattle.std.proofs.lemmas.Bool.Decides.{nat_tests}
 use Rattle.ring_grammar.proofs.Digits.{printed_digits, printed_first, printed_length, printed_value, reading_more, reading_printed, reading_small}

@@ -1,4 +1,4 @@
--- What was appended to the list is the bytes.
+-- The bytes are appended to the list.
 use Rattle.ring_grammar.proofs.Putting.{appended_whole}
 use Rattle.ring_grammar.proofs.sink.VecU8Sink.put.Goals as goal
 
