@@ -1,4 +1,4 @@
--- What a book shows of a group that was looked up, and what it keeps after a write or an insert.
+-- The facts that a book shows of a group that was looked up, and keeps after a write or an insert.
 use Rattle.std.proofs.Common.{◌≡◌, ◌<◌, ◌≤◌, ℕ, Bool, true, false, cond, List, [], ◌∷◌, ◌++◌, length, Option, None, Some, refl, sym, ◌∙◌, ap, subst, arith, inl, inr}
 use Rattle.std.specs.Prelude.{Result, Ok, Err, OnErr, OnOk, is_some, nat_le, position, slice_get}
 use Rattle.std.specs.Map.{keys_of, lookup, set_value, values_of}
@@ -57,7 +57,7 @@ pub of_there : {E : Type 0} (entries : List (List ℕ × Group E)) (object : Obj
     (Says : GroupView E → Type 0) → OfGroup name Says object → ⊥
 of_there entries object is name at Says of = none-some of.group (sym (missing_in entries object is name at) ∙ of.found)
 
--- where no group has this name, that is the first refusal
+-- if no group has this name, that is the first refusal
 pub no_group : {E : Type 0} (object : Object E) (name : List ℕ) (first : GroupView E → Option Refusal) (grows : Bool) → find name object ≡ None → IsRefusal (in_group name first object) grows refused.NoGroup
 no_group object name first grows missing = rw missing refl
 
@@ -94,7 +94,7 @@ module _ {E : Type 0} (entries : List (List ℕ × Group E)) (object : Object E)
   shown_after =
       ap (object_view {E = E}) written ∙ sym (set_value-map (bytes_eq name) (group_view {E = E}) entries h) ∙ ap (with_group name (group_view h)) is
 
-  -- and changes nothing where it shows the same
+  -- and changes nothing if it shows the same
   same_after : group_view h ≡ group_view g → object_view after ≡ object
   same_after same =
       shown_after ∙ ap (λ v. with_group name v object) same ∙ set_value_same (bytes_eq name) object (group_view g) found
@@ -112,7 +112,7 @@ module _ {E : Type 0} (entries : List (List ℕ × Group E)) (object : Object E)
   group_done (Ok a) Does does = record { before = group_view g; after = group_view h; found = found; does = does; rest = shown_after }
   group_done (Err b) Does does = does
 
-  -- and where a refusal changes nothing of it, the object stays
+  -- and if a refusal changes nothing of it, the object stays
   pub group_stays : {A B : Type 0} (answer : Result A B) → OnErr answer (group_view h ≡ group_view g) → OnErr answer (object_view after ≡ object)
   group_stays (Ok a) same = same
   group_stays (Err b) same = same_after same
@@ -124,7 +124,7 @@ module _ {E : Type 0} (entries : List (List ℕ × Group E)) (object : Object E)
   group_notes greatest report Known n = (rw found n.0, same_after n.1, record { group = group_view g; found = found; says = n.2 })
   group_notes greatest report Stale n = (λ running. n.0 (rw found at running), same_after n.1)
 
--- where no group has this name, no charter is of a last term there
+-- if no group has this name, no charter is of a last term there
 pub nothing_runs : {E : Type 0} (name : List ℕ) (object : Object E) (charter : Charter E) → find name object ≡ None → running_in name object ≡ Some charter → ⊥
 nothing_runs name object charter missing running = none-some charter (sym (rw missing refl) ∙ running)
 
@@ -155,17 +155,17 @@ module _ {E : Type 0} (winner : E → List ℕ → ℕ) (entries : List (List �
         ] refl found;
   }
 
--- create, where a group has this name
+-- create, if a group has this name
 pub create_exists : {E : Type 0} (name : List ℕ) (object : Object E) → is_some (find name object) ≡ true → IsRefusal (create_refusal name object) true refused.Exists
 create_exists name object there = rw there refl
 
--- where as many groups stand as may
+-- if there are as many groups as there may be
 pub create_full : {E : Type 0} (name : List ℕ) (object : Object E) → is_some (find name object) ≡ false → 256 ≤ length object → IsRefusal (create_refusal name object) true refused.GroupLimit
 create_full name object new full =
     let limit : nat_le 256 (length object) ≡ true = grind (arith, nat_tests) in
     rw (new, limit) refl
 
--- and where nothing but memory refuses it
+-- and if only memory can refuse it
 pub create_free : {E : Type 0} (name : List ℕ) (object : Object E) → is_some (find name object) ≡ false → length object < 256 → create_refusal name object ≡ None
 create_free name object new room =
     let limit : nat_le 256 (length object) ≡ false = grind (arith, nat_tests) in

@@ -19,7 +19,7 @@ module _ {K X Y : Type 0} (f : X → Y) where
   keys-map [] = refl
   keys-map (e ∷ es) = ap (λ (ks : List K). e.0 ∷ ks) (keys-map es)
 
-  -- what stands at a place is seen of what stands there
+  -- the view of an element at a place is the view there
   pub slice_get-seen : (es : List (K × X)) (i : ℕ) (k : K) (y : Y) → slice_get {X = K × Y} (map (λ (e : K × X). (e.0, f e.1)) es) i ≡ Some (k, y) → slice_get (keys_of es) i ≡ Some k
   slice_get-seen [] i k y h = absurd (none-some (k, y) h)
   slice_get-seen (e ∷ es) zero k y h = ap Some (some_pair_parts e.0 k (f e.1) y h).0
@@ -51,12 +51,12 @@ pub is_some-map : {X Y : Type 0} (f : X → Y) (o : Option X) → is_some (optio
 is_some-map f None = refl
 is_some-map f (Some x) = refl
 
--- where there is none it is none
+-- if there is none it is none
 pub none_there : {X : Type 0} (o : Option X) → is_some o ≡ false → o ≡ None
 none_there None h = refl
 none_there (Some x) h = absurd (true≢false h)
 
--- among keys that differ, each stands first where it stands
+-- among keys that differ, each is first at its place
 pub position-apart : {K : Type 0} (eq : K → K → Bool) → IsEquivalence eq → (ks : List K) (i : ℕ) (k : K) → IsDistinct eq ks → slice_get ks i ≡ Some k → position (eq k) ks ≡ Some i
 position-apart eq laws ks i k apart at =
     let within = slice_get_within ks i k at in

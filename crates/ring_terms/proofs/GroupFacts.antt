@@ -1,4 +1,5 @@
--- What a group keeps of its terms from one call to the next, and what its last term shows.
+-- The facts that a group keeps of its terms from one call to the next, and that its last term
+-- shows.
 use Rattle.std.proofs.Common.{inl, inr, ◌≡◌, ◌+◌, ◌-◌, ◌<◌, ◌==◌, ℕ, Bool, false, true, List, [], ◌∷◌, ◌++◌, length, map, Option, None, Some, refl, sym, ◌∙◌, ap, subst, arith, slice_index_or, slice_set}
 use Rattle.std.specs.Prelude.{nat_le, slice_get, Result, Ok, Err}
 use Rattle.std.specs.List.{list_any}
@@ -45,7 +46,7 @@ some_term {E} name g charter running =
 pub last_read : {X : Type 0} (xs : List X) (n : ℕ) (x : X) → n ≡ length xs → 0 < n → x ≡ slice_index_or xs (n - 1) x → slice_get xs (length xs - 1) ≡ Some x
 last_read xs n x e some is = slice_get_read xs (length xs) (length xs - 1) x refl (omega arith) (rw e at is)
 
--- whatever a report does to a term, the term keeps its charter
+-- a report never changes the charter of a term
 charter_stays : {E : Type 0} (greatest : E → Bool) (report : Told E) (t : Term E) (noting : Noting) (u : Term E) → NotesTerm greatest report t noting u → u.charter.value ≡ t.charter.value
 charter_stays greatest report t Noted u n = ap (λ c. c.value) n.1
 charter_stays greatest report t Known u n = ap (λ v. v.charter.value) n.1
@@ -60,24 +61,24 @@ leaders_seen (t ∷ ts) = ap (λ (rest : List (Option ℕ)). t.leader ∷ rest) 
 pub leaders_shown : {E : Type 0} (g : Group E) → map (λ (t : Term E). t.leader) g.terms.items ≡ leaders (group_view g)
 leaders_shown g = leaders_seen g.terms.items
 
--- where start isn't refused, there are members and fewer terms than the most
+-- if start isn't refused, there are members and fewer terms than the most
 pub start_allowed : {E : Type 0} (group : GroupView E) → start_refusal group ≡ None → (0 < length group.members) × (length group.terms < 1000)
 start_allowed group none = (grind (arith, nat_tests), grind (arith, nat_tests))
 
--- where there are members and fewer terms than the most, start isn't refused
+-- if there are members and fewer terms than the most, start isn't refused
 pub allowed_start : {E : Type 0} (group : GroupView E) → (length group.members == 0) ≡ false → length group.terms < 1000 → start_refusal group ≡ None
 allowed_start group some short =
     let few : nat_le 1000 (length group.terms) ≡ false = grind (arith, nat_tests) in
     rw (some, few) refl
 
--- where no member has the number and there are fewer members than the most, join isn't refused
+-- if no member has the number and there are fewer members than the most, join isn't refused
 pub allowed_join : {E : Type 0} (group : GroupView E) (node : ℕ) → list_any (has_number node) group.members ≡ false → length group.members < 256 → join_refusal node group ≡ None
 allowed_join group node free short =
     let few : nat_le 256 (length group.members) ≡ false = grind (arith, nat_tests) in
     rw (free, few) refl
 
 module _ {E : Type 0} (winner : E → List ℕ → ℕ) (name : List ℕ) (g : Group E) (kept : IsGroupOf winner name g) where
-  -- a group with these terms keeps what groups keep, where one more is of this group
+  -- a group with these terms keeps its facts, if one more is of this group
   pub each_after_push : (t : Term E) → IsTermOf winner name g.algorithm (length g.terms.items + 1) t →
       (n : ℕ) (u : Term E) → slice_get (g.terms.items ++ t ∷ []) n ≡ Some u → IsTermOf winner name g.algorithm (n + 1) u
   each_after_push t of n u h =
@@ -97,7 +98,7 @@ module _ {E : Type 0} (winner : E → List ℕ → ℕ) (name : List ℕ) (g : G
         kept = subst (λ v. IsTermKept (winner t.charter.value.algorithm) v) (sym fresh) (new_term_kept (winner t.charter.value.algorithm) t.charter.value.roster on);
       }
 
-  -- and so does one where a term is replaced by one of its charter
+  -- and so does one with a term replaced by one of its charter
   pub each_after_set : (i : ℕ) (t : Term E) → IsTermOf winner name g.algorithm (i + 1) t →
       (n : ℕ) (u : Term E) → slice_get (slice_set g.terms.items i t) n ≡ Some u → IsTermOf winner name g.algorithm (n + 1) u
   each_after_set i t of n u h =
@@ -107,7 +108,7 @@ module _ {E : Type 0} (winner : E → List ℕ → ℕ) (name : List ℕ) (g : G
       ]
 
   module _ (t : Term E) (at : slice_get g.terms.items (length g.terms.items - 1) ≡ Some t) where
-    -- the last term stands where it is read
+    -- the last term is at the place that is read
     pub last_shown : last_term (group_view g) ≡ Some (term_view t)
     last_shown = rw (length-map, slice_get-map, at) refl
 
@@ -142,7 +143,7 @@ module _ {E : Type 0} (winner : E → List ℕ → ℕ) (name : List ℕ) (g : G
           ∙ map-set (term_view {E = E}) g.terms.items (length g.terms.items - 1) u
           ∙ ap (λ n. slice_set (map (term_view {E = E}) g.terms.items) (n - 1) (term_view u)) (sym (length-map g.terms.items (term_view {E = E})))
 
-      -- and where the same term is written, nothing changes
+      -- and if the same term is written, nothing changes
       unchanged : u ≡ t → map (term_view {E = E}) items ≡ (group_view g).terms
       unchanged e =
           changed ∙ ap (λ v. (with_last (term_view v) (group_view g)).terms) e ∙ slice_set-same (group_view g).terms _ (term_view t) last_shown

@@ -21,22 +21,22 @@ winner_named laws ring is_ring = record {
   tops = λ promised i v there. laws.winner_is_greatest promised ring i v is_ring there;
 }
 
--- where the leader that is there is the winner, the winner leads after
+-- if the leader that is there is the winner, the winner leads after
 leads_after : (greatest : Bool) (ring : List ℕ) (winner : ℕ) (was : Option ℕ) → ((leader : ℕ) → was ≡ Some leader → leader ≡ winner) → IsNamed greatest ring winner → LeadsAfter greatest ring was winner
 leads_after greatest ring winner None wins named = named
 leads_after greatest ring winner (Some leader) wins named = sym (wins leader refl)
 
--- where there is a leader, and it can only be the winner, it is the winner
+-- if there is a leader, and it can only be the winner, it is the winner
 leader_is : (winner : ℕ) (was : Option ℕ) → ((leader : ℕ) → was ≡ Some leader → leader ≡ winner) → IsSome was → was ≡ Some winner
 leader_is winner None wins there = absurd (true≢false (sym there))
 leader_is winner (Some leader) wins there = ap Some (wins leader refl)
 
--- where there is no leader, a position's mark is not set
+-- if there is no leader, a position's mark is not set
 unset_mark : (term : TermView) (position : ℕ) (mark : Bool) → ((p : ℕ) → slice_get term.informed p ≡ Some true → IsSome term.leader) → term.leader ≡ None → slice_get term.informed position ≡ Some mark → slice_get term.informed position ≡ Some false
 unset_mark term position false led none there = there
 unset_mark term position true led none there = absurd (true≢false (sym (led position there) ∙ ap (λ v. is_some v) none))
 
--- where there is no leader, nobody is informed
+-- if there is no leader, no member is informed
 pub uninformed_without_leader : (winner : List ℕ → ℕ) (term : TermView) → IsTermKept winner term → (position : ℕ) → position < length term.ring → term.leader ≡ None → slice_get term.informed position ≡ Some false
 uninformed_without_leader winner term kept position within none = unset_mark term position (get_or term.informed position false) kept.led none (slice_get-get_or term.informed position false (rw kept.marked within))
 

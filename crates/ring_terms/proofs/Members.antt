@@ -1,4 +1,5 @@
--- Members with different numbers, after one joined and after one left; and where a member stands.
+-- Members with different numbers, after one joined and after one left; and the positions of
+-- members.
 use Rattle.std.proofs.Common.{◌≡◌, ◌≤◌, ℕ, zero, suc, Bool, true, false, cond, ◌||◌, true≢false, List, [], ◌∷◌, ◌++◌, length, filter, get_or, Option, None, Some, ◌==◌, refl, sym, ap, ◌∙◌, arith}
 use Rattle.std.specs.Prelude.{slice_get}
 use Rattle.std.specs.List.{list_any, position_or_len}
@@ -14,7 +15,7 @@ or_false : (a b : Bool) → (a || b) ≡ false → (a ≡ false) × (b ≡ false
 or_false false b h = (refl, h)
 or_false true b h = absurd (true≢false h)
 
--- a number that nobody has is not had by a member of either end
+-- a number that no member has stays so when a member with another number joins
 pub list_any-push : (node member : ℕ) (others : List ℕ) → list_any (has_number node) others ≡ false → has_number node member ≡ false → list_any (has_number node) (others ++ member ∷ []) ≡ false
 list_any-push node member [] h e = grind (arith, nat_tests)
 list_any-push node member (x ∷ xs) h e = let rest = list_any-push node member xs in grind (arith, nat_tests, rest)
@@ -27,7 +28,7 @@ has_repeat-push (x ∷ xs) node h e =
     let front = list_any-push x node xs in
     grind (arith, nat_tests, rest, front)
 
--- a number that nobody has is had by none of some of them
+-- a number that no member has is not the number of any member that stays
 pub list_any-filter : (node : ℕ) (stays : ℕ → Bool) (members : List ℕ) → list_any (has_number node) members ≡ false → list_any (has_number node) (filter stays members) ≡ false
 list_any-filter node stays [] h = refl
 list_any-filter node stays (x ∷ xs) h =
@@ -50,7 +51,7 @@ length-filter-le stays (x ∷ xs) =
     let rest = length-filter-le stays xs in
     elim (stays x) as (λ b. length (cond b (x ∷ filter stays xs) (filter stays xs)) ≤ suc (length xs)) [ true ↦ omega arith | false ↦ omega arith ]
 
--- the number of what stands in a list is found there
+-- the number of an element of a list is found there
 numbered_found : (members : List ℕ) (k member number : ℕ) → slice_get members k ≡ Some member → number_of member ≡ number → list_any (is_numbered number) members ≡ true
 numbered_found [] k member number here same = cc
 numbered_found (x ∷ xs) zero member number here same =
@@ -59,7 +60,7 @@ numbered_found (x ∷ xs) zero member number here same =
     rw found refl
 numbered_found (x ∷ xs) (suc k) member number here same = rw (numbered_found xs k member number here same) (elim (is_numbered number x) as (λ b. (b || true) ≡ true) [ true ↦ refl | false ↦ refl ])
 
--- where members differ in their numbers, two places with one number are the same
+-- if members differ in their numbers, two places with one number are the same
 pub same_numbered : (members : List ℕ) (i j m n : ℕ) → has_repeat members ≡ false → slice_get members i ≡ Some m → slice_get members j ≡ Some n → number_of m ≡ number_of n → i ≡ j
 same_numbered [] i j m n differ here there same = cc
 same_numbered (x ∷ xs) zero zero m n differ here there same = refl
@@ -94,6 +95,6 @@ position_of-found : (ring : List ℕ) (i m : ℕ) (found : Option ℕ) → has_r
 position_of-found ring i m (Some k) distinct here e = e ∙ ap (λ (n : ℕ). Some n) (position_is ring i m k distinct here e)
 position_of-found ring i m None distinct here e = absurd (position_of-member m ring i here e)
 
--- a member has the position at which it stands
+-- a member has the position at which it is found
 pub position_of-at : (ring : List ℕ) (i m : ℕ) → has_repeat ring ≡ false → slice_get ring i ≡ Some m → position_of (number_of m) ring ≡ Some i
 position_of-at ring i m distinct here = position_of-found ring i m (position_of (number_of m) ring) distinct here refl

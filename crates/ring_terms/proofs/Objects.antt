@@ -26,7 +26,7 @@ pub find-with_group : {E : Type 0} (name : List ℕ) (before after : GroupView E
 find-with_group name before after object found other =
     lookup-set_value nat_list_eq_equiv (bytes_eq name) (nat_list_eq_equiv.congr name) other after object (ap is_some found)
 
--- what was written at a place stands there, and all else as before
+-- the element written at a place is there, and all others are as before
 pub set_here : {X : Type 0} (xs : List X) (i : ℕ) (y : X) → i < length xs → slice_get (slice_set xs i y) i ≡ Some y
 set_here [] i y h = absurd (omega arith)
 set_here (x ∷ xs) zero y h = refl

@@ -20,7 +20,7 @@ pub done_replies : {E : Type 0} (first : Option Refusal) (grows : Bool) (old : O
 done_replies first grows old (Ok done) new Does answers = (answers.0, (refl, answers.1))
 done_replies first grows old (Err refusal) new Does answers = answers
 
--- who: the standing that the book answers is the one that the reply tells
+-- who: the standing that the book returns is the one in the reply
 pub tells_reply : {E : Type 0} (first : Option Refusal) (name : List ℕ) (node : ℕ) (object : Object E) (answer : Result Standing Refusal) → Shows first false answer (λ s. OfGroup name (Tells node s) object) →
     Replies first false object (told_reply answer) object (λ r. (object ≡ object) × OfGroup name (TellsReply node r) object)
 tells_reply first name node object (Ok (Leader term leader)) shows =

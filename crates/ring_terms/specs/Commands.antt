@@ -1,4 +1,4 @@
--- The commands of the election object: when each is refused, and what each does. A refusal changes
+-- The commands of the election object: the refusals of each, and its effect. A refusal changes
 -- nothing.
 use Rattle.std.specs.Prelude.{◌≡◌, ◌+◌, ◌==◌, ℕ, Bool, not, nat_le, List, [], ◌∷◌, ◌++◌, length, filter, Option, None, is_some, Result, Ok, Err}
 use Rattle.std.specs.List.{list_any}
@@ -10,28 +10,30 @@ use Rattle.ring_node.specs.declared.charter.Charter.{Charter}
 use Rattle.ring_terms.specs.Object.{GroupView, Object, TermView, find, last_term, new_group, new_term}
 use Rattle.ring_terms.specs.Charters.{next_charter}
 
--- What a call that may change something answers: where a refusal holds it is answered and nothing
--- changes; else it is done.
-abbrev pub Answers : {A S : Type 0} → Option Refusal → Bool → S → Result A Refusal → S → (A → Type 0) → Type 0
+-- The answer of a call that may change something. If a refusal holds, it is answered and nothing
+-- changes; otherwise the call has its effect.
+abbrev pub Answers : {A S : Type 0} → Option Refusal → Bool → S → Result A Refusal → S
+    → (A → Type 0) → Type 0
 Answers first grows old (Ok a) new done = (first ≡ None) × done a
 Answers first grows old (Err refusal) new done = (new ≡ old) × IsRefusal first grows refusal
 
--- what a call that changes nothing answers
+-- the answer of a call that changes nothing
 abbrev pub Shows : {A : Type 0} → Option Refusal → Bool → Result A Refusal → (A → Type 0) → Type 0
 Shows first grows (Ok a) shown = (first ≡ None) × shown a
 Shows first grows (Err refusal) shown = IsRefusal first grows refusal
 
--- the refusals of a command on a group: no group has this name, then those that the group has
-abbrev pub in_group : {E : Type 0} → List ℕ → (GroupView E → Option Refusal) → Object E → Option Refusal
+-- the refusals of a command on a group: no group has this name, then those of the group
+abbrev pub in_group : {E : Type 0} → List ℕ → (GroupView E → Option Refusal) → Object E
+    → Option Refusal
 in_group name first object = unless_some (find name object) refused.NoGroup first
 
--- create: a group has this name; 256 groups stand
+-- create: a group has this name; there are 256 groups
 abbrev pub create_refusal : {E : Type 0} → List ℕ → Object E → Option Refusal
 create_refusal name object =
     refused_if (is_some (find name object)) refused.Exists
     (refused_if (nat_le 256 (length object)) refused.GroupLimit None)
 
--- join: its number is a member's, whatever that one weighs; 256 members stand
+-- join: its number is a member's, with any weight; there are 256 members
 abbrev pub join_refusal : {E : Type 0} → ℕ → GroupView E → Option Refusal
 join_refusal node group =
     refused_if (list_any (has_number node) group.members) refused.Member
@@ -39,7 +41,8 @@ join_refusal node group =
 
 -- leave: the number is no member's
 abbrev pub leave_refusal : {E : Type 0} → ℕ → GroupView E → Option Refusal
-leave_refusal node group = refused_if (not (list_any (is_numbered node) group.members)) refused.NotMember None
+leave_refusal node group =
+    refused_if (not (list_any (is_numbered node) group.members)) refused.NotMember None
 
 -- start: no members; 1000 terms were started
 abbrev pub start_refusal : {E : Type 0} → GroupView E → Option Refusal
@@ -59,7 +62,7 @@ who_refusal node group = unless_some (last_term group) refused.NoTerm (member_re
 abbrev pub running_refusal : {E : Type 0} → GroupView E → Option Refusal
 running_refusal group = unless_some (last_term group) refused.NoTerm (λ _. None)
 
--- a command on a group that nothing but the want of a group of this name refuses
+-- a command on a group that is refused only if no group has this name
 abbrev pub never_refused : {E : Type 0} → GroupView E → Option Refusal
 never_refused group = None
 
@@ -71,17 +74,19 @@ Creates name algorithm old new = new ≡ old ++ (name, new_group algorithm) ∷ 
 abbrev pub Joins : {E : Type 0} → ℕ → GroupView E → GroupView E → Type 0
 Joins node old new = new ≡ record old { members = old.members ++ node ∷ [] }
 
--- leave takes the member with this number out, and keeps the order of the rest
+-- leave removes the member with this number, and keeps the order of the rest
 abbrev pub Leaves : {E : Type 0} → ℕ → GroupView E → GroupView E → Type 0
-Leaves node old new = new ≡ record old { members = filter (λ member. not (is_numbered node member)) old.members }
+Leaves node old new =
+    new ≡ record old { members = filter (λ member. not (is_numbered node member)) old.members }
 
--- start adds a term with the next number, whose ring is the member list, with no leader and nobody
--- informed
+-- start adds a term with the next number; its ring is the member list, it has no leader, and no
+-- member is informed
 pub record Starts {E : Type 0} (number : ℕ) (old new : GroupView E) : Type 0 where
   pub numbered : number ≡ length old.terms + 1
   pub started : new ≡ record old { terms = old.terms ++ new_term old.members ∷ [] }
 
--- start answers the charter of the term that it adds
-pub record StartsWith {E : Type 0} (name : List ℕ) (charter : Charter E) (old new : GroupView E) : Type 0 where
+-- start returns the charter of the term that it adds
+pub record StartsWith {E : Type 0} (name : List ℕ) (charter : Charter E) (old new : GroupView E)
+    : Type 0 where
   pub chartered : charter ≡ next_charter name old
   pub starts : Starts charter.term old new

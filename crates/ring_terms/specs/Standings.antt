@@ -1,4 +1,4 @@
--- What the last term of a group says to a member.
+-- The standing of a member in the last term of a group.
 use Rattle.std.specs.Prelude.{◌≡◌, ℕ, true, false, length, Some, slice_get}
 use Rattle.ring_roster.specs.Ring.{position_of}
 use Rattle.ring_terms.specs.declared.standing.Standing.{Standing}
@@ -18,8 +18,7 @@ pub record IsUninformedIn (node : ℕ) (term : TermView) : Type 0 where
   pub placed : position_of node term.ring ≡ Some position
   pub uninformed : slice_get term.informed position ≡ Some false
 
--- the term with this number answers the leader to a member that is informed, and undecided to one
--- that is not
+-- the standing in the term with this number: its leader for an informed member, otherwise undecided
 abbrev pub TellsIn : ℕ → ℕ → Standing → TermView → Type 0
 TellsIn node number (Leader named leader) term = (named ≡ number) × IsInformedIn node leader term
 TellsIn node number (Undecided named) term = (named ≡ number) × IsUninformedIn node term
@@ -28,6 +27,6 @@ TellsIn node number (Undecided named) term = (named ≡ number) × IsUninformedI
 abbrev pub IsInformed : {E : Type 0} → ℕ → ℕ → GroupView E → Type 0
 IsInformed node leader group = OfLast (IsInformedIn node leader) group
 
--- who: what the last term of a group answers
+-- who: the standing in the last term of a group
 abbrev pub Tells : {E : Type 0} → ℕ → Standing → GroupView E → Type 0
 Tells node standing group = OfLast (TellsIn node (length group.terms) standing) group

@@ -25,8 +25,8 @@ const MOST_GROUPS: usize = 256;
 /// Algorithms, 3.1).
 ///
 /// Contracts see a book as the election object: groups in order of creation. Its type keeps the
-/// limits of 256 groups, 256 members of a group with different numbers and 1000 terms, and that a
-/// term's leader is the winner of its ring.
+/// limits of 256 groups, 256 members of a group with different numbers, and 1000 terms. It also
+/// keeps that a term's leader is the winner of its ring.
 #[derive(Drop)]
 pub struct Book<E: RingElection> {
     groups: IndexMap<GroupName, Group<E>>,
@@ -46,7 +46,7 @@ impl<E: RingElection> Model for Book<E> {
 }
 
 impl<E: RingElection> Book<E> {
-    /// A book without groups. Takes no memory.
+    /// Returns a book without groups. Does not allocate.
     pub fn new(alloc: Global) -> Book<E>
         ensures { result ≡ [] }
     {
@@ -55,7 +55,7 @@ impl<E: RingElection> Book<E> {
         }
     }
 
-    /// The number of groups, at most 256. Takes no memory. Its second clause is what every book keeps.
+    /// The number of groups, at most 256. Does not allocate. The second clause holds of every book.
     pub fn len(&self) -> usize
         ensures value { result ≡ length self.now }
         ensures kept { IsKept E.winner self.now }
@@ -63,8 +63,8 @@ impl<E: RingElection> Book<E> {
         self.groups.len()
     }
 
-    /// Adds a group last, without members or terms. Refused, the first that holds: `Exists` where a
-    /// group has this name, `GroupLimit` where 256 groups stand, `NoMemory`.
+    /// Adds a group last, without members or terms. Refused, the first that holds: `Exists` if a
+    /// group has this name, `GroupLimit` if there are 256 groups, `NoMemory`.
     pub fn create(&mut self, alloc: Global, group: GroupName, algorithm: E) -> Result<(), Refusal>
         ensures { Answers (create_refusal group self.old) true self.old result self.new
             (λ _. Creates group algorithm self.old self.new) }
@@ -82,11 +82,11 @@ impl<E: RingElection> Book<E> {
         Ok(())
     }
 
-    /// Adds a member last. Refused, the first that holds: `NoGroup`, `Member` where a member has this
-    /// identity's number, whatever the two weigh, `RingFull` where 256 members stand, `NoMemory`.
+    /// Adds a member last. Refused, the first that holds: `NoGroup`, `Member` if a member has this
+    /// identity's number with any weight, `RingFull` if there are 256 members, `NoMemory`.
     pub fn join(&mut self, group: GroupName, node: NodeId) -> Result<(), Refusal>
-        ensures { Answers (in_group group (join_refusal node) self.old) true self.old result self.new
-            (λ _. InGroup group (Joins node) self.old self.new) }
+        ensures { Answers (in_group group (join_refusal node) self.old) true self.old result
+            self.new (λ _. InGroup group (Joins node) self.old self.new) }
     {
         let Some(found) = self.groups.get_mut(&group) else {
             return Err(Refusal::NoGroup);
@@ -94,11 +94,11 @@ impl<E: RingElection> Book<E> {
         found.join(node)
     }
 
-    /// Takes the member with this number out, and keeps the order of the rest. Takes no memory.
-    /// Refused, the first that holds: `NoGroup`, `NotMember` where no member has it.
+    /// Removes the member with this number, and keeps the order of the rest. Does not allocate.
+    /// Refused, the first that holds: `NoGroup`, `NotMember` if no member has this number.
     pub fn leave(&mut self, group: GroupName, node: NodeNo) -> Result<(), Refusal>
-        ensures { Answers (in_group group (leave_refusal node) self.old) false self.old result self.new
-            (λ _. InGroup group (Leaves node) self.old self.new) }
+        ensures { Answers (in_group group (leave_refusal node) self.old) false self.old result
+            self.new (λ _. InGroup group (Leaves node) self.old self.new) }
     {
         let Some(found) = self.groups.get_mut(&group) else {
             return Err(Refusal::NoGroup);
@@ -106,7 +106,7 @@ impl<E: RingElection> Book<E> {
         found.leave(node)
     }
 
-    /// The charter that `start` would make now; nothing changes. Refused as `start` is.
+    /// Returns the charter that `start` would make now, and changes nothing. Refused as `start` is.
     pub fn plan(&self, alloc: Global, group: GroupName) -> Result<Arc<Charter<E>>, Refusal>
         ensures { Shows (in_group group start_refusal self.now) true result
             (λ c. OfGroup group (λ g. c.value ≡ next_charter group g) self.now) }
@@ -117,9 +117,9 @@ impl<E: RingElection> Book<E> {
         found.plan(alloc)
     }
 
-    /// Starts a term, whose ring is the member list in joining order, with no leader and nobody
-    /// informed, and gives its charter. Refused, the first that holds: `NoGroup`, `Empty` where there
-    /// are no members, `TermLimit` where 1000 terms were started, `NoMemory`.
+    /// Starts a term and returns its charter. Its ring is the member list in joining order, it has
+    /// no leader, and no member is informed. Refused, the first that holds: `NoGroup`, `Empty` if
+    /// there are no members, `TermLimit` if 1000 terms were started, `NoMemory`.
     pub fn start(&mut self, alloc: Global, group: GroupName) -> Result<Arc<Charter<E>>, Refusal>
         ensures { Answers (in_group group start_refusal self.old) true self.old result self.new
             (λ c. InGroup group (StartsWith group c.value) self.old self.new) }
@@ -130,13 +130,15 @@ impl<E: RingElection> Book<E> {
         found.start(alloc)
     }
 
-    /// Starts the term of a charter that `plan` gave, where nothing was done to its group since: its ring
-    /// is the charter's, with no leader and nobody informed. Refused for want of memory alone; nothing has
-    /// changed then.
+    /// Starts the term of a charter that `plan` returned, if its group has not changed since. Its
+    /// ring is the charter's, it has no leader, and no member is informed. `NoMemory` if an
+    /// allocation fails; nothing has changed then.
     pub fn start_planned(&mut self, alloc: Global, charter: Arc<Charter<E>>) -> Result<(), NoMemory>
         requires planned { OfGroup charter.value.group (λ g. (start_refusal g ≡ None)
             × (charter.value ≡ next_charter charter.value.group g)) self.old }
-        ensures started { OnOk result (InGroup charter.value.group (StartsWith charter.value.group charter.value) self.old self.new) }
+        ensures started { OnOk result
+            (InGroup charter.value.group (StartsWith charter.value.group charter.value) self.old
+            self.new) }
         ensures err { OnErr result (self.new ≡ self.old) }
     {
         let Some(found) = self.groups.get_mut(&charter.group()) else {
@@ -145,9 +147,9 @@ impl<E: RingElection> Book<E> {
         found.start_planned(alloc, charter)
     }
 
-    /// What the last term says to a member: its leader where that member is informed, else undecided.
-    /// Takes no memory. Refused, the first that holds: `NoGroup`, `NoTerm`, `NotInTerm` where no
-    /// member of the term's ring has this number.
+    /// The standing of a member in the last term: its leader if the member is informed, otherwise
+    /// undecided. Does not allocate. Refused, the first that holds: `NoGroup`, `NoTerm`,
+    /// `NotInTerm` if no member of the term's ring has this number.
     pub fn who(&self, group: GroupName, node: NodeNo) -> Result<Standing, Refusal>
         ensures { Shows (in_group group (who_refusal node) self.now) false result
             (λ s. OfGroup group (Tells node s) self.now) }
@@ -158,7 +160,7 @@ impl<E: RingElection> Book<E> {
         found.who(node)
     }
 
-    /// The charter of the last term. Takes no memory. Refused, the first that holds: `NoGroup`,
+    /// The charter of the last term. Does not allocate. Refused, the first that holds: `NoGroup`,
     /// `NoTerm`.
     pub fn running(&self, group: GroupName) -> Result<&Arc<Charter<E>>, Refusal>
         ensures { Shows (in_group group running_refusal self.now) false result
@@ -170,7 +172,8 @@ impl<E: RingElection> Book<E> {
         found.running()
     }
 
-    /// The members of a group in joining order. Refused, the first that holds: `NoGroup`, `NoMemory`.
+    /// The members of a group in joining order. Refused, the first that holds: `NoGroup`,
+    /// `NoMemory`.
     pub fn members(&self, alloc: Global, group: GroupName) -> Result<MemberList, Refusal>
         ensures { Shows (in_group group never_refused self.now) true result
             (λ list. OfGroup group (λ g. list ≡ g.members) self.now) }
@@ -181,7 +184,7 @@ impl<E: RingElection> Book<E> {
         found.members(alloc)
     }
 
-    /// The leader of each term of a group, or none, in order. Refused, the first that holds:
+    /// The leader of each term of a group, or `None`, in order. Refused, the first that holds:
     /// `NoGroup`, `NoMemory`.
     pub fn terms(&self, alloc: Global, group: GroupName) -> Result<TermList, Refusal>
         ensures { Shows (in_group group never_refused self.now) true result
@@ -193,7 +196,7 @@ impl<E: RingElection> Book<E> {
         found.terms(alloc)
     }
 
-    /// The names of all groups in order of creation. Refused for want of memory alone.
+    /// The names of all groups in order of creation. `NoMemory` if an allocation fails.
     pub fn groups(&self, alloc: Global) -> Result<GroupList, Refusal>
         ensures { Shows None true result (λ list. list ≡ names self.now) }
     {
@@ -203,8 +206,8 @@ impl<E: RingElection> Book<E> {
         Ok(GroupList::new(names))
     }
 
-    /// Where the group of this name stands in order of creation, from 0 on; none where no group has
-    /// this name. Takes no memory. Its second clause is what every book keeps.
+    /// The place of the group with this name in order of creation, from 0 on; `None` if no group
+    /// has it. Does not allocate. The second clause holds of every book.
     pub fn place(&self, group: GroupName) -> Option<usize>
         ensures value { result ≡ place_of group self.now }
         ensures kept { IsKept E.winner self.now }
@@ -212,7 +215,8 @@ impl<E: RingElection> Book<E> {
         self.groups.get_index_of(&group)
     }
 
-    /// The group at this place in order of creation, counted from 0; none past the last. Takes no memory.
+    /// The group at this place in order of creation, from 0 on; `None` past the last. Does not
+    /// allocate.
     pub fn group_at(&self, place: usize) -> Option<ShownGroup<'_, E>>
         ensures { result ≡ slice_get self.now place }
     {
@@ -222,9 +226,9 @@ impl<E: RingElection> Book<E> {
         Some(ShownGroup::new(*name, group))
     }
 
-    /// Files a report: the member is informed of the leader of the last term of its group. Takes no
-    /// memory. `Stale` exactly where the report's charter is not that of the last term of a group
-    /// here, else `Known` exactly where the member was informed already, else `Noted`.
+    /// Files a report: the member is informed of the leader of the last term of its group. Does not
+    /// allocate. `Stale` if the report's charter is not that of the last term of a group here.
+    /// Otherwise `Known` if the member was informed already, and `Noted` if not.
     pub fn note(&mut self, report: &Report<E>) -> Noting
         ensures { Notes E.is_greatest report.now self.old result self.new }
     {
@@ -234,10 +238,10 @@ impl<E: RingElection> Book<E> {
         found.note(report)
     }
 
-    /// Files what a report would tell: the member at this position of the ring of this charter, that of the last
-    /// term of the group at this place, knows the leader, who is the winner of that ring. Nothing of the charter
-    /// is read, and no name is looked up. Takes no memory, and constant time. `Known` exactly where the member
-    /// was informed already, else `Noted`.
+    /// Files the news that a member knows the leader, the winner of its ring. The charter is that
+    /// of the last term of the group at this place, and the member is at this position of its ring.
+    /// `Known` if the member was informed already, otherwise `Noted`. Does not allocate. No name is
+    /// looked up, and the charter is not read.
     pub fn inform(
         &mut self,
         place: usize,
@@ -249,7 +253,12 @@ impl<E: RingElection> Book<E> {
         requires running { running_in charter.now.group self.old ≡ Some charter.now }
         requires inside { position < length charter.now.roster }
         requires wins { leader ≡ E.winner charter.now.algorithm charter.now.roster }
-        ensures { Notes E.is_greatest (record { charter = charter.now; member = slice_index charter.now.roster position; leader = leader }) self.old result self.new }
+        ensures { Notes E.is_greatest
+            (record {
+              charter = charter.now;
+              member = slice_index charter.now.roster position;
+              leader = leader;
+            }) self.old result self.new }
     {
         let Some(found) = self.groups.get_index_mut(place) else {
             unreachable!()

@@ -30,7 +30,7 @@ impl<E: RingElection> Group<E> {
     ghost use Rattle.ring_terms.specs.Books.{group_view};
     ghost use Rattle.ring_terms.specs.private.Books.{IsGroupOf, NotesGroup};
 
-    /// A group without members or terms.
+    /// Returns a group without members or terms.
     pub(crate) fn new(alloc: Global, name: GroupName, algorithm: E) -> Group<E>
         ensures shown { group_view result ≡ new_group algorithm }
         ensures kept { IsGroupOf E.winner name result }
@@ -70,7 +70,7 @@ impl<E: RingElection> Group<E> {
         self.members.iter().any(|member| member.number() == node)
     }
 
-    /// Takes out the member with this number, and keeps the order of the rest.
+    /// Removes the member with this number, and keeps the order of the rest.
     pub(crate) fn leave(&mut self, node: NodeNo) -> Result<(), Refusal>
         requires { IsGroupOf E.winner self.old.name self.old }
         ensures answer { Answers (leave_refusal node (group_view self.old)) false
@@ -85,7 +85,7 @@ impl<E: RingElection> Group<E> {
         Ok(())
     }
 
-    /// The members.
+    /// A copy of the member list.
     pub(crate) fn members(&self, alloc: Global) -> Result<MemberList, Refusal>
         ensures { Shows (never_refused (group_view self.now)) true result
             (λ list. list ≡ (group_view self.now).members) }
@@ -103,14 +103,14 @@ impl<E: RingElection> Group<E> {
         self.algorithm
     }
 
-    /// The members in place.
+    /// The members.
     pub(crate) fn member_slice(&self) -> &[NodeId]
         ensures { result.now ≡ self.now.members.items }
     {
         &self.members
     }
 
-    /// The term with this place, counted from 0.
+    /// The term at this place, counted from 0.
     pub(crate) fn term_at(&self, place: usize) -> Option<&Term<E>>
         ensures { option_copied result ≡ slice_get self.now.terms.items place }
     {
@@ -150,7 +150,8 @@ impl<E: RingElection> Group<E> {
         Ok(charter)
     }
 
-    /// The ring of the members, of whom there are some; shared with the last term where that has the same.
+    /// The ring of the members, of whom there is at least one. It is the ring of the last term if
+    /// that has the same members.
     fn ring(&self, alloc: Global) -> Result<Roster, NoMemory>
         requires kept { IsGroupOf E.winner self.now.name self.now }
         requires some { 0 < length self.now.members.items }
@@ -164,7 +165,7 @@ impl<E: RingElection> Group<E> {
         }
     }
 
-    /// Starts a term, whose ring is the member list.
+    /// Starts a term on the ring of the members.
     pub(crate) fn start(&mut self, alloc: Global) -> Result<Arc<Charter<E>>, Refusal>
         requires { IsGroupOf E.winner self.old.name self.old }
         ensures answer { Answers (start_refusal (group_view self.old)) true
@@ -182,8 +183,8 @@ impl<E: RingElection> Group<E> {
         Ok(charter)
     }
 
-    /// Starts the term of this charter, which `plan` gave. Refused for want of memory alone; nothing
-    /// has changed then.
+    /// Starts the term of this charter, which `plan` returned. `NoMemory` if an allocation fails;
+    /// nothing has changed then.
     pub(crate) fn start_planned(
         &mut self,
         alloc: Global,
@@ -192,7 +193,8 @@ impl<E: RingElection> Group<E> {
         requires kept { IsGroupOf E.winner self.old.name self.old }
         requires allowed { start_refusal (group_view self.old) ≡ None }
         requires planned { charter.value ≡ next_charter self.old.name (group_view self.old) }
-        ensures started { OnOk result (StartsWith self.old.name charter.value (group_view self.old) (group_view self.new)) }
+        ensures started { OnOk result
+            (StartsWith self.old.name charter.value (group_view self.old) (group_view self.new)) }
         ensures err { OnErr result (group_view self.new ≡ group_view self.old) }
         ensures kept { IsGroupOf E.winner self.old.name self.new }
     {
@@ -203,7 +205,7 @@ impl<E: RingElection> Group<E> {
         Ok(())
     }
 
-    /// What the last term says to the member with this number.
+    /// The standing of the member with this number in the last term.
     pub(crate) fn who(&self, node: NodeNo) -> Result<Standing, Refusal>
         requires { IsGroupOf E.winner self.now.name self.now }
         ensures { Shows (who_refusal node (group_view self.now)) false result
@@ -227,7 +229,7 @@ impl<E: RingElection> Group<E> {
         Ok(term.charter())
     }
 
-    /// Takes note of a report.
+    /// Files a report.
     pub(crate) fn note(&mut self, report: &Report<E>) -> Noting
         requires { IsGroupOf E.winner self.old.name self.old }
         ensures notes { NotesGroup E.is_greatest self.old.name report.now
@@ -240,14 +242,19 @@ impl<E: RingElection> Group<E> {
         term.note(report)
     }
 
-    /// The member at this position of the ring of the last term, whose charter this is, knows its leader.
+    /// Files that the member at this position of the last term's ring knows its leader. The charter
+    /// is that of the last term.
     pub(crate) fn inform(&mut self, charter: &Charter<E>, position: usize, leader: NodeId) -> Noting
         requires kept { IsGroupOf E.winner self.old.name self.old }
         requires running { running_charter self.old.name (group_view self.old) ≡ Some charter.now }
         requires inside { position < length charter.now.roster }
         requires wins { leader ≡ E.winner charter.now.algorithm charter.now.roster }
-        ensures notes { NotesGroup E.is_greatest self.old.name (record { charter = charter.now; member = slice_index charter.now.roster position; leader = leader })
-            (group_view self.old) result (group_view self.new) }
+        ensures notes { NotesGroup E.is_greatest self.old.name
+            (record {
+              charter = charter.now;
+              member = slice_index charter.now.roster position;
+              leader = leader;
+            }) (group_view self.old) result (group_view self.new) }
         ensures kept { IsGroupOf E.winner self.old.name self.new }
     {
         let Some(term) = self.terms.last_mut() else {
@@ -257,9 +264,10 @@ impl<E: RingElection> Group<E> {
     }
 }
 
-/// Takes out the member with this number.
+/// Removes the member with this number.
 fn take_out(members: &mut Vec<NodeId>, node: NodeNo)
-    ensures { members.new.items ≡ filter (λ member. not (is_numbered node member)) members.old.items }
+    ensures { members.new.items
+        ≡ filter (λ member. not (is_numbered node member)) members.old.items }
 {
     members.retain(|member| member.number() != node);
 }

@@ -1,11 +1,12 @@
-//! The book of groups and terms: which groups there are, who their members are, and who leads each
-//! term.
+//! The book of groups and terms: the groups, their members, and the leader of each term.
 //!
 //! Contracts see a book as the election object: groups in order of creation, each with its
-//! algorithm, its members and its terms. A term freezes the member list as its ring; joins and leaves
-//! change the next term alone. A term's leader is the winner of its ring, is named once and stays. A
-//! member is informed by a report, or by a call whose caller proves what a report tells. A refusal
-//! changes nothing.
+//! algorithm, its members and its terms. A term freezes the member list as its ring, so joins and
+//! leaves change only the next term. A term's leader is the winner of its ring, is named once and
+//! stays.
+//!
+//! Filing a report informs its member. So does `inform`, whose caller proves that the leader is the
+//! ring's winner. A refusal changes nothing.
 #![tactic(auto)]
 
 mod book;

@@ -14,8 +14,8 @@ use std::alloc::Global;
 impl<E: RingElection> Book<E> {
     /// Carries out a client's command and returns its reply: one step of the election object.
     ///
-    /// A refused command changes nothing. The reply names the first refusal that holds. If none holds
-    /// and an allocation fails, the reply is `NoMemory`.
+    /// A refused command changes nothing. The reply names the first refusal that holds. If none
+    /// holds and an allocation fails, the reply is `NoMemory`.
     pub fn perform(&mut self, alloc: Global, command: Command<E>) -> Reply
         ensures { StepOf E.is_two_way E.is_greatest self.old command result self.new }
     {
@@ -43,7 +43,8 @@ impl<E: RingElection> Book<E> {
 
     // The reply with the members of a group.
     fn reply_with_members(&self, alloc: Global, group: GroupName) -> Reply
-        ensures { StepOf E.is_two_way E.is_greatest self.now (command.Members group) result self.now }
+        ensures { StepOf E.is_two_way E.is_greatest self.now (command.Members group) result
+            self.now }
     {
         match self.members(alloc, group) {
             Ok(members) => Reply::Members(members),
@@ -82,7 +83,7 @@ fn done(outcome: Result<(), Refusal>) -> Reply
     }
 }
 
-// The reply that tells a standing.
+// The reply that gives a standing.
 fn told(outcome: Result<Standing, Refusal>) -> Reply
     ensures { result ≡ told_reply outcome }
 {

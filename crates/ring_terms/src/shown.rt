@@ -1,4 +1,4 @@
-//! Groups and terms of a book, as their parts are read.
+//! Groups and terms of a book, read part by part.
 ghost use Rattle.std.specs.Prelude.{◌≡◌, slice_get};
 
 use crate::group::Group;
@@ -8,9 +8,9 @@ use ring_id::{GroupName, NodeId};
 use ring_roster::Roster;
 use std::marker::Model;
 
-/// A group of a book. Contracts see its name and the group.
+/// A group of a book. Contracts see its name and its view.
 ///
-/// No call takes memory.
+/// No call allocates.
 #[derive(Drop)]
 pub struct ShownGroup<'a, E: RingElection> {
     name: GroupName,
@@ -30,7 +30,7 @@ impl<'a, E: RingElection> Model for ShownGroup<'a, E> {
 impl<'a, E: RingElection> ShownGroup<'a, E> {
     ghost use Rattle.ring_terms.specs.Books.{group_view};
 
-    /// A group under its name.
+    /// Returns this group under its name.
     pub(crate) fn new(name: GroupName, group: &'a Group<E>) -> ShownGroup<'a, E>
         ensures { result ≡ (name, group_view group.now) }
     {
@@ -58,7 +58,7 @@ impl<'a, E: RingElection> ShownGroup<'a, E> {
         self.group.member_slice()
     }
 
-    /// Its term at this place, counted from 0; none past the last.
+    /// Its term at this place, counted from 0; `None` past the last.
     pub fn term_at(&self, place: usize) -> Option<ShownTerm<'a, E>>
         ensures { result ≡ slice_get self.now.1.terms place }
     {
@@ -67,10 +67,10 @@ impl<'a, E: RingElection> ShownGroup<'a, E> {
     }
 }
 
-/// A term of a group. Contracts see its ring, its leader or none, and for each position whether that
-/// member is informed.
+/// A term of a group. Contracts see its ring, its leader or `None`, and a flag for each position:
+/// whether that member is informed.
 ///
-/// No call takes memory.
+/// No call allocates.
 #[derive(Drop)]
 pub struct ShownTerm<'a, E: RingElection> {
     term: &'a Term<E>,
@@ -93,14 +93,14 @@ impl<'a, E: RingElection> ShownTerm<'a, E> {
         self.term.charter().roster()
     }
 
-    /// Its leader, or none.
+    /// Its leader; `None` if it has none.
     pub fn leader(&self) -> Option<NodeId>
         ensures { result ≡ self.now.leader }
     {
         self.term.leader()
     }
 
-    /// For each position of the ring whether that member is informed.
+    /// Whether each member is informed, by its position on the ring.
     pub fn informed(&self) -> &'a [bool]
         ensures { result.now ≡ self.now.informed }
     {

@@ -1,6 +1,6 @@
 use ring_id::{NodeId, TermNo};
 
-/// What the last term of a group says to one of its members.
+/// The standing of a member in the last term of a group.
 #[derive(Clone, Copy, Debug, PartialEq, Eq)]
 pub enum Standing {
     /// The member is informed: this is the leader of this term.
@@ -9,13 +9,13 @@ pub enum Standing {
     Undecided(TermNo),
 }
 
-/// What became of a report.
+/// The result of filing a report.
 #[derive(Clone, Copy, Debug, PartialEq, Eq)]
 pub enum Noting {
     /// The member was not informed, and now is.
     Noted,
     /// The member was informed already.
     Known,
-    /// The report is of no term that is the last of its group here.
+    /// The report's term is not the last term of its group here.
     Stale,
 }

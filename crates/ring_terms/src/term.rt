@@ -10,8 +10,8 @@ use ring_node::{Charter, Report};
 use std::alloc::Global;
 use std::sync::Arc;
 
-/// One term of a group: its charter, its leader or none, and for each position of its ring whether
-/// that member is informed.
+/// One term of a group: its charter, its leader or `None`, and for each position of its ring
+/// whether that member is informed.
 #[derive(Drop)]
 pub(crate) struct Term<E> {
     charter: Arc<Charter<E>>,
@@ -23,7 +23,7 @@ impl<E: RingElection> Term<E> {
     ghost use Rattle.ring_terms.specs.Books.{term_view};
     ghost use Rattle.ring_terms.specs.private.Books.{IsSound, NotesTerm};
 
-    /// The term of this charter with no leader and nobody informed.
+    /// Returns the term of this charter, with no leader and no member informed.
     pub(crate) fn begin(alloc: Global, charter: Arc<Charter<E>>) -> Result<Term<E>, NoMemory>
         ensures charter { IfOk result (λ t. t.charter ≡ charter) }
         ensures fresh { IfOk result (λ t. term_view t ≡ new_term charter.value.roster) }
@@ -45,21 +45,21 @@ impl<E: RingElection> Term<E> {
         &self.charter
     }
 
-    /// The leader of this term, or none.
+    /// The leader of this term; `None` if it has none.
     pub(crate) fn leader(&self) -> Option<NodeId>
         ensures { result ≡ self.now.leader }
     {
         self.leader
     }
 
-    /// For each position whether that member is informed.
+    /// Whether each member is informed, by its position.
     pub(crate) fn informed(&self) -> &[bool]
         ensures { result.now ≡ self.now.informed.items }
     {
         &self.informed
     }
 
-    /// What this term says to the member with this number.
+    /// The standing of the member with this number in this term.
     pub(crate) fn who(&self, node: NodeNo) -> Result<Standing, Refusal>
         requires { IsSound E.winner self.now }
         ensures { Shows (member_refusal node (term_view self.now)) false result
@@ -75,7 +75,7 @@ impl<E: RingElection> Term<E> {
         }
     }
 
-    /// Takes note of a report.
+    /// Files a report.
     pub(crate) fn note(&mut self, report: &Report<E>) -> Noting
         requires { IsSound E.winner self.old }
         ensures notes { NotesTerm E.is_greatest report.now self.old result self.new }
@@ -87,12 +87,19 @@ impl<E: RingElection> Term<E> {
         self.inform(report.position(), report.leader())
     }
 
-    /// The member at this position knows its leader, the winner of the ring.
+    /// Files that the member at this position knows the leader, the winner of the ring.
     pub(crate) fn inform(&mut self, position: usize, leader: NodeId) -> Noting
         requires sound { IsSound E.winner self.old }
         requires inside { position < length self.old.charter.value.roster }
-        requires wins { leader ≡ E.winner self.old.charter.value.algorithm self.old.charter.value.roster }
-        ensures notes { NotesTerm E.is_greatest (record { charter = self.old.charter.value; member = slice_index self.old.charter.value.roster position; leader = leader }) self.old result self.new }
+        requires wins { leader
+            ≡ E.winner self.old.charter.value.algorithm self.old.charter.value.roster }
+        ensures notes { NotesTerm E.is_greatest
+            (record {
+              charter = self.old.charter.value;
+              member = slice_index self.old.charter.value.roster position;
+              leader = leader;
+            })
+            self.old result self.new }
         ensures kept { IsSound E.winner self.new }
     {
         if self.informed[position] {

@@ -1,4 +1,4 @@
--- What the types of a book, a group and a term keep, and what inner functions say of them.
+-- The invariants of a book, a group and a term, and the words of their inner functions.
 use Rattle.std.specs.Prelude.{◌≡◌, ◌+◌, ◌≤◌, ℕ, Bool, false, List, length, Some, slice_get}
 use Rattle.std.specs.Map.{lookup}
 use Rattle.std.specs.Str.{bytes_eq}
@@ -16,42 +16,58 @@ use Rattle.ring_terms.specs.Moves.{Informs, InformsIn}
 use Rattle.ring_terms.specs.Standings.{IsInformed, IsInformedIn}
 use Rattle.ring_terms.specs.Books.{term_view}
 
--- what is so of a term as it is stored
+-- the facts about a term as it is stored
 abbrev pub IsSound : {E : Type 0} → (E → List ℕ → ℕ) → Term E → Type 0
 IsSound winner t = IsTermKept (winner t.charter.value.algorithm) (term_view t)
 
--- what filing a report does to the last term of its group
+-- the effect of filing a report on the last term of its group
 abbrev pub NotesTerm : {E : Type 0} → (E → Bool) → Told E → Term E → Noting → Term E → Type 0
 NotesTerm greatest report old Noted new =
-    (old.charter.value ≡ report.charter)
-    × (new.charter ≡ old.charter)
-    × InformsIn (greatest report.charter.algorithm) (number_of report.member) report.leader (term_view old) (term_view new)
+    (old.charter.value ≡ report.charter) × (new.charter ≡ old.charter)
+    × InformsIn (greatest report.charter.algorithm) (number_of report.member) report.leader
+    (term_view old) (term_view new)
 NotesTerm greatest report old Known new =
-    (old.charter.value ≡ report.charter) × (new ≡ old) × IsInformedIn (number_of report.member) report.leader (term_view old)
+    (old.charter.value ≡ report.charter) × (new ≡ old)
+    × IsInformedIn (number_of report.member) report.leader (term_view old)
 NotesTerm greatest report old Stale new = (old.charter.value ≡ report.charter → ⊥) × (new ≡ old)
 
--- what filing a report does to a group of this name
-abbrev pub NotesGroup : {E : Type 0} → (E → Bool) → List ℕ → Told E → GroupView E → Noting → GroupView E → Type 0
+-- the effect of filing a report on a group with this name
+abbrev pub NotesGroup : {E : Type 0} → (E → Bool) → List ℕ → Told E → GroupView E → Noting
+    → GroupView E → Type 0
 NotesGroup greatest name report old Noted new =
-    (running_charter name old ≡ Some report.charter) × Informs (greatest report.charter.algorithm) (number_of report.member) report.leader old new
+    (running_charter name old ≡ Some report.charter)
+    × Informs (greatest report.charter.algorithm) (number_of report.member) report.leader old new
 NotesGroup greatest name report old Known new =
-    (running_charter name old ≡ Some report.charter) × (new ≡ old) × IsInformed (number_of report.member) report.leader old
-NotesGroup greatest name report old Stale new = (running_charter name old ≡ Some report.charter → ⊥) × (new ≡ old)
+    (running_charter name old ≡ Some report.charter) × (new ≡ old)
+    × IsInformed (number_of report.member) report.leader old
+NotesGroup greatest name report old Stale new =
+    (running_charter name old ≡ Some report.charter → ⊥) × (new ≡ old)
 
 -- a term of this group: its charter has the group's name and algorithm and this number
-pub record IsTermOf {E : Type 0} (winner : E → List ℕ → ℕ) (name : List ℕ) (algorithm : E) (number : ℕ) (t : Term E) : Type 0 where
-  pub chartered : t.charter.value ≡ record { group = name; term = number; algorithm = algorithm; roster = t.charter.value.roster }
+pub record IsTermOf {E : Type 0} (winner : E → List ℕ → ℕ) (name : List ℕ) (algorithm : E)
+    (number : ℕ) (t : Term E) : Type 0 where
+  pub chartered : t.charter.value
+      ≡ record {
+        group = name;
+        term = number;
+        algorithm = algorithm;
+        roster = t.charter.value.roster;
+      }
   pub kept : IsSound winner t
 
 -- a group under this name
-pub record IsGroupOf {E : Type 0} (winner : E → List ℕ → ℕ) (name : List ℕ) (g : Group E) : Type 0 where
+pub record IsGroupOf {E : Type 0} (winner : E → List ℕ → ℕ) (name : List ℕ) (g : Group E)
+    : Type 0 where
   pub named : g.name ≡ name
   pub few : length g.members.items ≤ 256
   pub distinct : has_repeat g.members.items ≡ false
   pub short : length g.terms.items ≤ 1000
-  pub each : (n : ℕ) (t : Term E) → slice_get g.terms.items n ≡ Some t → IsTermOf winner name g.algorithm (n + 1) t
+  pub each : (n : ℕ) (t : Term E) → slice_get g.terms.items n ≡ Some t
+      → IsTermOf winner name g.algorithm (n + 1) t
 
 -- a book's entries
-pub record IsBook {E : Type 0} (winner : E → List ℕ → ℕ) (entries : List (List ℕ × Group E)) : Type 0 where
+pub record IsBook {E : Type 0} (winner : E → List ℕ → ℕ) (entries : List (List ℕ × Group E))
+    : Type 0 where
   pub few : length entries ≤ 256
-  pub each : (name : List ℕ) (g : Group E) → lookup (bytes_eq name) entries ≡ Some g → IsGroupOf winner name g
+  pub each : (name : List ℕ) (g : Group E) → lookup (bytes_eq name) entries ≡ Some g
+      → IsGroupOf winner name g

@@ -1,4 +1,4 @@
--- What stays is what has another number.
+-- The members that stay are those with another number.
 use Rattle.std.proofs.Common.{not, rules}
 use Rattle.std.proofs.lemmas.Fn.{filter_same}
 use Rattle.ring_roster.specs.Ring.{is_numbered}

@@ -1,4 +1,4 @@
--- A term that is undecided is told as undecided.
+-- The reply for an undecided term says that it is undecided.
 use Rattle.std.proofs.Common.{refl}
 use Rattle.ring_terms.proofs.perform.said.Goals as goal
 

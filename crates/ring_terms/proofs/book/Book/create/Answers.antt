@@ -1,4 +1,4 @@
--- When a group may be created, and that it then stands last.
+-- A group may be created, and it is the last one then.
 use Rattle.std.proofs.Common.{sym, ap, ◌∙◌, arith, refl}
 use Rattle.std.specs.Map.{lookup}
 use Rattle.std.specs.Str.{bytes_eq}

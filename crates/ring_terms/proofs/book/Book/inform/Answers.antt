@@ -1,4 +1,4 @@
--- What informing a member does to the group at the place of its name.
+-- Informing a member changes the group at the place of its name.
 use Rattle.std.proofs.Common.{◌≡◌, sym, subst, ◌∙◌}
 use Rattle.std.specs.Prelude.{Some}
 use Rattle.std.specs.Str.{bytes_eq}

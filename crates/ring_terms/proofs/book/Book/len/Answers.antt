@@ -1,4 +1,4 @@
--- What the type keeps, said of what the book shows.
+-- The facts that the type keeps hold of the view of the book.
 use Rattle.ring_terms.proofs.BookFacts.{object_kept}
 use Rattle.ring_terms.proofs.book.Book.len.Goals as goal
 

@@ -1,4 +1,4 @@
--- What the report does to the group that is found.
+-- The report changes the group that is found.
 use Rattle.std.proofs.Common.{◌≡◌, sym, ap, subst, ◌∙◌}
 use Rattle.std.specs.Prelude.{None}
 use Rattle.ring_terms.specs.Books.{object_view}

@@ -1,4 +1,4 @@
--- What the group that is found shows.
+-- The result is a fact about the group that is found.
 use Rattle.std.proofs.Common.{◌≡◌, sym}
 use Rattle.ring_terms.specs.Charters.{next_charter}
 use Rattle.ring_terms.proofs.BookFacts.{found_in, group_shows, missing_in, no_group}

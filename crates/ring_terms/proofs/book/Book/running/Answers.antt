@@ -1,4 +1,4 @@
--- What the group that is found shows.
+-- The result is a fact about the group that is found.
 use Rattle.std.proofs.Common.{◌≡◌, sym}
 use Rattle.std.specs.Prelude.{Some}
 use Rattle.ring_terms.specs.Charters.{running_charter}

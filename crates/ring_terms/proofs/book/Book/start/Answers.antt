@@ -1,4 +1,4 @@
--- What the command does to the group that is found.
+-- The command changes the group that is found.
 use Rattle.std.proofs.Common.{sym, ap, ◌∙◌}
 use Rattle.ring_terms.specs.Books.{object_view}
 use Rattle.ring_terms.specs.Commands.{StartsWith}

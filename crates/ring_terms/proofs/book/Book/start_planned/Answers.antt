@@ -1,4 +1,4 @@
--- What the term of a planned charter does to the group of that charter, which is there.
+-- The term of a planned charter changes the group of that charter, which is there.
 use Rattle.std.proofs.Common.{sym, ap, subst, ◌∙◌}
 use Rattle.std.specs.Prelude.{OnOk}
 use Rattle.ring_terms.specs.Books.{object_view}

@@ -1,4 +1,4 @@
--- What informing a member does to the last term, which is of this charter, is what it does to the group.
+-- Informing a member of the last term, which is of this charter, informs it in the group.
 use Rattle.std.proofs.Common.{◌≡◌, ◌-◌, ◌<◌, refl, sym, ap, ◌∙◌, slice_set, subst, arith, length}
 use Rattle.std.specs.Prelude.{slice_index, vec_len}
 use Rattle.std.proofs.lemmas.Bool.{false≢true}

@@ -1,4 +1,4 @@
--- What filing a report does to the last term is what it does to the group.
+-- Filing a report in the last term files it in the group.
 use Rattle.std.proofs.Common.{◌-◌, refl, ap, slice_set}
 use Rattle.ring_terms.proofs.GroupFacts.{last_kept, last_notes, last_read, last_sound}
 use Rattle.ring_terms.proofs.group.Group.note.Goals as goal

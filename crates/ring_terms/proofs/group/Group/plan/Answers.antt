@@ -1,4 +1,4 @@
--- The next charter, where there are members and one more term is allowed.
+-- The next charter, if there are members and one more term is allowed.
 use Rattle.std.proofs.Common.{◌≡◌, ◌+◌, ◌<◌, ◌==◌, false, length, vec_len, ap, refl, sym, ◌∙◌, arith}
 use Rattle.std.proofs.lemmas.List.{length-map}
 use Rattle.ring_terms.specs.Books.{group_view, term_view}

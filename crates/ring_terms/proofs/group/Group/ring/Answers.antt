@@ -1,4 +1,4 @@
--- The last term's ring is shared where it is the ring of the members.
+-- The last term's ring is shared if it is the ring of the members.
 use Rattle.std.proofs.Common.{◌≡◌, ◌∙◌, ℕ, List, IfOk, ap, rules, subst}
 use Rattle.ring_node.specs.declared.charter.Charter.{Charter}
 use Rattle.ring_terms.proofs.group.Group.ring.Goals as goal

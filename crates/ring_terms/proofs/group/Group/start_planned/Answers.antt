@@ -1,4 +1,4 @@
--- One more term, of the charter that was planned; or none, where there was no memory for it.
+-- One more term, of the planned charter; none if an allocation failed.
 use Rattle.std.proofs.Common.{◌≡◌, [], ◌∷◌, ◌++◌, map, refl, sym, ◌∙◌, ap, arith}
 use Rattle.std.proofs.lemmas.List.{length-map, length_push, map_push}
 use Rattle.ring_terms.specs.Books.{group_view, term_view}

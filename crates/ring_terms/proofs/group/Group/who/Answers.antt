@@ -1,4 +1,4 @@
--- What the last term says is what the group says.
+-- The standing in the last term is the standing in the group.
 use Rattle.std.proofs.Common.{rules}
 use Rattle.ring_terms.proofs.GroupFacts.{last_sound, last_tells}
 use Rattle.ring_terms.proofs.group.Group.who.Goals as goal

@@ -1,4 +1,4 @@
--- A member is told the leader where its mark is set; where there is no leader, no mark is.
+-- A member gets the leader if its mark is set. If there is no leader, no mark is set.
 use Rattle.std.proofs.Common.{◌≡◌, ◌<◌, false, true, length, refl, arith}
 use Rattle.std.specs.Prelude.{Some, slice_get}
 use Rattle.std.proofs.lemmas.List.Quantifiers.{position-Some}
