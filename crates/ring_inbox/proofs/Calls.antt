@@ -1,4 +1,4 @@
--- The moves of a pass, as the calls ask for them: each is of a view that is known to be a sender's,
+-- The moves of a pass, as the calls ask for them. Each is of a view that is known to be a sender's,
 -- the receiver's, or both.
 use Rattle.std.proofs.Common.{◌≡◌, ℕ, ◌+◌, ◌<◌, ◌≤◌, List, [], ◌∷◌, ◌++◌, length, sym, refl, ap, ◌∙◌, subst, arith}
 use Rattle.std.proofs.lemmas.List.Elements.{All-push}

@@ -1,4 +1,4 @@
--- What the look of a call that does not store or take says of the inbox.
+-- The look of a call that does not store or take gives a fact about the inbox.
 use Rattle.std.proofs.Common.{◌≡◌, ℕ, ◌+◌, ◌≤◌, List, [], ◌∷◌, length, refl, ap, ◌∙◌, subst, arith}
 use Rattle.crossbeam_channel.specs.Fifo.{Held}
 use Rattle.ring_inbox.specs.declared.rule.Known.{Known}
@@ -39,6 +39,6 @@ module _ {T : Type 0} where
     empty = held.2.queue_is ∙ none_of_length held.0 held.1;
   }
 
-  -- and it says that all that was heard was taken
+  -- and it says that the receiver has taken all items that it heard of
   pub taken_all : (v : Known T) → Held 0 (ReceiverSees v) → HaveStored (λ p. items_of p v.taken) v.heard
   taken_all v held = held.2.all (none_of_length held.0 held.1)

@@ -1,4 +1,4 @@
--- Each move of a pass keeps the rule of the inbox, and tells what its call answers.
+-- Each move of a pass keeps the rule of the inbox, and gives the fact that its call claims.
 use Rattle.std.proofs.Common.{◌≡◌, ◌≢◌, ◌==◌, ℕ, ◌+◌, ◌<◌, ◌≤◌, Bool, true, false, true≢false, if◌then◌else◌, List, [], ◌∷◌, ◌++◌, length, set, sym, refl, ap, ◌∙◌, subst, ⊎_elim, eq-eqb, ne_eqb, lt_of_not-le, length-append, arith}
 use Rattle.std.proofs.lemmas.List.Elements.{All-nil}
 use mathlib.Core.Option.{some}
@@ -16,15 +16,15 @@ no_role : {A : Type 0} → false ≡ true → A
 no_role is = absurd (true≢false (sym is))
 
 module _ {T : Type 0} where
-  -- whatever the ledger, a pass that is used no more knows nothing
+  -- in any ledger, a pass that is no longer used knows nothing
   fits_nobody : (ledger : Ledger T) (pass : ℕ) → Fits ledger pass nobody
   fits_nobody ledger pass = record { sends = no_role; gets = no_role }
 
-  -- what a sender's pass knows is so where it is that sender's
+  -- the knowledge of a sender's pass is true if it is that sender's
   fits_sender : (ledger : Ledger T) (pass capacity senders number : ℕ) (stored : List T) (seen : ℕ) → IsSender ledger pass (sender capacity senders number stored seen) → Fits ledger pass (sender capacity senders number stored seen)
   fits_sender ledger pass capacity senders number stored seen is = record { sends = λ _. is; gets = no_role }
 
-  -- what the receiver's pass knows is so where it is the receiver's
+  -- the knowledge of the receiver's pass is true if it is the receiver's
   fits_receiver : (ledger : Ledger T) (pass capacity senders made : ℕ) (taken : List (ℕ × T)) (heard : List (ℕ × ℕ)) → IsReceiver ledger pass (receiver capacity senders made taken heard) → Fits ledger pass (receiver capacity senders made taken heard)
   fits_receiver ledger pass capacity senders made taken heard is = record { sends = no_role; gets = λ _. is }
 
@@ -40,7 +40,7 @@ module _ {T : Type 0} where
       let none : 0 ≡ length (items_of p h.ledger.taken ++ x ∷ items_of p queue) = ap length front in
       omega (arith, none, length-append (items_of p h.ledger.taken) (x ∷ items_of p queue)))
 
-  -- where no sender was made, the queue is empty
+  -- if no sender was made, the queue is empty
   empty_before_senders : (queue : List (ℕ × T)) (views : List (Known T)) → (h : Holds queue views) → h.ledger.made ≡ 0 → queue ≡ []
   empty_before_senders [] views h none = refl
   empty_before_senders (m ∷ queue) views h none = absurd (let made : m.0 < h.ledger.made = front_is_made m.0 m.1 queue views h in omega arith)
@@ -300,8 +300,8 @@ module _ {T : Type 0} where
         fits = each_after_push (Fits ledger) old (receiver capacity senders made taken hears) (each_after_set (Fits ledger) views pass left here others) new;
       }
 
-  -- a pass that took in the receiver's learns that what was taken of the sender is a prefix of what
-  -- it stored, and how much is left
+  -- A pass that took in the receiver's learns that the items taken of the sender are a prefix of
+  -- those it stored. It also learns how many are left.
   pub compares : (pass capacity senders number : ℕ) (stored : List T) (seen made : ℕ) (taken : List (ℕ × T)) (heard : List (ℕ × ℕ))
       → Learns Holds pass (met capacity senders number stored seen made taken heard) (λ _. Compares (met capacity senders number stored seen made taken heard))
   compares pass capacity senders number stored seen made taken heard queue views h at =

@@ -5,32 +5,31 @@ use Rattle.ring_inbox.specs.Inbox.{Moment, IsLegal, IsSenderAt, IsReceiverAt, it
 use Rattle.ring_inbox.specs.private.Rule.{HaveStored}
 
 module _ {T : Type 0} where
-  -- whether one item stands before a list, and whether another stands behind it, make no difference
-  -- to each other
+  -- an item before a list and an item after it make no difference to each other
   before_and_behind : (b c : Bool) (y x : T) (l : List T) → (if b then y ∷ (if c then l ++ x ∷ [] else l) else (if c then l ++ x ∷ [] else l)) ≡ (if c then (if b then y ∷ l else l) ++ x ∷ [] else (if b then y ∷ l else l))
   before_and_behind true true y x l = refl
   before_and_behind true false y x l = refl
   before_and_behind false true y x l = refl
   before_and_behind false false y x l = refl
 
-  -- of the numbered items and one more behind them, a sender's are those that it had, and that one
-  -- if it is its own
+  -- Numbered items and one more after them: a sender's are those that it had, and that one if it is
+  -- its own.
   pub items_of-push : (sender p : ℕ) (x : T) (ms : List (ℕ × T)) → items_of sender (ms ++ (p, x) ∷ []) ≡ (if p == sender then items_of sender ms ++ x ∷ [] else items_of sender ms)
   items_of-push sender p x [] = refl
   items_of-push sender p x (m ∷ ms) = ap (λ (l : List T). (if m.0 == sender then m.1 ∷ l else l)) (items_of-push sender p x ms) ∙ before_and_behind (m.0 == sender) (p == sender) m.1 x (items_of sender ms)
 
-  -- what was stored stays what was taken and then what the queue holds, where an item joins at the
-  -- back, or is of another sender
+  -- Stored items stay the taken ones and then those in the queue, if an item joins at the back or
+  -- is of another sender.
   joins_at_back : (b : Bool) (stored taken queue : List T) (x : T) → stored ≡ taken ++ queue → (if b then stored ++ x ∷ [] else stored) ≡ taken ++ (if b then queue ++ x ∷ [] else queue)
   joins_at_back true stored taken queue x e = ap (λ (l : List T). l ++ x ∷ []) e ∙ append_assoc taken queue (x ∷ [])
   joins_at_back false stored taken queue x e = e
 
-  -- the same where an item goes from the queue's front to what was taken
+  -- the same if an item goes from the front of the queue to those taken
   leaves_at_front : (b : Bool) (stored taken queue : List T) (x : T) → stored ≡ taken ++ (if b then x ∷ queue else queue) → stored ≡ (if b then taken ++ x ∷ [] else taken) ++ queue
   leaves_at_front true stored taken queue x e = e ∙ sym (append_assoc taken (x ∷ []) queue)
   leaves_at_front false stored taken queue x e = e
 
-  -- where there is room, an inbox stays legal when a sender stores
+  -- if there is room, an inbox stays legal when a sender stores
   pub legal_after_store : (capacity sender : ℕ) (x : T) (now : Moment T) → IsLegal capacity now → length now.queue < capacity → IsLegal capacity (after_store sender x now)
   legal_after_store capacity sender x now legal room = record {
     in_order = λ p. joins_at_back (sender == p) (now.stored p) (items_of p now.taken) (items_of p now.queue) x (legal.in_order p) ∙ ap (λ (l : List T). items_of p now.taken ++ l) (sym (items_of-push p sender x now.queue));
@@ -60,11 +59,11 @@ module _ {T : Type 0} where
       longer true l = omega (arith, length-append l (x ∷ []))
       longer false l = le_refl _
 
-  -- what was heard stays so where each sender has as many items or more
+  -- a heard number stays true if each sender has as many items or more
   pub have_stored_more : (heard : List (ℕ × ℕ)) (old new : ℕ → List T) → ((p : ℕ) → length (old p) ≤ length (new p)) → HaveStored old heard → HaveStored new heard
   have_stored_more heard old new more all k d lt = le_trans (all k d lt) (more (slice_index_or heard k d).0)
 
-  -- where the queue is empty, all that was heard to be stored was taken
+  -- if the queue is empty, all items were taken that the receiver heard to be stored
   pub all_taken_if_empty : (capacity senders : ℕ) (taken : List (ℕ × T)) (heard : List (ℕ × ℕ)) (now : Moment T) → IsReceiverAt capacity senders taken heard now → now.queue ≡ []
       → HaveStored (λ p. items_of p taken) heard
   all_taken_if_empty capacity senders taken heard now is none =

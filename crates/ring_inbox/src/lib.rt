@@ -1,17 +1,17 @@
 //! Inboxes: a bounded queue with one receiver and numbered senders, for items of any type.
 //!
-//! In every schedule, what a sender stored is what was taken of it, followed by what the queue
-//! holds of it, in order. The queue never holds more than its capacity. Each call that stores or
-//! takes an item says which step of such an inbox it made. Each call that returns `Full`, `Empty`
-//! or `Closed` says that there was a moment at which the queue was full or empty.
+//! In every schedule, the items that a sender stored are those taken of it, followed by those that
+//! the queue has of it, in order. The queue never has more items than its capacity. A call that
+//! stores or takes an item says which step of such an inbox it made. A call that returns `Full`,
+//! `Empty` or `Closed` says that there was a moment at which the queue was full or empty.
 //!
-//! Another thread may change the queue before a call returns, so of the queue a clause claims such
-//! a moment and no more. A pass that has heard another one knows more. `Empty` and `Closed` come
-//! only after all is taken that the receiver heard to be stored. The only sender of an inbox gets
-//! `Full` only if it has stored at least `capacity` items more than it heard to be taken.
+//! Another thread may change the queue before a call returns, so a clause claims of the queue only
+//! such a moment. A pass that has heard another one knows more. `Empty` and `Closed` come only
+//! after the receiver has taken all items that it heard to be stored. The only sender of an inbox
+//! gets `Full` only if it has stored at least `capacity` items more than it heard to be taken.
 //!
-//! Nothing is claimed of an order between two senders, nor of when `Gone` comes, nor that an item
-//! arrives, nor that a call returns.
+//! No clause claims an order between two senders, when `Gone` comes, that an item arrives, or that
+//! a call returns.
 #![tactic(auto)]
 
 mod opening;

@@ -1,4 +1,4 @@
-//! How an inbox is made: its channel, its capacity, and its senders.
+//! Making an inbox: its channel, its capacity, and its senders.
 ghost use Rattle.std.specs.Prelude.{◌≡◌, ◌<◌, [], map, IfOk};
 ghost use Rattle.std.specs.List.{range_with_len};
 ghost use Rattle.crossbeam_channel.specs.Claims.{view, IsSeatAt};
@@ -12,10 +12,10 @@ use crossbeam_channel::{Pass, RuledSender, bounded_with};
 use std::alloc::{AllocError, Global};
 use std::marker::Brand;
 
-/// Returns the receiver and the `senders` senders, numbered from 0, of an empty inbox that holds at
-/// most `capacity` items. Both numbers are at least 1. From each sender to the receiver it is a
-/// reliable FIFO channel (Lynch, Distributed Algorithms, 14.1.2), but all senders share one queue.
-/// Fails only if an allocation fails.
+/// Returns the receiver and the `senders` senders, numbered from 0, of an empty inbox for at most
+/// `capacity` items. Both numbers are at least 1. From each sender to the receiver it is a reliable
+/// FIFO channel (Lynch, Distributed Algorithms, 14.1.2), but all senders share one queue. Fails
+/// only if an allocation fails.
 pub fn inbox<T: Drop>(
     alloc: Global,
     capacity: usize,
@@ -25,7 +25,8 @@ pub fn inbox<T: Drop>(
     requires senders { 0 < senders }
     ensures capacity { IfOk result (λ r. r.0.inbox.capacity ≡ capacity) }
     ensures receiver { IfOk result (λ r. (r.0.senders ≡ senders) × (r.0.taken ≡ [])) }
-    ensures senders { IfOk result (λ r. r.1.items ≡ map (fresh_sender r.0.inbox) (range_with_len 0 senders)) }
+    ensures senders { IfOk result
+        (λ r. r.1.items ≡ map (fresh_sender r.0.inbox) (range_with_len 0 senders)) }
     ensures places { IfOk result (λ r. r.0.inbox.senders ≡ senders) }
     ensures heard { IfOk result (λ r. r.0.heard ≡ []) }
 {
@@ -45,7 +46,8 @@ pub fn inbox<T: Drop>(
     Ok((ReceiverPass { from, pass }, all))
 }
 
-// Writes the capacity, and how many senders there will be, into what the receiver's pass knows.
+// Writes the capacity, and the number of senders there will be, into the knowledge of the
+// receiver's pass.
 fn size<K: Room, T: Drop>(
     to: &RuledSender<(usize, T), Known<T>, InOrder>,
     pass: &mut Pass<(usize, T), Known<T>>,

@@ -1,4 +1,5 @@
-//! What each pass of an inbox knows, the rule that keeps it true, and the steps under that rule.
+//! The knowledge of each pass of an inbox, the rule that keeps it true, and the steps under that
+//! rule.
 
 ghost use Rattle.std.specs.Prelude.{ℕ};
 
@@ -6,10 +7,11 @@ use crossbeam_channel::protocol::{Join, Lesson, Outcome, Protocol, Split};
 use std::collections::LinkedList;
 use std::marker::{Brand, PhantomData};
 
-// What a pass knows: whether it may send or receive, how many items the inbox holds at most, and
-// how many senders it has in the end. Of a sender: its number, what it stored, and how many items
-// it heard that the receiver took. Of the receiver: how many senders it has made, what it took, and
-// how many items it heard that a sender stored. No value of it is made.
+// The knowledge of a pass: whether it may send or receive, the most items of the inbox, and the
+// number of its senders in the end. A sender knows its number, the items that it stored, and how
+// many items it heard that the receiver took. The receiver knows how many senders it has made, and
+// the items that it took. It also knows how many items it heard that each sender stored. No value
+// of this type is made.
 pub struct Known<T> {
     pub sends: bool,
     pub gets: bool,
@@ -36,8 +38,8 @@ impl<T> Protocol<(usize, T), Known<T>> for InOrder {
     ghost first = { receiver 0 0 0 [] [] };
 }
 
-// How many items an inbox holds at most, and how many senders it has. The call that makes the inbox
-// picks both.
+// The most items of an inbox, and the number of its senders. The call that makes the inbox picks
+// both.
 pub trait Room {
     ghost capacity: { ℕ };
 
@@ -61,7 +63,7 @@ impl<T, K: Room> Split<Known<T>> for Sizes<K> {
     ghost right = { λ v. nobody };
 }
 
-// The step by which the receiver makes one sender more.
+// The step by which the receiver makes one more sender.
 pub struct Makes;
 
 impl<T> Split<Known<T>> for Makes {
@@ -73,14 +75,15 @@ impl<T> Split<Known<T>> for Makes {
     ghost right = { λ v. sender v.capacity v.senders v.made [] 0 };
 }
 
-// The steps by which a sender takes in what the receiver knows, compares, and gives it back.
+// The steps by which a sender takes in the receiver's knowledge, compares, and gives it back.
 pub struct Meets;
 
 impl<T> Join<Known<T>> for Meets {
     ghost use Rattle.ring_inbox.specs.private.Rule.{met};
     ghost use Rattle.ring_inbox.specs.Rule.{nobody};
 
-    ghost both = { λ v w. met v.capacity v.senders v.number v.stored v.seen w.made w.taken w.heard };
+    ghost both = { λ v w. met v.capacity v.senders v.number v.stored v.seen w.made w.taken
+        w.heard };
 
     ghost spent = { nobody };
 }
@@ -99,7 +102,7 @@ impl<T> Split<Known<T>> for Meets {
     ghost right = { λ v. receiver v.capacity v.senders v.made v.taken v.heard };
 }
 
-// The step by which the receiver is given back, and has heard how many items the sender has stored.
+// The step that returns the receiver, which has heard how many items the sender has stored.
 pub struct Hears;
 
 impl<T> Split<Known<T>> for Hears {
@@ -108,11 +111,11 @@ impl<T> Split<Known<T>> for Hears {
 
     ghost left = { λ v. sender v.capacity v.senders v.number v.stored v.seen };
 
-    ghost right = { λ v. receiver v.capacity v.senders v.made v.taken (v.heard ++ (v.number, length v.stored) ∷ []) };
+    ghost right = { λ v. receiver v.capacity v.senders v.made v.taken
+        (v.heard ++ (v.number, length v.stored) ∷ []) };
 }
 
-// The step by which the receiver is given back, and the sender has heard how many items it has
-// taken.
+// The step that returns the receiver; the sender has heard how many items it has taken.
 pub struct Tells;
 
 impl<T> Split<Known<T>> for Tells {
@@ -124,7 +127,7 @@ impl<T> Split<Known<T>> for Tells {
     ghost right = { λ v. receiver v.capacity v.senders v.made v.taken v.heard };
 }
 
-// The step of a sender that stores, and what its look at a full queue tells.
+// The step of a sender that stores, and the fact that its look at a full queue gives.
 pub struct Stores;
 
 impl<T> Outcome<(usize, T), Known<T>> for Stores {
@@ -139,7 +142,7 @@ impl<T> Lesson<(usize, T), Known<T>> for Stores {
     ghost fact = { SenderSees };
 }
 
-// The step of the receiver that takes, and what its look at an empty queue tells.
+// The step of the receiver that takes, and the fact that its look at an empty queue gives.
 pub struct Takes;
 
 impl<T> Outcome<(usize, T), Known<T>> for Takes {

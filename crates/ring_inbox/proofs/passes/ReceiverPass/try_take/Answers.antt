@@ -1,4 +1,4 @@
--- A take keeps the inbox, and what it tells its pass is that the item follows what was taken, or that nothing changed.
+-- A take keeps the inbox. The item follows those taken before, or nothing changed.
 use Rattle.std.proofs.Common.{◌≡◌, refl, ap, sym, ◌∙◌}
 use Rattle.crossbeam_channel.specs.Claims.{view}
 use Rattle.crossbeam_channel.specs.Ends.{receives_on, ruled_capacity}
@@ -47,7 +47,7 @@ returns-clause-moment g c =
       | in-Err w ↦ rw (w.result-is, ← c.self.view_is) (was_empty (view before) room size w.in-Err.ensures.rule.1)
     ]
 
--- it saw the queue empty, so all that was heard was taken
+-- it saw the queue empty, so all items that it heard of were taken
 pub returns-clause-empty : goal.returns-clause-empty
 returns-clause-empty g c = elim c.match-try_recv_as.branch [
   | in-Ok w ↦ rw w.result-is tt

@@ -1,4 +1,4 @@
--- A put keeps the inbox, and what it tells its pass is that the item was stored, or that nothing changed.
+-- A put keeps the inbox. The item was stored, or nothing changed.
 use Rattle.std.proofs.Common.{◌≡◌, refl, ap, sym, ◌∙◌, subst}
 use Rattle.crossbeam_channel.specs.Claims.{view}
 use Rattle.crossbeam_channel.specs.Err.{IsFull, try_send_message}
