@@ -1,4 +1,4 @@
--- What a command is after one more argument or subcommand.
+-- A command after one more argument or subcommand.
 use Rattle.std.proofs.Common.{◌≡◌, ◌∙◌, ◌||◌, Bool, false, ap₂, IfOk, Result, Ok, Err}
 use Rattle.std.specs.declared.alloc.AllocError.{AllocError}
 use Rattle.clap.specs.Built.{AddsArg, AddsSubcommand}
@@ -16,7 +16,7 @@ with_arg old new a app rule adds own is was = adds.shape own ∙ ap₂ (λ (x : 
 pub stays_local : (old new : Command) (a : Arg) → AddsArg old a new → a.global ≡ false → IsLocal old → IsLocal new
 stays_local old new a adds own was = adds.globals ∙ ap₂ (λ (x y : Bool). x || y) was own
 
--- the same where memory may have been refused
+-- the same if an allocation may have failed
 pub with_arg_if_ok : (r : Result Command AllocError) (old : Command) (a : Arg) (app : App) (rule : Rule) → IfOk r (AddsArg old a) → a.global ≡ false → rule_of a ≡ rule → app_of old ≡ app
     → IfOk r (λ new. app_of new ≡ with_rule app rule)
 with_arg_if_ok (Ok new) old a app rule adds own is was = with_arg old new a app rule adds own is was

@@ -64,12 +64,12 @@ is_help name answers = (bytes_eq-Decides name (codes "help")).1 (sym ((bytes_eq-
 abbrev pub IsOurs : Text → Type 0
 IsOurs name = (name ≡ codes "replay") ⊎ ((name ≡ codes "serve") ⊎ ((name ≡ codes "run") ⊎ (name ≡ codes "journal")))
 
--- the subcommand that is the first to answer to a name, by who answers
+-- the subcommand that is the first to answer to a name, by the one that answers
 abbrev pub below : Bool → Bool → Bool → Bool → Bool → Option Shape
 below replay serve run journal help =
     cond replay (Some replay_below) (cond serve (Some serve_below) (cond run (Some run_below) (cond journal (Some journal_below) (cond help (Some help_below) None))))
 
--- where a subcommand was met that is not `help`, and none is missing, it is one of the program's
+-- if a subcommand was met that is not `help`, and none is missing, it is one of the program's
 stop_names_one : (rows : List Row) (stop : Option (Text × List Text)) → AvoidsHelp stop → check_fault whole.top rows (is_some (entered whole stop)) ≡ []
     → (q : Text × List Row) × (entered whole stop ≡ Some q) × IsOurs q.0
 stop_names_one rows None avoids none = absurd (cc)
@@ -95,7 +95,8 @@ pub record IsLevel (s : Shape) (rows : List Row) : Type 0 where
   pub fine : level_fault s [] nothing_held given false [] ≡ []
   pub is : rows ≡ rows_after s.rules [] given
 
--- What the level of `serve`, of `run` or of `journal` gives, if it is the one that was met.
+-- The rows that the level of `serve`, of `run` or of `journal` gives, if it is the one that was
+-- met.
 pub record OfLevels (q : Text × List Row) : Type 0 where
   pub serve : bytes_eq q.0 (codes "serve") ≡ true → IsLevel serve_below q.1
   pub run : bytes_eq q.0 (codes "run") ≡ true → IsLevel run_below q.1
@@ -131,7 +132,7 @@ entered_levels (Some p) q fine same =
     go false false false false true none is = at (rows_at help_below p.1) is (other help_below refl refl refl)
     go false false false false false none is = absurd (cc)
 
--- What words without a mistake name, and the level of it.
+-- The subcommand that words without a mistake name, and the level of it.
 pub record NamesOne (words : List Text) : Type 0 where
   pub met : Text × List Row
   pub named : subcommand_of ringd_app words ≡ Some met
@@ -158,7 +159,7 @@ taken_names_one words none =
     let one = stop_names_one rows end.stopped avoids (second_has_none of_defaults of_checks after_last_use) in
     record { met = one.0; named = one.1; ours = one.2; levels = entered_levels end.stopped one.0 at_subcommand one.1 }
 
--- what a parse by this command line says: the words have no mistake, where it met a subcommand
+-- a parse by this command line says that the words have no mistake, if it met a subcommand
 pub no_mistake : (a : App) (words : List Text) → a ≡ ringd_app → (is_simple_and_free a ≡ true → fault_of a words ≡ []) → fault_of ringd_app words ≡ []
 no_mistake a words is free = ap (λ (x : App). fault_of x words) (sym is) ∙ free (ap is_simple_and_free is ∙ ringd_app_is_simple)
 
@@ -203,14 +204,14 @@ names_one words name rows names =
     let same : Some one.met ≡ Some (name, rows) = sym one.named ∙ names.named in
     subst (λ (o : Option (Text × List Row)). IfSome o (λ q. IsOurs q.0 × OfLevels q)) same (one.ours, one.levels)
 
--- where a parse by this command line can fail for want of memory alone, the words' fault says so
+-- if a parse by this command line can fail only for memory, the words' fault says so
 pub fails_for_memory : (a : App) (words : List Text) (error : Error) (r : Result Order WordsFault) → a ≡ ringd_app → (takes a words ≡ true → kind_of error ≡ OutOfMemory)
     → IsErrAnd r (IsFaultOf error) → takes ringd_app words ≡ true → IsOkUnless r NoMemory
 fails_for_memory a words error (Ok order) is passes told taken = tt
 fails_for_memory a words error (Err NoMemory) is passes told taken = refl
 fails_for_memory a words error (Err (Usage given)) is passes told taken = absurd (told.1 (passes (ap (λ (x : App). takes x words) is ∙ taken)))
 
--- a fault that clap's error is told as has its cause
+-- a fault made of clap's error has its cause
 pub has_cause : (a : App) (words : List Text) (error : Error) (r : Result Order WordsFault) → a ≡ ringd_app → (is_simple_and_free a ≡ true → HasKind (fault_of a words) error)
     → IsErrAnd r (IsFaultOf error) → IfErr r (HasCause words)
 has_cause a words error (Ok order) is kinds told = tt
@@ -222,19 +223,19 @@ has_cause a words error (Err (Usage given)) is kinds told =
       | inr kind ↦ subst (λ (e : Error). IsAmong (kind_of e) (fault_of ringd_app words)) (sym told.0) kind
     ]
 
--- so has want of memory
+-- so has a fault for memory
 pub memory_is_cause : (words : List Text) (r : Result Order WordsFault) → IsOkUnless r NoMemory → IfErr r (HasCause words)
 memory_is_cause words (Ok order) is = tt
 memory_is_cause words (Err fault) is = subst (HasCause words) (sym is) tt
 
--- What a call promises of its result, whatever words it was given: an order is theirs, a fault has its cause, and the
--- fault is want of memory where nothing else may fail.
+-- The promises of a call about its result, for any words. An order is theirs, and a fault has its
+-- cause. The fault is for memory if nothing else may fail.
 pub record IsWantOfMemory (words : List Text) (r : Result Order WordsFault) : Type 0 where
   pub order : IfOk r (IsGiven words)
   pub usage : IfErr r (HasCause words)
   pub only : IsOkUnless r NoMemory
 
--- a refusal for want of memory keeps all that is promised
+-- a refusal for memory keeps all these promises
 pub want_of_memory : (words : List Text) (r : Result Order WordsFault) → IsErrAnd r (λ fault. fault ≡ NoMemory) → IsWantOfMemory words r
 want_of_memory words (Ok order) is = absurd is
 want_of_memory words (Err fault) is = record { order = tt; usage = memory_is_cause words (Err fault) is; only = is }

@@ -1,5 +1,5 @@
--- One level of a command line: what each use of an argument without a mistake keeps true of the rows, words
--- without a mistake keep true of them. It holds of every command.
+-- One level of a command line. If each use of an argument without a mistake keeps a fact of the
+-- rows true, words without a mistake keep it true. It holds of every command.
 use Rattle.std.proofs.Common.{◌≡◌, ◌&&◌, Bool, ℕ, zero, suc, cond, true, false, not, List, [], ◌∷◌, ◌++◌, length, drop, Option, Some, None, is_some, fold}
 use Rattle.std.specs.Prelude.{⊤, find, encode_utf8, slice_get}
 use Rattle.std.specs.Option.{option_map_or}
@@ -24,7 +24,7 @@ pub each_append : (good : Row → Type 0) (xs ys : List Row) → Each good xs �
 each_append good [] ys a b = b
 each_append good (x ∷ xs) ys a b = (a.0, each_append good xs ys a.1 b)
 
--- it holds where the first row of an id is changed, if the change keeps it
+-- it holds if the first row of an id is changed, if the change keeps it
 pub each_at_row : (good : Row → Type 0) (id : Text) (change : Row → List Row) (missing rows : List Row) → ((row : Row) → good row → Each good (change row)) → Each good missing → Each good rows
     → Each good (at_row id change missing rows)
 each_at_row good id change missing [] keeps added all = added
@@ -39,7 +39,7 @@ module _ (s : Shape) (good : Row → Type 0) where
   abbrev pub Keeps : Rule → Type 0
   Keeps a = (values : List Text) (rows : List Row) → Each good rows → use_fault s.args_override_self a values rows ≡ [] → Each good (used a values rows)
 
-  -- and so for each argument of a list, and for an argument where there is one
+  -- and so for each argument of a list, and for an argument if there is one
   abbrev pub EachKeeps : List Rule → Type 0
   EachKeeps [] = ⊤
   EachKeeps (a ∷ rest) = Keeps a × EachKeeps rest

@@ -1,4 +1,4 @@
--- The number that is read for an option, where its text lies in the option's range.
+-- The number that is read for an option, if its text is in the option's range.
 use Rattle.std.proofs.Common.{◌≡◌, ◌∙◌, ◌<◌, ◌^◌, ℕ, Bor, Option, Some, None, Result, Ok, ap, sym, refl, subst, inl, inr, option_map}
 use Rattle.std.specs.Prelude.{pos, unwrap_or}
 use Rattle.std.specs.Str.Parse.{ParsesUnsigned}

@@ -1,4 +1,4 @@
--- What the rows of a level say of its arguments, where the words have no mistake: the first value of an
+-- The rows of a level and its arguments, if the words have no mistake. The first value of an
 -- argument is one that it takes.
 use Rattle.std.proofs.Common.{◌≡◌, ◌∙◌, Bool, cond, true, false, refl, sym, subst, List, [], ◌∷◌, ◌++◌, length, Option, Some, None, fold, true≢false}
 use Rattle.std.specs.Prelude.{⊤, IfSome, find, slice_get}
@@ -27,7 +27,7 @@ pub record BeginsWell (a : Rule) (values : List Text) (how : Reading) : Type 0 w
   pub passed : value_passes a text ≡ true
   pub read : how ≡ reading_by a
 
--- the row begins well, where it is that of the argument
+-- the row begins well, if it is that of the argument
 abbrev pub IsRead : Rule → Row → Type 0
 IsRead a row = bytes_eq row.id a.id ≡ true → BeginsWell a row.values row.reading
 
@@ -35,7 +35,7 @@ IsRead a row = bytes_eq row.id a.id ≡ true → BeginsWell a row.values row.rea
 abbrev pub fresh : Rule → List Text → Row
 fresh a values = record { id = a.id; values = values; count = None; source = Some CommandLine; reading = reading_by a }
 
--- values that begin with a text still do where more follow
+-- values that begin with a text still do if more follow
 begins_still : (values more : List Text) (text : Text) → slice_get values 0 ≡ Some text → slice_get (values ++ more) 0 ≡ Some text
 begins_still [] more text first = absurd (cc)
 begins_still (v ∷ values) more text first = first

@@ -16,7 +16,7 @@ abbrev pub AvoidsHelp : Option (Text × List Text) → Type 0
 AvoidsHelp None = ⊤
 AvoidsHelp (Some p) = bytes_eq p.0 (codes "help") ≡ false
 
--- where two steps have no mistake, the first has none, and the second has none
+-- if two steps have no mistake, the first has none, and the second has none
 pub first_has_none : (a b : Kinds) → or_else a b ≡ [] → a ≡ []
 first_has_none [] b none = refl
 first_has_none (k ∷ ks) b none = none
@@ -77,7 +77,7 @@ named_avoids_help s name word h enabled none = go (bytes_eq name (codes "help"))
     go true bad = absurd (cc)
     go false fine = refl
 
--- where a word that stands in no trailing part has no mistake, the walk after it has met no `help`
+-- if a word outside the trailing part has no mistake, the walk after it has met no `help`
 free_word_avoids_help : (s : Shape) (w : Walk) (word : Text) (met : Option Text) → s.disable_help_subcommand ≡ false → w.stopped ≡ None → other_fault s met word w.held ≡ []
     → let taken : Held × Step = subcommand_or_other s.rules met w.waiting w.position word w.held in AvoidsHelp (after_step s.rules word w taken.0 taken.1).stopped
 free_word_avoids_help s w word (Some name) enabled on none = named_avoids_help s name word w.held enabled none
@@ -90,7 +90,7 @@ free_word_avoids_help s w word None enabled on none = go (bytes_eq word (45 ∷ 
     go true = subst AvoidsHelp (sym on) tt
     go false = subst AvoidsHelp (sym (goes_on s.rules word w (taken false).0 (taken false).1 on (long_is_other s.rules w.waiting word w.held (long_of word)))) tt
 
--- where a word has no mistake, the walk after it has met no `help`
+-- if a word has no mistake, the walk after it has met no `help`
 word_avoids_help : (s : Shape) (names : Names) (w : Walk) (word : Text) → s.disable_help_subcommand ≡ false → w.stopped ≡ None
     → word_fault s names w.is_trailing w.waiting word w.held ≡ [] → AvoidsHelp (walked s.rules names w word).stopped
 unfolding walked
@@ -111,7 +111,7 @@ keeps_name c names w p [] met avoids = subst AvoidsHelp (sym met) avoids
 keeps_name c names w p (word ∷ words) met avoids =
     keeps_name c names (walked c names w word) (p.0, p.1 ++ word ∷ []) words (ap (λ (o : Option (Text × List Text)). (walked_from c names o w word).stopped) met) avoids
 
--- where the words have no mistake, the walk over them meets no `help`
+-- if the words have no mistake, the walk over them meets no `help`
 pub walk_avoids_help : (s : Shape) (names : Names) (w : Walk) (words : List Text) → s.disable_help_subcommand ≡ false → w.stopped ≡ None → walk_fault s names w words ≡ []
     → AvoidsHelp (fold (walked s.rules names) w words).stopped
 unfolding walk_fault

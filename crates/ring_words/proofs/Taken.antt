@@ -1,5 +1,5 @@
--- Words that the command line takes, where they name `serve`, `run` or `journal`, give rows with what those
--- need.
+-- Words that the command line takes, and that name `serve`, `run` or `journal`, give the rows that
+-- these need.
 use Rattle.std.proofs.Common.{◌≡◌, ◌∙◌, ◌||◌, Bool, ℕ, codes, cond, true, false, not, refl, sym, ap, subst, inl, inr, List, [], ◌∷◌, length, IfOk, Option, Some, None, Result, Ok, Err, option_map}
 use Rattle.std.specs.Prelude.{find, pos, slice_get, unwrap_or, option_and_then}
 use Rattle.std.specs.Str.{bytes_eq}
@@ -208,7 +208,7 @@ run_defaults wanted other = (
   ),
 )
 
--- what is required was given, where the last checks have no mistake
+-- a required argument was given, if the last checks have no mistake
 both_given : (x y : Bool) → cond (not x || (not y || false)) (MissingRequiredArgument ∷ []) [] ≡ [] → (x ≡ true) × (y ≡ true)
 both_given true true none = (refl, refl)
 both_given true false none = absurd (cc)
@@ -267,7 +267,7 @@ named_runs words rows names = run_gives rows ((names_one words (codes "run") row
 pub named_journal : (words : List Text) (rows : List Row) → Names words (codes "journal") rows → HasFile (codes "file") rows
 named_journal words rows names = journal_gives rows ((names_one words (codes "journal") rows names).1.journal refl)
 
--- so the order of `serve`, where there is one, is the one that the words give
+-- so the order of `serve`, if there is one, is the one that the words give
 pub serves_as_given : (words : List Text) (rows : List Row) (r : Result Order WordsFault) → Names words (codes "serve") rows → IfOk r (IsServeOf rows) → IfOk r (IsGiven words)
 serves_as_given words rows (Ok Replay) names told = absurd told
 serves_as_given words rows (Ok (Serve path connections)) names told = (rows, names, told)

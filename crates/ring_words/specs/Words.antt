@@ -19,7 +19,12 @@ config_rule = record (new_rule (codes "config")) { value_names = 1; required = t
 
 -- an option with a number from the least to the most
 abbrev pub number_rule : Text → ℕ → ℕ → Rule
-number_rule name least most = record (new_rule name) { long = Some name; value_names = 1; parser = Some (parser.Signed (pos least) (pos most)) }
+number_rule name least most =
+    record (new_rule name) {
+      long = Some name;
+      value_names = 1;
+      parser = Some (parser.Signed (pos least) (pos most));
+    }
 
 -- how many connections `serve` accepts, which must be given
 abbrev pub connections_rule : Rule
@@ -32,9 +37,10 @@ sessions_rule = number_rule (codes "sessions") 1 64
 abbrev pub idle_rule : Rule
 idle_rule = number_rule (codes "idle") 0 86400
 
--- whether `run` tells places
+-- whether `run` prints places
 abbrev pub places_rule : Rule
-places_rule = record (new_rule (codes "places")) { long = Some (codes "places"); action = Some SetTrue }
+places_rule =
+    record (new_rule (codes "places")) { long = Some (codes "places"); action = Some SetTrue }
 
 -- the file in which `run` keeps a journal
 abbrev pub kept_rule : Rule
@@ -48,34 +54,40 @@ file_rule = record (new_rule (codes "file")) { value_names = 1; required = true 
 abbrev pub serve_app : App
 serve_app = with_rule (with_rule (new_app (codes "serve")) config_rule) connections_rule
 
--- `run CONFIG`, with `--sessions N`, `--idle SECONDS`, `--places` and `--journal FILE` if they are given
+-- `run CONFIG`, with `--sessions N`, `--idle SECONDS`, `--places` and `--journal FILE` if they are
+-- given
 abbrev pub run_app : App
-run_app = with_rule (with_rule (with_rule (with_rule (with_rule (new_app (codes "run")) config_rule) sessions_rule) idle_rule) places_rule) kept_rule
+run_app =
+    with_rule
+    (with_rule
+    (with_rule (with_rule (with_rule (new_app (codes "run")) config_rule) sessions_rule)
+    idle_rule) places_rule) kept_rule
 
 -- `journal FILE`
 abbrev pub journal_app : App
 journal_app = with_rule (new_app (codes "journal")) file_rule
 
--- the command line: one of the subcommands `replay`, `serve`, `run` and `journal` must be given; it has a
--- version
+-- the command line: one of the subcommands `replay`, `serve`, `run` and `journal` must be given; it
+-- has a version
 abbrev pub ringd_app : App
 ringd_app =
     with_subcommand
     (with_subcommand
     (with_subcommand
-    (with_subcommand (on_top (λ s. record s { subcommand_required = true; has_version = true }) (new_app (codes "ringd"))) (new_shape (codes "replay")))
-    serve_app.top)
-    run_app.top)
-    journal_app.top
+    (with_subcommand
+    (on_top (λ s. record s { subcommand_required = true; has_version = true })
+    (new_app (codes "ringd"))) (new_shape (codes "replay"))) serve_app.top)
+    run_app.top) journal_app.top
 
--- ---- what the words give
+-- ---- the order that words give
 
--- The command line takes the words, and they name this subcommand, with these rows for its arguments.
+-- The command line takes the words, and they name this subcommand, with these rows for its
+-- arguments.
 pub record Names (words : List Text) (name : Text) (rows : List Row) : Type 0 where
   pub taken : fault_of ringd_app words ≡ []
   pub named : subcommand_of ringd_app words ≡ Some (name, rows)
 
--- The text is that of the number, which lies in the bounds.
+-- The text is that of the number, which is in the bounds.
 pub record IsNumberIn (least most : ℕ) (text : Text) (n : ℕ) : Type 0 where
   pub value : n ≡ digits_value 10 (without_leading_plus text)
   pub some : least ≤ n
@@ -88,17 +100,21 @@ pub record Serves (rows : List Row) (path : Text) (connections : ℕ) : Type 0 w
   pub given : one_of (codes "connections") rows ≡ Some text
   pub number : IsNumberIn 1 64 text connections
 
--- the number that is given for an option, or the usual one where none is
+-- the number that is given for an option, or the usual one if none is given
 abbrev pub IsGivenOr : ℕ → ℕ → ℕ → Option Text → ℕ → Type 0
-IsGivenOr usual least most given n = MatchOption given (n ≡ usual) (λ text. IsNumberIn least most text n)
+IsGivenOr usual least most given n =
+    MatchOption given (n ≡ usual) (λ text. IsNumberIn least most text n)
 
--- a flag: false where it has no text, and else what its text says
+-- a flag: false if it has no text, otherwise the value of its text
 abbrev pub IsFlag : Option Text → Bool → Type 0
-IsFlag given flag = (given ≡ None → flag ≡ false) × (given ≡ Some (codes "true") → flag ≡ true) × (given ≡ Some (codes "false") → flag ≡ false)
+IsFlag given flag =
+    (given ≡ None → flag ≡ false) × (given ≡ Some (codes "true") → flag ≡ true)
+    × (given ≡ Some (codes "false") → flag ≡ false)
 
--- The rows of `run`: its file, its number of sessions, 16 where none is given, its seconds, 0 where none
--- are given, whether it tells places, and the file of its journal, if one is given.
-pub record Runs (rows : List Row) (path : Text) (sessions idle : ℕ) (places : Bool) (journal : Option Text) : Type 0 where
+-- The rows of `run`: its file, its number of sessions (16 if none is given) and its seconds (0 if
+-- none are given). Then whether it prints places, and the file of its journal, if one is given.
+pub record Runs (rows : List Row) (path : Text) (sessions idle : ℕ) (places : Bool)
+    (journal : Option Text) : Type 0 where
   pub file : first_of (codes "config") rows ≡ Some path
   pub sessions_given : IsGivenOr 16 1 64 (one_of (codes "sessions") rows) sessions
   pub idle_given : IsGivenOr 0 0 86400 (one_of (codes "idle") rows) idle
@@ -108,18 +124,24 @@ pub record Runs (rows : List Row) (path : Text) (sessions idle : ℕ) (places : 
 -- the command line takes the words, and this is the order that they give
 abbrev pub IsGiven : List Text → Order → Type 0
 IsGiven words Replay = (rows : List Row) × Names words (codes "replay") rows
-IsGiven words (Serve path connections) = (rows : List Row) × Names words (codes "serve") rows × Serves rows (string_bytes path) connections
-IsGiven words (Run path sessions idle places journal) = (rows : List Row) × Names words (codes "run") rows × Runs rows (string_bytes path) sessions idle places (option_map string_bytes journal)
-IsGiven words (Journal path) = (rows : List Row) × Names words (codes "journal") rows × (first_of (codes "file") rows ≡ Some (string_bytes path))
+IsGiven words (Serve path connections) =
+    (rows : List Row) × Names words (codes "serve") rows
+    × Serves rows (string_bytes path) connections
+IsGiven words (Run path sessions idle places journal) =
+    (rows : List Row) × Names words (codes "run") rows
+    × Runs rows (string_bytes path) sessions idle places (option_map string_bytes journal)
+IsGiven words (Journal path) =
+    (rows : List Row) × Names words (codes "journal") rows
+    × (first_of (codes "file") rows ≡ Some (string_bytes path))
 
 -- ---- why words give none
 
--- the words have a mistake of the error's kind, or memory was refused
+-- the words have a mistake of the error's kind, or an allocation failed
 abbrev pub HasCause : List Text → WordsFault → Type 0
 HasCause words (Usage error) = IsAmong (kind_of error) (fault_of ringd_app words)
 HasCause words NoMemory = ⊤
 
--- what the error is told as: itself, where it is not for want of memory
+-- the fault of an error: the error itself, unless it says that an allocation failed
 abbrev pub IsFaultOf : Error → WordsFault → Type 0
 IsFaultOf error (Usage given) = (given ≡ error) × (kind_of error ≢ OutOfMemory)
 IsFaultOf error NoMemory = kind_of error ≡ OutOfMemory

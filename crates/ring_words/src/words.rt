@@ -1,4 +1,4 @@
-//! The words of the command line, and what they ask for.
+//! The words of the command line, and the orders that they give.
 ghost use Rattle.std.specs.Prelude.{◌≡◌, ◌↔◌, ◌∷◌, [], ℕ, List, IfErr, IfOk, IsOkUnless, IsTrue, Some, codes, false, map, option_map, string_bytes, true};
 ghost use Rattle.clap.specs.Words.{App, Rule, app_of, found_of, kind_of, new_rule, rows_of, rule_of, takes, with_rule, with_subcommand, Text};
 ghost use Rattle.clap.specs.declared.error.kind.ErrorKind.TheVariants.{DisplayVersion, ValueValidation};
@@ -33,7 +33,7 @@ const CONFIG: &str = "CONFIG is a TOML file with three integers:
 
 Without a journal, the service keeps everything in memory, and loses it when it ends.";
 
-/// What the words ask the program to do.
+/// The order that the words give.
 #[derive(Debug, Drop)]
 pub enum Order {
     /// `ringd replay`: answer the lines of standard input on standard output.
@@ -52,7 +52,7 @@ pub enum Order {
         /// The file that keeps the groups, if one is given.
         journal: Option<String>,
     },
-    /// `ringd journal FILE`: print what a journal holds.
+    /// `ringd journal FILE`: print the content of a journal.
     Journal {
         path: String,
     },
@@ -154,8 +154,8 @@ fn with_arg<'a>(
     arg: Arg<'a>,
 ) -> Result<Command<'a>, AllocError>
     requires own { arg.global ≡ false }
-    ensures app { (app : App) (rule : Rule) → IfOk command.entry (λ c. app_of c ≡ app) → rule_of arg.entry ≡ rule
-        → IfOk result (λ c. app_of c ≡ with_rule app rule) }
+    ensures app { (app : App) (rule : Rule) → IfOk command.entry (λ c. app_of c ≡ app)
+        → rule_of arg.entry ≡ rule → IfOk result (λ c. app_of c ≡ with_rule app rule) }
     ensures local { IfOk command.entry IsLocal → IfOk result IsLocal }
 {
     match command {
@@ -173,7 +173,8 @@ fn with_subcommand<'a>(
     below: Result<Command<'a>, AllocError>,
 ) -> Result<Command<'a>, AllocError>
     ensures { (app sub : App) → IfOk command.entry (λ c. app_of c ≡ app) → IfOk below.entry IsLocal
-        → IfOk below.entry (λ c. app_of c ≡ sub) → IfOk result (λ c. app_of c ≡ with_subcommand app sub.top) }
+        → IfOk below.entry (λ c. app_of c ≡ sub)
+        → IfOk result (λ c. app_of c ≡ with_subcommand app sub.top) }
 {
     match command {
         Ok(command) => match below {
@@ -203,7 +204,8 @@ fn config_arg<'a>(alloc: Global) -> Arg<'a>
 
 // An option with a value.
 fn option_arg<'a>(alloc: Global, name: &'a str, value: &'a str) -> Arg<'a>
-    ensures rule { rule_of result ≡ record (new_rule name.now) { long = Some name.now; value_names = 1 } }
+    ensures rule { rule_of result
+        ≡ record (new_rule name.now) { long = Some name.now; value_names = 1 } }
     ensures own { result.global ≡ false }
 {
     Arg::new(alloc, name).long(name).value_name(value)
@@ -276,7 +278,7 @@ fn file_arg<'a>(alloc: Global) -> Arg<'a>
         .help("The journal: a file that `run --journal` has written")
 }
 
-/// Returns the refusal of a command line with a word that is not UTF-8. Fails only if an allocation
+/// Returns the refusal of a command line with a word that is not UTF-8. `NoMemory` if an allocation
 /// fails.
 pub fn not_text(alloc: Global) -> Result<clap::Error, AllocError>
     ensures { IfOk result (λ error. kind_of error ≡ ValueValidation) }
@@ -361,9 +363,10 @@ fn run_order(alloc: Global, given: &ArgMatches<'_>) -> Result<Order, WordsFault>
     })
 }
 
-// Returns a copy of the text, if there is one. Fails only if an allocation fails.
+// Returns a copy of the text, if there is one. `NoMemory` if an allocation fails.
 fn copy_of(alloc: Global, text: Option<&str>) -> Result<Option<String>, AllocError>
-    ensures { IfOk result (λ copy. option_map string_bytes copy ≡ option_map (λ t. t.now) text.entry) }
+    ensures { IfOk result
+        (λ copy. option_map string_bytes copy ≡ option_map (λ t. t.now) text.entry) }
 {
     match text {
         Some(text) => Ok(Some(String::from_str(alloc, text)?)),

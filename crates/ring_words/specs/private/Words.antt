@@ -1,4 +1,4 @@
--- What inner functions say of the words of a call.
+-- The words of a call, for inner functions.
 use Rattle.std.specs.Prelude.{◌≡◌, ◌⊎◌, ℕ, codes, pos, List, None, Some, option_map, string_bytes, false}
 use Rattle.clap.specs.Words.{IsSignedIn, Row, Text, first_of, one_of, without_minus}
 use Rattle.clap.specs.declared.builder.command.Command.{Command}
@@ -17,7 +17,8 @@ IsServeOf rows (Serve path connections) = Serves rows (string_bytes path) connec
 IsServeOf rows _ = ⊥
 
 abbrev pub IsRunOf : List Row → Order → Type 0
-IsRunOf rows (Run path sessions idle places journal) = Runs rows (string_bytes path) sessions idle places (option_map string_bytes journal)
+IsRunOf rows (Run path sessions idle places journal) =
+    Runs rows (string_bytes path) sessions idle places (option_map string_bytes journal)
 IsRunOf rows _ = ⊥
 
 abbrev pub IsJournalOf : List Row → Order → Type 0
@@ -39,12 +40,12 @@ pub record HasFile (name : Text) (rows : List Row) : Type 0 where
   pub path : Text
   pub file : first_of name rows ≡ Some path
 
--- Rows of `serve`, where its words are taken.
+-- The rows of `serve`, if its words are taken.
 pub record IsServed (rows : List Row) : Type 0 where
   pub file : HasFile (codes "config") rows
   pub connections : HasNumber (codes "connections") 1 64 rows
 
--- Rows of `run`, where its words are taken.
+-- The rows of `run`, if its words are taken.
 pub record IsRun (rows : List Row) : Type 0 where
   pub file : HasFile (codes "config") rows
   pub sessions : MayHaveNumber (codes "sessions") 1 64 rows
