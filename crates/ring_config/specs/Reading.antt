@@ -1,4 +1,4 @@
--- Which texts spell a configuration.
+-- The texts that spell a configuration.
 use Rattle.std.specs.Prelude.{◌≡◌, ◌≤◌, ℕ, List, Some, codes, pos, suc}
 use Rattle.std.specs.Str.{IsUtf8}
 use Rattle.toml.specs.Data.{Members, get_member, integer, member, no_members}

@@ -1,14 +1,14 @@
-//! What a configuration says.
+//! The configuration of a service.
 ghost use Rattle.std.specs.Prelude.{◌≤◌};
 
 use thiserror::Error;
 
-/// How a service is set up.
+/// The settings of a service.
 #[derive(Clone, Copy, Debug, PartialEq, Eq)]
 pub struct Config {
-    /// How many threads work on elections: 1 to 8.
+    /// The number of threads that run elections: 1 to 8.
     pub workers: usize,
-    /// How many items the inbox of a worker holds: 1 to 65536.
+    /// The most items in the inbox of a worker: 1 to 65536.
     pub inbox: usize,
     /// The port to listen on: 1 to 65535.
     pub port: u16,
@@ -25,7 +25,7 @@ pub enum ConfigFault {
     /// It is no TOML document, or has other keys, types or numbers than a configuration.
     #[error("config bad")]
     Bad,
-    /// Memory was refused.
+    /// An allocation failed.
     #[error("no memory")]
     NoMemory,
 }

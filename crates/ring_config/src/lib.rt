@@ -1,6 +1,7 @@
 //! The configuration of a service, and the TOML text that spells it.
 //!
-//! `read_config` gives a configuration only of a text that spells it, and calls no such text bad.
+//! `read_config` returns a configuration only for a text that spells it, and calls no such text
+//! bad.
 #![tactic(auto)]
 
 mod config;

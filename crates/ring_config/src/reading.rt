@@ -8,11 +8,11 @@ use crate::config::{Config, ConfigFault};
 use std::alloc::Global;
 use toml::Table;
 
-/// Reads the text of a configuration.
+/// Returns the configuration that a text spells.
 ///
-/// It is a TOML document whose keys are `workers` with an integer from 1 to 8, `inbox` with one from 1
-/// to 65536, `port` with one from 1 to 65535, and no other. `Bad` comes of every other text, and of none
-/// that spells a configuration.
+/// The text is a TOML document with three keys and no other. These are `workers` with an integer
+/// from 1 to 8, `inbox` with one from 1 to 65536, and `port` with one from 1 to 65535. Every other
+/// text gives `Bad`, unless an allocation fails. A text that spells a configuration never does.
 pub fn read_config(alloc: Global, bytes: &[u8]) -> Result<Config, ConfigFault>
     ensures ok { IfOk result (Spells bytes.now) }
     ensures bad { result ≡ Err ConfigFault.Bad → (c : Config) → Spells bytes.now c → ⊥ }
@@ -32,7 +32,7 @@ pub fn read_config(alloc: Global, bytes: &[u8]) -> Result<Config, ConfigFault>
     }
 }
 
-// The configuration that a table holds.
+// Returns the configuration in a table.
 #[tactic(auto, using(crate::proofs::Counts::count_view))]
 fn config_of(table: &Table) -> Option<Config>
     ensures some { IfSome result (IsConfigOf (table_view table.now)) }
@@ -57,7 +57,7 @@ fn config_of(table: &Table) -> Option<Config>
     })
 }
 
-// The number of a key, from 1 to the most that it may be.
+// Returns the number of a key, from 1 to `most`.
 fn number_at(table: &Table, key: &str, most: u32) -> Option<u32>
     ensures some { IfSome result (Holds (table_view table.now) key.now most) }
     ensures none { IfNone result ((n : ℕ) → Holds (table_view table.now) key.now most n → ⊥) }
@@ -71,7 +71,7 @@ fn number_at(table: &Table, key: &str, most: u32) -> Option<u32>
     Some(value as u32)
 }
 
-// The integer of a key.
+// Returns the integer of a key.
 fn integer_at(table: &Table, key: &str) -> Option<i64>
     ensures { result ≡ option_and_then as_integer (get_member key.now (table_view table.now)) }
 {
