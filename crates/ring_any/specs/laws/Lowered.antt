@@ -26,7 +26,8 @@ lowered messages [] = []
 lowered messages (r ∷ rs) = received r.0 (messages.of r.1) (lowered messages rs)
 
 -- all messages among these receipts are the variant's own
-pub record OwnMessages {WM M : Type 0} (messages : Variant WM M) (rs : List (Side × WM)) : Type 0 where
+pub record OwnMessages {WM M : Type 0} (messages : Variant WM M) (rs : List (Side × WM))
+    : Type 0 where
   pub each : (side : Side) (m : WM) → IsIn (taken_from side rs) m → (v : M) × (messages.of m ≡ Some v)
 
 -- a value that is there is the one that the fact names
