@@ -59,7 +59,8 @@ module _ (ring : List ℕ) (i me : ℕ) (here : slice_get ring i ≡ Some me) wh
 
   -- each message of these may be on its link
   abbrev AllAllowed : Sends HirschbergMsg → Type 0
-  AllAllowed sends = (to : Side) (m : HirschbergMsg) → to_side to sends ≡ Some m → allows ring i to m
+  AllAllowed sends =
+      (to : Side) (m : HirschbergMsg) → to_side to sends ≡ Some m → allows ring i to m
 
   -- so it is of no message, of one, and of the node's own token to both sides
   nothing_allowed : AllAllowed (nothing HirschbergMsg)

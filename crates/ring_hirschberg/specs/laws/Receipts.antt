@@ -17,7 +17,8 @@ EachReceipt P (r ∷ rs) = P r.0 r.1 × EachReceipt P rs
 
 -- P holds of each message that was taken from a side
 abbrev pub EachTaken : {M : Type 0} → (Side → M → Type 0) → List (Side × M) → Type 0
-EachTaken {M} P receipts = (side : Side) (k : ℕ) (m : M) → slice_get (taken_from side receipts) k ≡ Some m → P side m
+EachTaken {M} P receipts =
+    (side : Side) (k : ℕ) (m : M) → slice_get (taken_from side receipts) k ≡ Some m → P side m
 
 -- the first receipt is the first that was taken from its side
 first_taken : {M : Type 0} (from : Side) (m : M) (receipts : List (Side × M)) → slice_get (taken_from from ((from, m) ∷ receipts)) 0 ≡ Some m

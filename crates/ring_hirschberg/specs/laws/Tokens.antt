@@ -40,7 +40,8 @@ receipt_counts side me s from m is most = grind (arith, nat_tests)
 -- From phase p on to phase q. Either the phase stays and no own token is sent, or it rises and an
 -- own token is sent. That token has two to the power of the new phase hops.
 abbrev IsStep : ℕ → ℕ → ℕ → ℕ → ℕ → Type 0
-IsStep me most p q sent = ((q ≡ p) × (sent ≡ 0)) ⊎ ((q ≡ suc p) × (sent ≡ is_near me most (Out me (2 ^ suc p))))
+IsStep me most p q sent =
+    ((q ≡ p) × (sent ≡ 0)) ⊎ ((q ≡ suc p) × (sent ≡ is_near me most (Out me (2 ^ suc p))))
 
 receipt_steps : (side : Side) (me most : ℕ) (s : HirschbergState) (from : Side) (m : HirschbergMsg) → s.me ≡ me →
     IsStep me most (phase s) (phase (hirschberg_next s from m)) (weight_of (is_near me most) (to_side side (hirschberg_sends s from m)))

@@ -32,7 +32,8 @@ walk_first n i side (suc steps) = ap (λ p. neighbour n p side) (walk_first n i 
 
 -- the place of i after some steps to the right: not yet past the last position, or once past it
 abbrev IsRight : ℕ → ℕ → ℕ → ℕ → Type 0
-IsRight n i steps at = ((i + steps < n) × (at ≡ i + steps)) ⊎ ((n ≤ i + steps) × (at + n ≡ i + steps))
+IsRight n i steps at =
+    ((i + steps < n) × (at ≡ i + steps)) ⊎ ((n ≤ i + steps) × (at + n ≡ i + steps))
 
 -- the same to the left: not yet past the first position, or once past it
 abbrev IsLeft : ℕ → ℕ → ℕ → ℕ → Type 0
