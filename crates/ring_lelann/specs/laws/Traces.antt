@@ -48,7 +48,8 @@ state_from-decided s (r ∷ rs) leader is =
 -- came until then
 abbrev pub decision_at_home : ℕ → List ℕ → List ℕ → Option ℕ
 decision_at_home me seen [] = None
-decision_at_home me seen (v ∷ vs) = cond (v == me) (Some (greatest_of (me ∷ seen))) (decision_at_home me (seen ++ v ∷ []) vs)
+decision_at_home me seen (v ∷ vs) =
+    cond (v == me) (Some (greatest_of (me ∷ seen))) (decision_at_home me (seen ++ v ∷ []) vs)
 
 -- a node that hasn't decided decides when its own identity comes
 pub state_from-undecided : (s : Knowledge) (rs : List (Side × ℕ)) → s.decided ≡ None → (state_from lelann_table s rs).decided ≡ decision_at_home s.me s.seen (taken_from Left rs)
