@@ -21,7 +21,9 @@ two_ends ((q, v) ∷ round) = two_after (two_of v v) ((q, v) ∷ round)
 -- the entries that stay on a walk that begins with these two, each with its predecessor's value
 abbrev pub kept : Two → Round → Round
 kept two [] = []
-kept two ((q, v) ∷ round) = cond (stays_active v two) ((q, two.last) ∷ kept (two_of two.last v) round) (kept (two_of two.last v) round)
+kept two ((q, v) ∷ round) =
+    cond (stays_active v two) ((q, two.last) ∷ kept (two_of two.last v) round)
+    (kept (two_of two.last v) round)
 
 -- the next round
 abbrev pub walk_next : Round → Round
@@ -41,4 +43,5 @@ walk_message (e ∷ round) i (suc (suc k)) = walk_message (walk_next (e ∷ roun
 -- the last round of one position, at most this many rounds later
 abbrev pub walk_last : ℕ → Round → Round
 walk_last zero round = round
-walk_last (suc limit) round = cond (nat_lt 1 (length round)) (walk_last limit (walk_next round)) round
+walk_last (suc limit) round =
+    cond (nat_lt 1 (length round)) (walk_last limit (walk_next round)) round

@@ -8,7 +8,9 @@ use Rattle.ring_peterson.specs.Rounds.{first_round, floor_log2, message_of, pete
 
 -- the first seven messages of the right links of these positions
 abbrev links : List ℕ → List ℕ → List (List (Option ℕ))
-links ring positions = map (λ i. map (λ k. message_of (first_round ring) i k) (0 ∷ 1 ∷ 2 ∷ 3 ∷ 4 ∷ 5 ∷ 6 ∷ [])) positions
+links ring positions =
+    map (λ i. map (λ k. message_of (first_round ring) i k) (0 ∷ 1 ∷ 2 ∷ 3 ∷ 4 ∷ 5 ∷ 6 ∷ []))
+    positions
 
 -- seven messages: these first, and then none
 abbrev seven : List (List ℕ) → List (List (Option ℕ))
@@ -18,7 +20,8 @@ seven rows = map (λ row. map (λ v. Some v) row ++ replicate (7 - length row) N
 abbrev answers : List ℕ → List (List ℕ) → List (List ℕ)
 answers [] rows = []
 answers (me ∷ ring) [] = []
-answers (me ∷ ring) (row ∷ rows) = sent_after peterson_table me Right (map (λ m. (Left, m)) row) ∷ answers ring rows
+answers (me ∷ ring) (row ∷ rows) =
+    sent_after peterson_table me Right (map (λ m. (Left, m)) row) ∷ answers ring rows
 
 -- the messages that come to each position from its left neighbour, if the positions send these
 abbrev from_left : List (List ℕ) → List (List ℕ)
