@@ -1,11 +1,17 @@
--- The check of the lines of a journal: the CRC-32 of all changes so far, four bits at a time. No theorem
+-- The check of the lines of a journal: the CRC-32 of all changes so far, a byte at a time. No theorem
 -- rests on its value: it finds damage.
 use Rattle.std.specs.Prelude.{◌+◌, ◌-◌, ◌/◌, ◌%◌, ◌++◌, ℕ, List, [], ◌∷◌, fold, slice_index, if◌then◌else◌, nat_lt, codes}
 use Rattle.std.specs.Int.Bits.{bit_xor}
 
--- the effect of four bits on a check
-abbrev pub check_table : List ℕ
-check_table =
+-- the effect of the low half of a byte on a check
+abbrev pub check_low : List ℕ
+check_low =
+    0 ∷ 1996959894 ∷ 3993919788 ∷ 2567524794 ∷ 124634137 ∷ 1886057615 ∷ 3915621685 ∷ 2657392035 ∷
+    249268274 ∷ 2044508324 ∷ 3772115230 ∷ 2547177864 ∷ 162941995 ∷ 2125561021 ∷ 3887607047 ∷ 2428444049 ∷ []
+
+-- the effect of the high half
+abbrev pub check_high : List ℕ
+check_high =
     0 ∷ 498536548 ∷ 997073096 ∷ 651767980 ∷ 1994146192 ∷ 1802195444 ∷ 1303535960 ∷ 1342533948 ∷
     3988292384 ∷ 4027552580 ∷ 3604390888 ∷ 3412177804 ∷ 2607071920 ∷ 2262029012 ∷ 2685067896 ∷ 3183342108 ∷ []
 
@@ -13,13 +19,14 @@ check_table =
 abbrev pub first_check : ℕ
 first_check = 4294967295
 
--- four bits further
-abbrev pub check_half : ℕ → ℕ
-check_half rest = bit_xor (rest / 16) (slice_index check_table (rest % 16))
+-- one byte further, if the check and the byte were mixed
+abbrev pub check_mixed : ℕ → ℕ
+check_mixed mixed =
+    bit_xor (bit_xor (mixed / 256) (slice_index check_low (mixed % 16))) (slice_index check_high (mixed / 16 % 16))
 
 -- a byte further
 abbrev pub check_byte : ℕ → ℕ → ℕ
-check_byte rest byte = check_half (check_half (bit_xor rest byte))
+check_byte rest byte = check_mixed (bit_xor rest byte)
 
 -- some bytes further
 abbrev pub check_after : ℕ → List ℕ → ℕ

@@ -1,10 +1,30 @@
 ghost use Rattle.std.specs.Prelude.{◌≡◌, ◌<◌, ◌/◌, ◌%◌};
-ghost use Rattle.ring_change.specs.Checks.{check_after, check_byte, check_half, check_mark, first_check, hex_digit};
+ghost use Rattle.ring_change.specs.Checks.{check_after, check_byte, check_mark, first_check, hex_digit};
 
 use std::marker::Model;
 
-/// The effect of four bits on a check, for the polynomial 0xedb88320.
-const TABLE: [u32; 16] = [
+/// The effect of the low half of a byte on a check, for the polynomial 0xedb88320.
+const LOW: [u32; 16] = [
+    0,
+    0x7707_3096,
+    0xee0e_612c,
+    0x9909_51ba,
+    0x076d_c419,
+    0x706a_f48f,
+    0xe963_a535,
+    0x9e64_95a3,
+    0x0edb_8832,
+    0x79dc_b8a4,
+    0xe0d5_e91e,
+    0x97d2_d988,
+    0x09b6_4c2b,
+    0x7eb1_7cbd,
+    0xe7b8_2d07,
+    0x90bf_1d91,
+];
+
+/// The effect of the high half.
+const HIGH: [u32; 16] = [
     0,
     0x1db7_1064,
     0x3b6e_20c8,
@@ -80,18 +100,13 @@ impl Check {
     }
 }
 
+// The two halves are looked up at once: one look-up need not wait for the other.
 #[inline(always)]
 fn with_byte(rest: u32, byte: u8) -> u32
     ensures { result ≡ check_byte rest byte }
 {
-    with_half(with_half(rest ^ u32::from(byte)))
-}
-
-#[inline(always)]
-fn with_half(rest: u32) -> u32
-    ensures { result ≡ check_half rest }
-{
-    rest / 16 ^ TABLE[(rest % 16) as usize]
+    let mixed = rest ^ u32::from(byte);
+    mixed / 256 ^ LOW[(mixed % 16) as usize] ^ HIGH[(mixed / 16 % 16) as usize]
 }
 
 // The lowercase hexadecimal digit of a number below 16.
