@@ -1,4 +1,4 @@
-//! Lines that are answered together: what each of them asks is read before the first of them is answered.
+//! Lines that are answered together: all of them are read before the first is answered.
 ghost use Rattle.std.specs.Prelude.{◌≡◌, ◌<◌, ◌≤◌, ◌∷◌, [], length, vec_capacity};
 ghost use Rattle.ring_lines.specs.private.Batches.{AnswersAll, JoinsHeld};
 
@@ -7,10 +7,10 @@ use crate::buffer::LineBuffer;
 use std::alloc::{AllocError, Global};
 use std::marker::Model;
 
-/// How many lines are answered together at most.
+/// At most this many lines are answered together.
 const MOST: usize = 64;
 
-/// What lines asked that are answered together, and the answers to those that were answered last.
+/// The questions of the lines of a batch, and the answers to those of the last batch.
 #[derive(Drop)]
 pub(crate) struct Batch<A: Answerer> {
     asked: Vec<A::Asked>,
@@ -25,11 +25,12 @@ impl<A: Answerer> Model for Batch<A> {
 
     ghost view = { λ a. record { asked = a.asked.items; given = a.given.items } };
 
-    ghost invariant = { λ a. HasRoom (vec_capacity a.asked) (vec_capacity a.given) (vec_len a.asked) };
+    ghost invariant = { λ a.
+        HasRoom (vec_capacity a.asked) (vec_capacity a.given) (vec_len a.asked) };
 }
 
 impl<A: Answerer> Batch<A> {
-    /// A batch of no line, with room for all that it may have.
+    /// Returns a batch of no line, with room for 64 of them. Fails only if an allocation fails.
     pub(crate) fn new(alloc: Global) -> Result<Batch<A>, AllocError> {
         Ok(Batch {
             asked: Vec::with_capacity(alloc, MOST)?,
@@ -37,7 +38,7 @@ impl<A: Answerer> Batch<A> {
         })
     }
 
-    /// Takes what a line asks as the first of a new batch. Takes no memory.
+    /// Begins a new batch with the question of its first line. Does not allocate.
     pub(crate) fn begin(&mut self, asked: A::Asked)
         ensures { self.new.asked ≡ asked ∷ [] }
     {
@@ -45,7 +46,7 @@ impl<A: Answerer> Batch<A> {
         self.asked.push_reserved(asked);
     }
 
-    /// Reads whole lines that are held, as many as the batch has room for. Takes no memory.
+    /// Reads complete lines of the buffer, as many as the batch has room for. Does not allocate.
     pub(crate) fn read_held(&mut self, answerer: &A, lines: &mut LineBuffer)
         ensures joins { JoinsHeld A.asks lines.old self.old.asked lines.new self.new.asked }
         ensures more { length self.old.asked ≤ length self.new.asked }
@@ -60,20 +61,21 @@ impl<A: Answerer> Batch<A> {
         }
     }
 
-    /// Answers all that was asked, in order. Afterwards the answerer rests, the head of the queue is let go,
-    /// and the answerer settles.
+    /// Answers all questions, in order. Afterwards the answerer rests, the head of the queue is
+    /// released, and the answerer settles.
     pub(crate) fn answer(&mut self, answerer: &A, state: &mut A::State, alloc: Global)
         requires holds { A.holds answerer.now state.old }
         requires some { 0 < length self.old.asked }
         ensures kept { A.holds answerer.now state.new }
         ensures told { A.may_tell answerer.now state.new }
-        ensures answered { AnswersAll A.asks (A.answers answerer.now) self.old.asked state.old self.new.given state.new }
+        ensures answered { AnswersAll A.asks (A.answers answerer.now)
+            self.old.asked state.old self.new.given state.new }
     {
         self.given.clear();
         answer_all(answerer, state, alloc, &self.asked, &mut self.given);
     }
 
-    /// The answers that were given last.
+    /// Returns the answers of the last batch.
     pub(crate) fn given(&self) -> &[A::Answer]
         ensures { result.now ≡ self.now.given }
     {
@@ -81,7 +83,7 @@ impl<A: Answerer> Batch<A> {
     }
 }
 
-// Answers what lines asked, one after another.
+// Answers the questions of lines, one after another.
 fn answer_all<A: Answerer>(
     answerer: &A,
     state: &mut A::State,
@@ -95,7 +97,8 @@ fn answer_all<A: Answerer>(
     requires some { 0 < length asked.now }
     ensures kept { A.holds answerer.now state.new }
     ensures told { A.may_tell answerer.now state.new }
-    ensures answered { AnswersAll A.asks (A.answers answerer.now) asked.now state.old given.new.items state.new }
+    ensures answered { AnswersAll A.asks (A.answers answerer.now)
+        asked.now state.old given.new.items state.new }
     ensures room { vec_capacity given.new ≡ vec_capacity given.old }
 {
     let mut queued = None;
@@ -104,7 +107,7 @@ fn answer_all<A: Answerer>(
         given.push_reserved(answer);
     }
     answerer.rest(state);
-    // others may be answered while it waits
+    // settling may wait, and other threads may answer meanwhile
     drop(queued);
     answerer.settle(state);
 }

@@ -4,7 +4,8 @@ use Rattle.ring_lines.specs.Reader.{ShowsLine, answer_told}
 use Rattle.ring_lines.specs.Rounds.{RunOf}
 use Rattle.ring_lines.specs.declared.answers.Found.{Found}
 use Rattle.ring_lines.specs.declared.answers.Next.TheVariants as next
-use Rattle.ring_lines.proofs.AnsweringLines.{AnsweringNext, Owing, answering_none, answering_over, answering_passed, answers_none, closes_end, closes_fault, fails, fails_lines, owing_come, owing_joined, turned_next}
+use Rattle.ring_lines.proofs.AnsweringLines.{AnsweringNext, answering_none, answering_over, answers_none, closes_end, closes_fault, fails, turned_next}
+use Rattle.ring_lines.proofs.OwingLines.{Owing, answering_passed, fails_lines, owing_come, owing_joined}
 use Rattle.ring_lines.proofs.Batching.{asks_line, asks_long, asks_some}
 use Rattle.ring_lines.proofs.answering.answer_lines.Given.{Over}
 use Rattle.ring_lines.proofs.answering.answer_lines.Goals as goal
