@@ -7,9 +7,9 @@ use Rattle.ring_events.specs.declared.reply.Reply.TheVariants.{Done}
 use Rattle.ring_id.specs.declared.refusal.Refusal.{Refusal}
 use Rattle.ring_terms.specs.Commands.{Answers}
 use Rattle.ring_terms.specs.private.Replies.{done_reply}
-use Rattle.ring_terms.specs.Steps.{Replies, Step}
+use Rattle.ring_terms.specs.Steps.{Replies}
 use Rattle.ring_mux.specs.Views.{Held}
-use Rattle.ring_mux.specs.WorldSteps.{RunOfWorlds, StepOfWorlds}
+use Rattle.ring_mux.specs.WorldSteps.{HasStepped, RunOfWorlds}
 use Rattle.ring_election.specs.Tables.{Table}
 
 -- what is so where there is a value, there being no error
@@ -32,10 +32,9 @@ module _ {E S M : Type 0} (t : E → Table S M) (two_way greatest : E → Bool) 
   -- and likewise below the object
   pub RunOfWorlds-push : (old mid new : Held E M) (events : List (Event E)) (replies : List Reply) (event : Event E) (reply : Reply) →
       RunOfWorlds t two_way greatest old events replies mid →
-      Step two_way greatest mid.object event reply new.object × StepOfWorlds t two_way greatest mid event reply new →
+      HasStepped t two_way greatest mid event reply new →
       RunOfWorlds t two_way greatest old (events ++ event ∷ []) (replies ++ reply ∷ []) new
-  RunOfWorlds-push old mid new [] [] event reply run step =
-      (new, subst (λ (h : Held E M). Step two_way greatest h.object event reply new.object × StepOfWorlds t two_way greatest h event reply new) run step, refl)
+  RunOfWorlds-push old mid new [] [] event reply run step = (new, subst (λ (h : Held E M). HasStepped t two_way greatest h event reply new) run step, refl)
   RunOfWorlds-push old mid new [] (r ∷ replies) event reply run step = absurd run
   RunOfWorlds-push old mid new (e ∷ events) [] event reply run step = absurd run
   RunOfWorlds-push old mid new (e ∷ events) (r ∷ replies) event reply run step = (run.0, run.1, RunOfWorlds-push run.0 mid new events replies event reply run.2 step)

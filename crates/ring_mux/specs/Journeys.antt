@@ -1,4 +1,5 @@
--- What an event does to the worlds: which journals change, and what the numbers in replies count.
+-- The effect of an event on the worlds: which journals change, and what the numbers in replies
+-- count.
 use Rattle.std.specs.Prelude.{◌≡◌, ◌<◌, ◌≤◌, ◌⊎◌, ℕ, zero, suc, Bool, true, false, List, [], length, replicate, Option, Some, None, nat_lt}
 use Rattle.std.specs.Map.{set_value}
 use Rattle.std.specs.Str.{bytes_eq}
@@ -20,7 +21,7 @@ use Rattle.ring_mux.specs.declared.carried.Carried.TheVariants.{Moved, Idle, Ref
 use Rattle.ring_terms.specs.Steps.{MovesOf, MovesTimes}
 use Rattle.ring_mux.specs.Views.{Held, world_in}
 
--- the worlds with this one under that name, all others as they were
+-- the worlds with this one under that name; all others are as they were
 abbrev pub with_world : {E M : Type 0} → List ℕ → Running E M → List (List ℕ × Running E M) → List (List ℕ × Running E M)
 with_world name world worlds = set_value (bytes_eq name) worlds world
 
@@ -28,14 +29,14 @@ with_world name world worlds = set_value (bytes_eq name) worlds world
 abbrev pub begun_of : {E M : Type 0} → Charter E → Running E M
 begun_of charter = record { charter = charter; journals = replicate (length charter.roster) []; cut = no_cuts (length charter.roster) }
 
--- what a delivery files in the object: nothing where it tells nothing, else its report, by which the
--- member that it names becomes informed
+-- what a delivery files in the object: nothing if it makes no report, else its report, by which the
+-- member that the report names becomes informed
 abbrev pub Files : {E : Type 0} → (E → Bool) → Option (Told E) → Object E → Object E → Type 0
 Files greatest None old new = new ≡ old
 Files greatest (Some report) old new = Notes greatest report old Noted new
 
--- a delivery on the link into a position of a group's world: that world moves and no other, and what
--- the receipt tells is filed in the object, which is a step at the member of that position
+-- a delivery on the link into a position of a group's world: that world moves and no other, and the
+-- report of the receipt is filed in the object, which is a step at the member of that position
 pub record HasCarried {E S M : Type 0} (t : E → Table S M) (greatest : E → Bool) (name : List ℕ) (i : ℕ) (side : Side) (old new : Held E M) : Type 0 where
   pub before : Running E M
   pub after : Running E M
@@ -53,7 +54,7 @@ Carries t two_way greatest name i side world old Idle new = (link_refusal (two_w
 Carries t two_way greatest name i side world old (Refused refusal) new =
     IsRefusal (link_refusal (two_way world.charter.algorithm) side) (nat_lt 0 (length (in_flight t world i side))) refusal × (new ≡ old)
 
--- something can move in a world: there is a first link with something in flight
+-- something can move in a world: there is a first link with a packet in flight
 pub record CanMove {E S M : Type 0} (t : E → Table S M) (world : Running E M) : Type 0 where
   pub position : ℕ
   pub side : Side
@@ -66,15 +67,15 @@ pub record CarriesOnce {E S M : Type 0} (t : E → Table S M) (greatest : E → 
   pub carried : HasCarried t greatest name position side old new
   pub ready : IsFirstLink t carried.before position side
 
--- so many deliveries of a drain, one after another: each moves the world and files what it tells before
--- the next
+-- a number of deliveries of a drain, one after another: each moves the world and files its report
+-- before the next
 abbrev pub CarriesTimes : {E S M : Type 0} → (E → Table S M) → (E → Bool) → List ℕ → ℕ → Held E M → Held E M → Type 0
 CarriesTimes t greatest name zero old new = new ≡ old
 CarriesTimes {E} {S} {M} t greatest name (suc n) old new = (mid : Held E M) × CarriesTimes t greatest name n old mid × CarriesOnce t greatest name mid new
 
--- What the deliveries of a drain did: how many were made, and whether one was refused memory. It ends with
--- all of them made or where nothing can move; it starves where deliveries were still to be made and
--- something could move.
+-- The deliveries of a drain: how many were made, and whether an allocation failed. A drain that has
+-- not starved has made all of them, or nothing can move. One that has starved still had deliveries
+-- to make, and something could move.
 pub record Makes {E S M : Type 0} (t : E → Table S M) (greatest : E → Bool) (name : List ℕ) (count done : ℕ) (starved : Bool) (old new : Held E M) : Type 0 where
   pub within : done ≤ count
   pub made : CarriesTimes t greatest name done old new

@@ -1,4 +1,4 @@
--- What a mux stands for: the election object, and the world of the last term of each group.
+-- The value of a mux: the election object, and the world of the last term of each group.
 use Rattle.std.specs.Prelude.{◌≡◌, ◌<◌, ℕ, List, [], ◌∷◌, length, Option, None, Some, is_some, slice_get}
 use Rattle.std.specs.Map.{lookup}
 use Rattle.std.specs.Str.{bytes_eq}
@@ -13,8 +13,8 @@ pub record Held (E M : Type 0) : Type 0 where
   pub object : Object E
   pub worlds : List (List ℕ × Running E M)
 
--- The worlds under the names of their groups: each stands at its group's place. A group that has none
--- under its place, or no place in the list, has no world.
+-- The worlds under the names of their groups: each is in the list at its group's place. A group has
+-- no world if there is none at its place, or if the list is too short to have its place.
 abbrev pub placed : {X : Type 0} → List (List ℕ) → List (Option X) → List (List ℕ × X)
 placed [] slots = []
 placed (name ∷ names) [] = []
@@ -25,7 +25,7 @@ placed (name ∷ names) (Some world ∷ slots) = (name, world) ∷ placed names 
 abbrev pub world_in : {E M : Type 0} → List ℕ → List (List ℕ × Running E M) → Option (Running E M)
 world_in name worlds = lookup (bytes_eq name) worlds
 
--- The world of a term: its charter is the term's, and a member is informed exactly where its node
+-- The world of a term: its charter is the term's, and a member is informed exactly if its node
 -- knows the leader.
 pub record IsWorldOf {E S M : Type 0} (t : E → Table S M) (name : List ℕ) (group : GroupView E) (term : TermView) (worlds : List (List ℕ × Running E M)) : Type 0 where
   pub world : Running E M
@@ -37,7 +37,7 @@ pub record IsWorldOf {E S M : Type 0} (t : E → Table S M) (name : List ℕ) (g
 pub record IsHeld {E S M : Type 0} (t : E → Table S M) (object : Object E) (worlds : List (List ℕ × Running E M)) : Type 0 where
   pub each : (name : List ℕ) (group : GroupView E) (term : TermView) → find name object ≡ Some group → last_term group ≡ Some term → IsWorldOf t name group term worlds
 
--- so many packets are in flight or stuck in the world under a name
+-- `number` packets are in flight or stuck in the world under a name
 pub record IsPendingIn {E S M : Type 0} (t : E → Table S M) (name : List ℕ) (number : ℕ) (held : Held E M) : Type 0 where
   pub world : Running E M
   pub found : world_in name held.worlds ≡ Some world

@@ -3,7 +3,7 @@ use ring_id::Refusal;
 /// What a delivery in a group's running term did.
 #[derive(Clone, Copy)]
 pub enum Carried {
-    /// The front packet of the link was taken, and what it told was filed.
+    /// The first packet of the link was taken, and the leader that it brought was filed.
     Moved,
     /// Nothing is in flight on the link, or it is cut.
     Idle,

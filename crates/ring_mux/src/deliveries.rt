@@ -9,8 +9,8 @@ use ring_id::Side;
 use ring_terms::Book;
 use ring_world::{Passage, PassagesEnd, Traffic, World};
 
-/// A delivery on the link into a position of the world of the group at this place, and the leader that
-/// it tells filed in the book, by that place.
+/// Makes a delivery on the link into a position, in the world of the group at this place. If its
+/// member then knows the leader for the first time, the book files that, by the same place.
 pub fn carry<E: RingElection, T: Traffic<E>>(
     book: &mut Book<E>,
     place: usize,
@@ -20,7 +20,8 @@ pub fn carry<E: RingElection, T: Traffic<E>>(
 ) -> Carried
     requires stands { StandsAt E.table E.fits E.winner place book.old world.old }
     requires inside { position < length world.old.charter.roster }
-    ensures { CarriesAmong E.table E.fits E.winner E.is_two_way E.is_greatest position side book.old world.old result book.new world.new }
+    ensures { CarriesAmong E.table E.fits E.winner E.is_two_way E.is_greatest
+        position side book.old world.old result book.new world.new }
 {
     let leader = match world.pass(position, side) {
         Passage::Moved(leader) => leader,
@@ -34,8 +35,8 @@ pub fn carry<E: RingElection, T: Traffic<E>>(
     Carried::Moved
 }
 
-/// At most so many deliveries in the world of the group at this place, each at the link that is ready
-/// first: how many were made, and whether one was refused memory.
+/// Makes at most `count` deliveries in the world of the group at this place, each at the first
+/// ready link. Returns how many were made, and whether an allocation failed at the next one.
 pub fn carry_many<E: RingElection, T: Traffic<E>>(
     book: &mut Book<E>,
     place: usize,
@@ -43,7 +44,8 @@ pub fn carry_many<E: RingElection, T: Traffic<E>>(
     count: u32,
 ) -> (u32, bool)
     requires { StandsAt E.table E.fits E.winner place book.old world.old }
-    ensures { MakesAmong E.table E.fits E.winner E.is_greatest count book.old world.old result.0 result.1 book.new world.new }
+    ensures { MakesAmong E.table E.fits E.winner E.is_greatest
+        count book.old world.old result.0 result.1 book.new world.new }
 {
     let mut done = 0;
     while done < count {

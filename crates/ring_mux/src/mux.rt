@@ -22,8 +22,8 @@ use std::sync::Arc;
 
 /// Many groups at once: a book, and the world of the last term of each group at the group's place.
 ///
-/// How its worlds keep what is in flight is `T`. Contracts see a mux as the election object and the worlds
-/// under the names of their groups.
+/// `T` keeps what is in flight in a world. Contracts see a mux as the election object and the
+/// worlds under the names of their groups.
 #[derive(Drop)]
 pub struct Mux<E: RingElection, T: Traffic<E> = TalliedCircle<E>> {
     book: Book<E>,
@@ -43,7 +43,7 @@ impl<E: RingElection, T: Traffic<E>> Model for Mux<E, T> {
 }
 
 impl<E: RingElection, T: Traffic<E>> Mux<E, T> {
-    /// A mux without groups. Takes no memory today.
+    /// A mux without groups. Does not allocate.
     pub fn new(alloc: Global) -> Result<Mux<E, T>, NoMemory>
         ensures free { IsOk result }
         ensures empty { IfOk result (λ mux. mux ≡ record { object = []; worlds = [] }) }
@@ -54,19 +54,21 @@ impl<E: RingElection, T: Traffic<E>> Mux<E, T> {
         })
     }
 
-    /// The book of groups and terms. Takes no memory.
+    /// The book of groups and terms. Does not allocate.
     pub fn book(&self) -> &Book<E>
         ensures { result.now ≡ self.now.object }
     {
         &self.book
     }
 
-    /// One event: its reply is a step of the election object, and what it does below is a step of the
-    /// worlds. Afterwards a member of a running term is informed exactly where its own node knows the
-    /// leader, and a term with nothing in flight and no cut link is known at all its members.
+    /// The reply to one event, which is a step of the election object, and at once a step of the
+    /// worlds. Afterwards a member of a running term is informed exactly if its own node knows the
+    /// leader. A running term with nothing in flight and no cut link is known at all its members.
     pub fn step(&mut self, alloc: Global, event: Event<E>) -> Reply
-        ensures object { Step E.is_two_way E.is_greatest self.old.object event result self.new.object }
-        ensures worlds { StepOfWorlds E.table E.is_two_way E.is_greatest self.old event result self.new }
+        ensures object { Step E.is_two_way E.is_greatest
+            self.old.object event result self.new.object }
+        ensures worlds { StepOfWorlds E.table E.is_two_way E.is_greatest
+            self.old event result self.new }
         ensures informed { IsHeld E.table self.new.object self.new.worlds }
         ensures quiet { QuietIsKnown E.table self.new }
     {
@@ -77,23 +79,26 @@ impl<E: RingElection, T: Traffic<E>> Mux<E, T> {
             Event::Pending { group } => self.count(group),
             Event::Drain { group, count } => self.drain(group, count),
         };
-        // what the type keeps holds of the new state too
+        // a read, so that the prover has the invariant of the new state
         let _ = &self.worlds;
         reply
     }
 
-    /// Events one after another, one reply each: a run of the election object, and of the worlds.
-    /// Afterwards a member of a running term is informed exactly where its own node knows the leader,
-    /// and a term with nothing in flight and no cut link is known at all its members. Room for all replies
-    /// is found first: refused memory means that no event was taken.
+    /// The replies to events that are taken one after another: a run of the election object, and of
+    /// the worlds. After each event a member of a running term is informed exactly if its own node
+    /// knows the leader. A running term with nothing in flight and no cut link is then known at all
+    /// its members. Room for all replies is found first: if that allocation fails, no event was
+    /// taken.
     pub fn run(&mut self, alloc: Global, events: &[Event<E>]) -> Result<Vec<Reply>, NoMemory>
-        ensures run { IfOk result (λ replies. Run E.is_two_way E.is_greatest self.old.object events.now replies.items self.new.object) }
-        ensures worlds { IfOk result (λ replies. RunOfWorlds E.table E.is_two_way E.is_greatest self.old events.now replies.items self.new) }
+        ensures run { IfOk result (λ replies. Run E.is_two_way E.is_greatest
+            self.old.object events.now replies.items self.new.object) }
+        ensures worlds { IfOk result (λ replies. RunOfWorlds E.table E.is_two_way E.is_greatest
+            self.old events.now replies.items self.new) }
         ensures informed { IsHeld E.table self.new.object self.new.worlds }
         ensures quiet { QuietIsKnown E.table self.new }
         ensures err { OnErr result (self.new ≡ self.old) }
     {
-        // what the type keeps holds before the first event
+        // a read, so that the prover has the invariant before the first event
         let _ = &self.worlds;
         let Ok(mut replies) = Vec::with_capacity(alloc, events.len()) else {
             return Err(NoMemory);
@@ -105,10 +110,11 @@ impl<E: RingElection, T: Traffic<E>> Mux<E, T> {
         Ok(replies)
     }
 
-    /// A client's command.
+    /// The reply to a client's command.
     #[inline(always)]
     fn command(&mut self, alloc: Global, command: Command<E>) -> Reply
-        ensures object { StepOf E.is_two_way E.is_greatest self.old.object command result self.new.object }
+        ensures object { StepOf E.is_two_way E.is_greatest
+            self.old.object command result self.new.object }
         ensures worlds { CommandOfWorlds self.old command result self.new }
     {
         match command {
@@ -132,9 +138,10 @@ impl<E: RingElection, T: Traffic<E>> Mux<E, T> {
         }
     }
 
-    /// Starts a term: its world is made, and the room for it found, before anything changes.
+    /// Starts a term. Its world is made, and room for it is found, before anything changes.
     fn start(&mut self, alloc: Global, group: GroupName) -> Reply
-        ensures object { StepOf E.is_two_way E.is_greatest self.old.object (Command.Start group) result self.new.object }
+        ensures object { StepOf E.is_two_way E.is_greatest
+            self.old.object (Command.Start group) result self.new.object }
         ensures worlds { StartOfWorlds group self.old result self.new }
     {
         let Some(place) = self.book.place(group) else {
@@ -161,10 +168,12 @@ impl<E: RingElection, T: Traffic<E>> Mux<E, T> {
         Reply::Term(term)
     }
 
-    /// How many packets are in flight or stuck in a group's running term; where there are none the term is
-    /// known at all its members. Takes no memory. Refused, the first that holds: `NoGroup`, `NoTerm`.
+    /// How many packets are in flight or stuck in a group's running term. If there are none, the
+    /// term is known at all its members. Does not allocate. Refused with the first of `NoGroup` and
+    /// `NoTerm` that holds.
     pub fn pending(&self, group: GroupName) -> Result<u128, Refusal>
-        ensures number { Shows (in_group group running_refusal self.now.object) false result (λ number. IsPendingIn E.table group number self.now) }
+        ensures number { Shows (in_group group running_refusal self.now.object) false result
+            (λ number. IsPendingIn E.table group number self.now) }
         ensures known { IfOk result (λ number. KnownIfNone group number self.now.object) }
     {
         let place = self.place(group)?;
@@ -174,16 +183,20 @@ impl<E: RingElection, T: Traffic<E>> Mux<E, T> {
         Ok(world.pending())
     }
 
-    /// Makes deliveries at the first ready link of a group's running term, until so many are made,
-    /// nothing is ready, or one is refused memory; those that were made stand. A link that is cut is never
-    /// ready, and what is stuck there is left. Refused, the first that holds: `NoGroup`, `NoTerm`. A drain
-    /// of more than the algorithm's bound and the length of the ring together leaves nothing that can move,
-    /// unless it was refused memory. What a delivery tells is filed before the
-    /// next one: a member is informed exactly where its own node knows the leader.
+    /// Makes deliveries at the first ready link of a group's running term. It ends when `count` are
+    /// made, when no link is ready, or when an allocation fails; the deliveries that were made
+    /// stay. A cut link is never ready, and packets that are stuck there stay. Refused with the
+    /// first of `NoGroup` and `NoTerm` that holds. A drain of more than the algorithm's bound and
+    /// the length of the ring together leaves nothing that can move, unless an allocation failed.
+    /// The news of a delivery is filed before the next one: a member is informed exactly if its own
+    /// node knows the leader.
     pub fn drain(&mut self, group: GroupName, count: u32) -> Reply
-        ensures object { Step E.is_two_way E.is_greatest self.old.object (Event.Drain group count) result self.new.object }
-        ensures worlds { StepOfWorlds E.table E.is_two_way E.is_greatest self.old (Event.Drain group count) result self.new }
-        ensures bounded { LeavesQuiet E.table E.bound group count self.old.worlds self.new.worlds result }
+        ensures object { Step E.is_two_way E.is_greatest
+            self.old.object (Event.Drain group count) result self.new.object }
+        ensures worlds { StepOfWorlds E.table E.is_two_way E.is_greatest
+            self.old (Event.Drain group count) result self.new }
+        ensures bounded { LeavesQuiet E.table E.bound group count
+            self.old.worlds self.new.worlds result }
         ensures informed { IsHeld E.table self.new.object self.new.worlds }
     {
         let place = match self.place(group) {
@@ -201,10 +214,12 @@ impl<E: RingElection, T: Traffic<E>> Mux<E, T> {
         }
     }
 
-    /// One delivery at a member of a group's running term, from a side.
+    /// Makes one delivery at a member of a group's running term, from a side.
     fn deliver(&mut self, group: GroupName, node: NodeNo, side: Side) -> Reply
-        ensures object { Step E.is_two_way E.is_greatest self.old.object (Event.Deliver group node side) result self.new.object }
-        ensures worlds { StepOfWorlds E.table E.is_two_way E.is_greatest self.old (Event.Deliver group node side) result self.new }
+        ensures object { Step E.is_two_way E.is_greatest
+            self.old.object (Event.Deliver group node side) result self.new.object }
+        ensures worlds { StepOfWorlds E.table E.is_two_way E.is_greatest
+            self.old (Event.Deliver group node side) result self.new }
     {
         let (place, position) = match self.seat(group, node) {
             Ok(seat) => seat,
@@ -222,8 +237,10 @@ impl<E: RingElection, T: Traffic<E>> Mux<E, T> {
 
     /// Cuts the link into a member's position from a side, in a group's running term.
     fn cut(&mut self, group: GroupName, node: NodeNo, side: Side) -> Reply
-        ensures object { Step E.is_two_way E.is_greatest self.old.object (Event.Cut group node side) result self.new.object }
-        ensures worlds { StepOfWorlds E.table E.is_two_way E.is_greatest self.old (Event.Cut group node side) result self.new }
+        ensures object { Step E.is_two_way E.is_greatest
+            self.old.object (Event.Cut group node side) result self.new.object }
+        ensures worlds { StepOfWorlds E.table E.is_two_way E.is_greatest
+            self.old (Event.Cut group node side) result self.new }
     {
         let (place, position) = match self.seat(group, node) {
             Ok(seat) => seat,
@@ -237,8 +254,10 @@ impl<E: RingElection, T: Traffic<E>> Mux<E, T> {
 
     /// How many packets are in flight or stuck, as a reply.
     fn count(&self, group: GroupName) -> Reply
-        ensures object { Step E.is_two_way E.is_greatest self.now.object (Event.Pending group) result self.now.object }
-        ensures worlds { StepOfWorlds E.table E.is_two_way E.is_greatest self.now (Event.Pending group) result self.now }
+        ensures object { Step E.is_two_way E.is_greatest
+            self.now.object (Event.Pending group) result self.now.object }
+        ensures worlds { StepOfWorlds E.table E.is_two_way E.is_greatest
+            self.now (Event.Pending group) result self.now }
     {
         match self.pending(group) {
             Ok(pending) => Reply::Pending(Count::new(pending)),
@@ -248,15 +267,20 @@ impl<E: RingElection, T: Traffic<E>> Mux<E, T> {
 
     /// The place of a group that has a running term.
     fn place(&self, group: GroupName) -> Result<usize, Refusal>
-        ensures { Shows (in_group group running_refusal self.now.object) false result (λ place. IsAt group place (names self.now.object) × OfGroup group (λ g. running_refusal g ≡ None) self.now.object) }
+        ensures { Shows (in_group group running_refusal self.now.object) false result (λ place.
+            IsAt group place (names self.now.object)
+            × OfGroup group (λ g. running_refusal g ≡ None) self.now.object) }
     {
         self.book.running(group)?;
         self.book.place(group).ok_or(Refusal::NoGroup)
     }
 
-    /// Where a member of a group's running term stands on its ring, with the group's place.
+    /// The place of a group, and the position of a member on the ring of its running term.
     fn seat(&self, group: GroupName, node: NodeNo) -> Result<(usize, usize), Refusal>
-        ensures { Shows (in_group group (who_refusal node) self.now.object) false result (λ seat. IsAt group seat.0 (names self.now.object) × OfGroup group (OfLast (λ term. position_of node term.ring ≡ Some seat.1)) self.now.object) }
+        ensures { Shows (in_group group (who_refusal node) self.now.object) false result (λ seat.
+            IsAt group seat.0 (names self.now.object)
+            × OfGroup group (OfLast (λ term. position_of node term.ring ≡ Some seat.1))
+            self.now.object) }
     {
         let charter = self.book.running(group)?;
         let Some(position) = charter.roster().position(node) else {
@@ -269,8 +293,8 @@ impl<E: RingElection, T: Traffic<E>> Mux<E, T> {
     }
 }
 
-/// Makes this place one of the list's, with nothing at each place that is new. Refused for want of
-/// memory alone; the list is then unchanged.
+/// Makes the list long enough to have this place; each new place has no world. Fails only if an
+/// allocation fails; the list is then unchanged.
 fn make_place<T>(list: &mut Vec<Option<T>>, place: usize) -> Result<(), NoMemory>
     requires { place < 256 }
     ensures grown { OnOk result (HasGrown place list.old.items list.new.items) }
@@ -286,7 +310,7 @@ fn make_place<T>(list: &mut Vec<Option<T>>, place: usize) -> Result<(), NoMemory
     Ok(())
 }
 
-/// The reply to a command that answers nothing but that it is done.
+/// The reply to a command that has no other answer than that it is done.
 fn done(answer: Result<(), Refusal>) -> Reply
     ensures { result ≡ done_reply answer }
 {
@@ -296,7 +320,7 @@ fn done(answer: Result<(), Refusal>) -> Reply
     }
 }
 
-/// The reply that tells a standing.
+/// The reply to `who`: the standing of a member, or the refusal.
 fn told(answer: Result<Standing, Refusal>) -> Reply
     ensures { result ≡ told_reply answer }
 {
@@ -306,6 +330,7 @@ fn told(answer: Result<Standing, Refusal>) -> Reply
     }
 }
 
+/// The reply that says a standing.
 fn says(standing: Standing) -> Reply
     ensures { result ≡ standing_reply standing }
 {

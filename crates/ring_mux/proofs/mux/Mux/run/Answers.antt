@@ -37,7 +37,8 @@ loop-event-preserved g c = record {
       (Run-push g.E.RingElection.is_two_way g.E.RingElection.is_greatest _ _ _ _ _ _ _ c.loop-event.invariant.run c.step-reply.ensures.object);
   worlds =
       rw (take_more c.args.events.now c.loop-event.event-index c.event-item.result c.loop-event-test.true, ← c.event-item.is, c.push_reserved.ensures.items)
-      (RunOfWorlds-push g.E.RingElection.table g.E.RingElection.is_two_way g.E.RingElection.is_greatest _ _ _ _ _ _ _ c.loop-event.invariant.worlds (c.step-reply.ensures.object, c.step-reply.ensures.worlds));
+      (RunOfWorlds-push g.E.RingElection.table g.E.RingElection.is_two_way g.E.RingElection.is_greatest _ _ _ _ _ _ _ c.loop-event.invariant.worlds
+      (record { object = c.step-reply.ensures.object; worlds = c.step-reply.ensures.worlds; informed = c.step-reply.ensures.informed; quiet = c.step-reply.ensures.quiet }));
   informed = c.step-reply.ensures.informed;
   quiet = c.step-reply.ensures.quiet;
   count = omega (arith, c.push_reserved.ensures.len, c.loop-event.invariant.count);
