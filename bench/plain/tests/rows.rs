@@ -1,12 +1,12 @@
-//! Every row of the examples, through the program itself.
+//! Every test case of the repository, through the program itself.
 
 use std::path::Path;
 use std::process::Command;
 
 /// Checks all rows against the program with these words.
 fn check_rows(words: &[&str]) {
-    let examples = Path::new(env!("CARGO_MANIFEST_DIR")).join("../../examples");
-    let checked = Command::new(examples.join("check-rows"))
+    let tests = Path::new(env!("CARGO_MANIFEST_DIR")).join("../../tests");
+    let checked = Command::new(tests.join("check-rows"))
         .arg(env!("CARGO_BIN_EXE_plain-replay"))
         .args(words)
         .output()

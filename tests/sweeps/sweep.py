@@ -7,7 +7,7 @@ import sys
 import tempfile
 
 SWEEPS = pathlib.Path(__file__).resolve().parent
-ROOT = SWEEPS.parent
+ROOT = SWEEPS.parents[1]
 FAULTS = {b"read": b"ringd: read failed\n", b"write": b"ringd: write failed\n"}
 NO_MEMORY = b"ringd: no memory\n"
 

@@ -5,7 +5,7 @@ import re
 
 from sweep import Bad, NO_MEMORY, ROOT, run
 
-ROWS = SourceFileLoader("check_rows", str(ROOT / "examples/check-rows")).load_module()
+ROWS = SourceFileLoader("check_rows", str(ROOT / "tests/check-rows")).load_module()
 DRAIN = re.compile(rb"drain (\S+) ([0-9]+)")
 STARVED = re.compile(rb"drained ([0-9]+) left [0-9]+ no-memory")
 DRAINED = re.compile(rb"drained ([0-9]+) left ([0-9]+)")

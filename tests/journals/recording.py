@@ -1,4 +1,4 @@
-"""A recording of a life, as sweeps/record.c writes it, and the files that a crash at one of its moments may leave.
+"""A recording of a life, as tests/sweeps/record.c writes it, and the files that a crash at one of its moments may leave.
 
 A crash leaves of each file what was synced. Of each byte that was written since, it leaves the old or the new one; a
 file that grew has zeros in place of bytes that were not written, or ends early. Of the names that were made, moved and
@@ -12,7 +12,7 @@ from typing import NamedTuple
 
 from serving import Differs
 
-SWEEPS = pathlib.Path(__file__).resolve().parents[2] / "sweeps"
+SWEEPS = pathlib.Path(__file__).resolve().parents[1] / "sweeps"
 SECTOR = 512
 FOLDER = "."
 
