@@ -1,5 +1,5 @@
 -- Dropping: why an envelope or a charter is dropped.
-use Rattle.std.proofs.Common.{◌≡◌, ◌<◌, ℕ, zero, suc, Bool, false, List, [], ◌∷◌, Option, Some, Result, Ok, Err, slice_get, set, refl, sym, ap, ◌∙◌, subst, inl, inr, ◌⊎◌, arith}
+use Rattle.std.proofs.Common.{◌≡◌, ℕ, zero, suc, Bool, false, List, [], ◌∷◌, Option, Some, Result, Ok, Err, slice_get, set, refl, sym, ◌∙◌, subst, inl, inr, ◌⊎◌, arith}
 use Rattle.std.specs.Prelude.{IfErr, IfOk}
 use Rattle.std.proofs.lemmas.Option.{none-some, same_Some}
 use Rattle.ring_id.specs.declared.refusal.NoMemory.{NoMemory}
@@ -16,10 +16,9 @@ use Rattle.ring_node.specs.Reports.{Told}
 use Rattle.ring_workers.specs.Lists.{IsOneOf}
 use Rattle.ring_workers.specs.Owners.{position_of}
 use Rattle.ring_workers.specs.Seatings.{Seating, seated_in}
-use Rattle.ring_workers.specs.Holdings.{Holding, charters_in, nodes_in}
-use Rattle.ring_workers.specs.private.Fates.{HasOther, IsOutOfTurn, IsStranger, IsTurnedAway}
+use Rattle.ring_workers.specs.Holdings.{charters_in}
+use Rattle.ring_workers.specs.private.Fates.{HasOther, IsStranger, IsTurnedAway}
 use Rattle.ring_workers.specs.private.Goings.{HandsTo}
-use Rattle.ring_workers.specs.private.Holdings.{HasGroupAt}
 use Rattle.ring_workers.specs.private.Seatings.{IsPlaced}
 use Rattle.ring_workers.proofs.Among.{among_first, among_rest}
 use Rattle.ring_workers.proofs.Groups.{among_groups}

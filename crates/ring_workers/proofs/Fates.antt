@@ -1,5 +1,5 @@
 -- Fates: an item that was not counted as dropped was of an older term, or is done.
-use Rattle.std.proofs.Common.{◌≡◌, ℕ, Option, Some, None, refl, subst, inl, inr, ◌⊎◌, arith}
+use Rattle.std.proofs.Common.{◌≡◌, ℕ, Some, refl, subst, inl, inr, ◌⊎◌, arith}
 use Rattle.ring_node.specs.declared.charter.Charter.{Charter}
 use Rattle.ring_node.specs.Envelopes.{Sent}
 use Rattle.ring_workers.specs.declared.item.Item.{Item}

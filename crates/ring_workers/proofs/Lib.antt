@@ -2,6 +2,7 @@ mod Among
 mod Dropping
 mod Fates
 mod Goings
+mod GroupSteps
 mod Groups
 mod Growing
 mod Handling

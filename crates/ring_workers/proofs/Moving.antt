@@ -1,5 +1,5 @@
 -- Moving: how many nodes there are, counted place by place and group by group.
-use Rattle.std.proofs.Common.{◌≡◌, ◌+◌, ◌<◌, ◌≤◌, ℕ, zero, suc, arith, List, [], ◌∷◌, ◌++◌, length, take, get_or, Option, Some, None, refl, sym, ap, ◌∙◌, length-append}
+use Rattle.std.proofs.Common.{◌≡◌, ◌+◌, ◌<◌, ◌≤◌, ℕ, zero, suc, min, arith, List, [], ◌∷◌, ◌++◌, length, take, get_or, Option, Some, None, refl, sym, ap, ◌∙◌, length-append}
 use Rattle.std.proofs.lemmas.List.{append-nil, take_more}
 use Rattle.std.specs.Map.{values_of}
 use Rattle.ring_node.specs.Nodes.{Seated}
@@ -54,3 +54,7 @@ taken_whole [] zero h = refl
 taken_whole [] (suc n) h = refl
 taken_whole (x ∷ xs) zero h = absurd (omega arith)
 taken_whole (x ∷ xs) (suc n) h = ap (λ l. x ∷ l) (taken_whole xs n (omega arith))
+
+-- a count that stays at a greatest number, with what is left to count: it doesn't change where some of that is counted
+pub counted_up_to : (most count len here rest more sum : ℕ) → sum ≡ min (count + len) most → len ≡ here → more ≡ here + rest → min (sum + rest) most ≡ min (count + more) most
+counted_up_to most count len here rest more sum is same next = omega (arith, is, same, next)

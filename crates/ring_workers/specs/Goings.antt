@@ -1,4 +1,4 @@
--- Goings: what happens to nodes while a worker handles an item, and to what they send.
+-- Goings: the change of nodes while a worker handles an item, and the packets that they send.
 use Rattle.std.specs.Prelude.{◌≡◌, ℕ, List, Some, slice_get, take}
 use Rattle.ring_id.specs.declared.side.Side.{Side}
 use Rattle.ring_id.specs.Sides.{other}
@@ -7,8 +7,8 @@ use Rattle.ring_node.specs.Envelopes.{Sent}
 use Rattle.ring_node.specs.Nodes.{IsForNode, IsNext, Seated, envelope_of, taken_of}
 use Rattle.ring_workers.specs.Lists.{IsOneOf}
 
--- among these nodes is the one to which the envelope's link leads, and it took that packet from that link as the
--- one with that index
+-- among these nodes is the one to which the envelope's link leads, and it took that packet from
+-- that link, with that index
 pub record HasReceived {E M : Type 0} (nodes : List (Seated E M)) (envelope : Sent E M) : Type 0 where
   pub node : Seated E M
   pub there : IsOneOf nodes node

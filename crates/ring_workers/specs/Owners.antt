@@ -1,10 +1,10 @@
--- Owners: which worker owns a node, and to which node an envelope goes.
+-- Owners: the worker that owns a node, and the node to which an envelope goes.
 use Rattle.std.specs.Prelude.{ℕ, ◌%◌, length, slice_index}
 use Rattle.ring_id.specs.Identity.{number_of}
 use Rattle.ring_roster.specs.Ring.{neighbour}
 use Rattle.ring_node.specs.Envelopes.{Sent}
 
--- the number of the worker, of so many, that owns a member: the member's number modulo theirs
+-- the number of the worker that owns a member: the member's number modulo the number of workers
 abbrev pub owner_of : ℕ → ℕ → ℕ
 owner_of workers member = number_of member % workers
 

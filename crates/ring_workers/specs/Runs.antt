@@ -1,4 +1,4 @@
--- Runs: what a worker did with the items that it took.
+-- Runs: the work of a worker on the items that it took.
 use Rattle.std.specs.Prelude.{◌≡◌, ℕ, List, ◌++◌, map, Option, None, Some, option_to_list}
 use Rattle.ring_election.specs.Tables.{Table}
 use Rattle.ring_inbox.specs.Values.{ReceiverLog, SenderLog}
@@ -15,14 +15,14 @@ use Rattle.ring_workers.specs.Lists.{IsOneOf}
 use Rattle.ring_workers.specs.Sends.{Stored}
 
 module _ {E M S : Type 0} where
-  -- the charter that an item is of, if it is of one
+  -- the charter of an item, if it has one
   abbrev pub charter_of : Item E M S → Option (Charter E)
   charter_of (Begin c) = Some c.value
   charter_of (Packet e) = Some e.charter
   charter_of Stop = None
 
-  -- the item is done among these nodes: of a charter that begins each node that the worker owns is there, and an
-  -- envelope is a receipt of the node to which its link leads
+  -- the item is done among these nodes: each node that the worker owns of a charter that begins is
+  -- there, and an envelope is a receipt of the node to which its link leads
   abbrev pub IsDone : ℕ → ℕ → List (Seated E M) → Item E M S → Type 0
   IsDone number workers nodes (Begin c) = AllSeated number workers nodes c.value
   IsDone number workers nodes (Packet e) = HasReceived nodes e
@@ -32,13 +32,14 @@ module _ {E M S : Type 0} where
   pub record OneTerm (items : List (Item E M S)) (charter : Charter E) : Type 0 where
     pub each : (item : Item E M S) (c : Charter E) → IsOneOf items item → charter_of item ≡ Some c → c.group ≡ charter.group → c.term ≡ charter.term
 
-  -- where nothing was dropped and the items of a group that were taken are of one term, each of them that was handled
-  -- is done
+  -- if nothing was dropped and the items of a group that were taken are of one term, each of them
+  -- that was handled is done
   pub record AllDone (number workers : ℕ) (nodes : List (Seated E M)) (dropped : ℕ) (taken handled : List (Item E M S)) : Type 0 where
     pub each : dropped ≡ 0 → (item : Item E M S) (c : Charter E) → IsOneOf handled item → charter_of item ≡ Some c → OneTerm taken c → IsDone number workers nodes item
 
-  -- A worker ends at this item for this reason, with this in hand: the word to stop was handled, as was an item
-  -- whose report spent the desk's turns; where the gate halted it or memory was refused, the item is in hand still.
+  -- A worker ends at this item for this reason, with this item in hand. The word to stop was
+  -- handled, as was an item whose report spent the desk's turns. If the gate halted it or an
+  -- allocation failed, the item is in hand still.
   abbrev pub IsEnd : Why → Item E M S → Option (Item E M S) → Type 0
   IsEnd Stopped item held = (item ≡ Stop) × (held ≡ None)
   IsEnd Closed item held = ⊥
@@ -47,10 +48,11 @@ module _ {E M S : Type 0} where
   IsEnd Spent item held = held ≡ None
 
   module _ (t : E → Table S M) where
-    -- What a worker of this number has done since its receiver's pass was `from` and its senders' passes were `old`:
-    -- what it took, handled and has in hand; what its passes stored, which is packets alone, each by the pass to its
-    -- receiver's owner; each packet that a node of it has sent was stored so or waits; what was handled is done; and it
-    -- holds charters of groups and terms of items alone.
+    -- The work of a worker of this number since its receiver's pass was `from` and its senders'
+    -- passes were `old`. Each item that it took was handled or is in hand. Its passes stored
+    -- packets alone, each by the pass to its receiver's owner. Each packet that a node of it has
+    -- sent was stored so or waits. Each item that was handled is done. It holds charters of groups
+    -- and terms of items alone.
     pub record Ran (number workers : ℕ) (from to : ReceiverLog (Item E M S)) (old new : List (SenderLog (Item E M S)))
         (holding : Holding E M) (outbox : List (Sent E M)) (dropped : ℕ) (held : Option (Item E M S)) : Type 0 where
       pub number_is : holding.number ≡ number

@@ -4,8 +4,8 @@ use Rattle.ring_node.specs.declared.charter.Charter.{Charter}
 use Rattle.ring_node.specs.Nodes.{Seated}
 use Rattle.ring_workers.specs.Lists.{IsOneOf}
 
--- the number of the owner, how many workers there are, the charter of the term, and for each position the node
--- that is seated there, or none
+-- the number of the owner, how many workers there are, the charter of the term, and for each
+-- position the node that is seated there, if any
 pub record Seating (E M : Type 0) : Type 0 where
   pub number : ℕ
   pub workers : ℕ

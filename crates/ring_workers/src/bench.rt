@@ -29,9 +29,13 @@ pub(crate) struct Bench<E: RingElection> {
 }
 
 impl<E: RingElection> Bench<E> {
-    /// What a worker has in hand before its first item: nothing.
+    /// The bench of a worker before its first item: it has nothing in hand.
     pub fn new(worker: Worker<E>) -> Bench<E>
-        ensures nodes { result.nodes ≡ record { number = worker.owner.number; workers = worker.owner.workers; groups = [] } }
+        ensures nodes { result.nodes ≡ record {
+          number = worker.owner.number;
+          workers = worker.owner.workers;
+          groups = [];
+        } }
         ensures outbox { result.outbox.items ≡ [] }
         ensures dropped { result.dropped ≡ 0 }
     {
@@ -45,14 +49,16 @@ impl<E: RingElection> Bench<E> {
         }
     }
 
-    /// Handles an item. The answer is there where the worker ends: why, and the item where it was refused
-    /// memory and so was not handled.
+    /// Handles an item. If the worker ends, the result says why. It has the item too if an
+    /// allocation failed and so the item was not handled.
     pub fn handle<D: Desk<E>>(
         &mut self,
         item: Item<E>,
         desk: &mut D,
     ) -> Option<(Why, Option<Item<E>>)>
-        ensures turns { Turns E.table item self.old.nodes self.new.nodes self.old.outbox.items self.new.outbox.items self.old.dropped self.new.dropped (held_of result) }
+        ensures turns { Turns E.table item self.old.nodes self.new.nodes
+            self.old.outbox.items self.new.outbox.items
+            self.old.dropped self.new.dropped (held_of result) }
         ensures ends { EndsAt item result }
     {
         match item {
@@ -69,12 +75,14 @@ impl<E: RingElection> Bench<E> {
         }
     }
 
-    /// Begins the term of a charter. Another charter of the group and term that is held is dropped, and
-    /// counted.
+    /// Begins the term of a charter. If it is another charter than the one held of its group and
+    /// term, it is dropped and counted.
     fn begin(&mut self, charter: &Arc<Charter<E>>) -> Result<(), NoMemory>
-        ensures steps { Steps E.table charter.now.value self.old.nodes self.new.nodes self.old.outbox.items self.new.outbox.items }
+        ensures steps { Steps E.table charter.now.value self.old.nodes self.new.nodes
+            self.old.outbox.items self.new.outbox.items }
         ensures grows { self.old.dropped ≤ self.new.dropped }
-        ensures begun { OnOk result (IsBegun self.old.nodes self.new.nodes self.old.dropped self.new.dropped charter.now.value) }
+        ensures begun { OnOk result (IsBegun self.old.nodes self.new.nodes
+            self.old.dropped self.new.dropped charter.now.value) }
         ensures uncounted { OnErr result (self.new.dropped ≡ self.old.dropped) }
     {
         let fate = self.nodes.begin(self.alloc, charter, &mut self.outbox)?;
@@ -82,17 +90,19 @@ impl<E: RingElection> Bench<E> {
         Ok(())
     }
 
-    /// Delivers an envelope and files the report that comes of it. An envelope for a node of another
-    /// worker is dropped and counted, as is one that its node does not take. The answer is there where the
-    /// worker ends. Refused for want of memory, the envelope comes back.
+    /// Delivers an envelope and files the report that comes of it. An envelope for a node of
+    /// another worker is dropped and counted, as is one that its node does not take. The result
+    /// says why the worker ends, if it does. If an allocation fails, the envelope comes back.
     fn deliver<D: Desk<E>>(
         &mut self,
         envelope: Envelope<E>,
         desk: &mut D,
     ) -> Result<Option<Why>, Envelope<E>>
-        ensures steps { Steps E.table envelope.charter self.old.nodes self.new.nodes self.old.outbox.items self.new.outbox.items }
+        ensures steps { Steps E.table envelope.charter self.old.nodes self.new.nodes
+            self.old.outbox.items self.new.outbox.items }
         ensures grows { self.old.dropped ≤ self.new.dropped }
-        ensures delivered { OnOk result (IsDelivered self.old.nodes self.new.nodes self.old.dropped self.new.dropped envelope) }
+        ensures delivered { OnOk result (IsDelivered self.old.nodes self.new.nodes
+            self.old.dropped self.new.dropped envelope) }
         ensures uncounted { OnErr result (self.new.dropped ≡ self.old.dropped) }
         ensures back { IfErr result (λ back. back ≡ envelope) }
         ensures why { IfOk result (λ end. IfSome end (λ why. why ≡ Why.Spent)) }
@@ -115,7 +125,7 @@ impl<E: RingElection> Bench<E> {
         }
     }
 
-    /// What a worker hands over when it ends.
+    /// The worker's nodes and all else that it hands over when it ends.
     pub fn hand_back(self, held: Option<Item<E>>, why: Why) -> Handed<E>
         ensures number { result.number ≡ self.nodes.number }
         ensures workers { result.workers ≡ self.nodes.workers }
@@ -149,8 +159,8 @@ impl<E: RingElection> Bench<E> {
     }
 }
 
-/// How many items were dropped after one of this fate: one more where it was for no node here, or not the
-/// next packet of its link.
+/// How many items were dropped after an item of this fate: one more if the item was for no node
+/// here, or not the next packet of its link.
 fn dropped_after(dropped: u64, fate: Fate) -> u64
     ensures grows { dropped ≤ result }
     ensures counted { result ≡ dropped_by fate dropped }
@@ -161,8 +171,8 @@ fn dropped_after(dropped: u64, fate: Fate) -> u64
     }
 }
 
-/// Files a report. One that the desk refuses is kept, for which there is room; the worker ends where the
-/// desk's turns are used up.
+/// Files a report. A report that the desk refuses is kept; there is room for it. The worker ends if
+/// the desk's turns are used up.
 fn file<E: RingElection, D: Desk<E>>(
     unfiled: &mut Vec<Report<E>>,
     report: Report<E>,

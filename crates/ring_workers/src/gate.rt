@@ -1,7 +1,7 @@
 ghost use Rattle.std.specs.Prelude.{◌≡◌};
 ghost use Rattle.ring_workers.specs.declared.gate.Pass.TheVariants as pass;
 
-/// What a gate answers.
+/// The answer of a gate.
 #[derive(Clone, Copy, Debug, PartialEq, Eq)]
 pub enum Pass {
     /// The item is handled.
@@ -12,8 +12,8 @@ pub enum Pass {
 
 /// Looks at each item of each worker, for tests of schedules.
 pub trait Gate {
-    /// Called after the worker with this number took an item and before it handles it. Turns count the
-    /// worker's items from 1 on, and stay at the greatest number that a u64 holds.
+    /// Called after the worker with this number took an item and before it handles it. Turns count
+    /// the worker's items from 1 on, and stay at the greatest `u64`.
     fn enter(&self, worker: usize, turn: u64) -> Pass;
 
     /// Called after the item of that turn was handled.

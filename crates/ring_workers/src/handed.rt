@@ -1,4 +1,4 @@
-ghost use Rattle.std.specs.Prelude.{◌≡◌, ◌++◌, IfErr, IfOk, OnErr, OnOk};
+ghost use Rattle.std.specs.Prelude.{◌≡◌, ◌+◌, ◌<◌, ◌++◌, length, vec_capacity, vec_len, IfErr, IfOk, OnErr, OnOk};
 ghost use Rattle.ring_workers.specs.Handed.{rest_of};
 ghost use Rattle.ring_workers.specs.Holdings.{nodes_of};
 
@@ -17,13 +17,13 @@ pub enum Why {
     Closed,
     /// Its gate halted it, with the item in hand.
     Halted,
-    /// It was refused memory, with the item in hand.
+    /// An allocation failed, with the item in hand.
     Starved,
     /// Its desk has used up its turns.
     Spent,
 }
 
-/// What a worker hands over when it ends.
+/// The nodes and all else that a worker hands over when it ends.
 #[derive(Drop)]
 pub struct Handed<E: RingElection> {
     /// The worker's number.
@@ -39,13 +39,13 @@ pub struct Handed<E: RingElection> {
     /// Reports that the desk refused.
     pub unfiled: Vec<Report<E>>,
     /// How many items were for no node here, or not the next packet of their link. It stays at the
-    /// greatest number that a u64 holds. No other item is counted.
+    /// greatest `u64`. No other item is counted.
     pub dropped: u64,
     /// Why it ended.
     pub why: Why,
 }
 
-/// What a worker handed over, but for the nodes.
+/// All that a worker handed over except the nodes.
 #[derive(Drop)]
 pub struct Rest<E: RingElection> {
     /// The worker's number.
@@ -65,19 +65,17 @@ pub struct Rest<E: RingElection> {
 }
 
 impl<E: RingElection> Handed<E> {
-    /// Moves all nodes to the end of a list, and gives the rest. Fails only if an allocation fails, or if there
-    /// are more nodes than a `usize` counts, for which no memory is large enough. Then it gives itself back,
-    /// and nothing changes.
+    /// Moves all nodes to the end of a list, and returns the rest. Fails only if the list has no
+    /// room for them and an allocation fails. Then it gives itself back, and nothing changes.
     pub fn append_to(self, nodes: &mut Vec<Node<E>>) -> Result<Rest<E>, Handed<E>>
         ensures moved { OnOk result (nodes.new.items ≡ nodes.old.items ++ nodes_of self.nodes) }
         ensures rest { IfOk result (λ rest. rest ≡ rest_of self) }
         ensures kept { OnErr result (nodes.new.items ≡ nodes.old.items) }
         ensures back { IfErr result (λ back. back ≡ self) }
+        ensures full { OnErr result
+            (vec_capacity nodes.old < vec_len nodes.old + length (nodes_of self.nodes)) }
     {
-        let Some(count) = self.nodes.count() else {
-            return Err(self);
-        };
-        if nodes.reserve(count).is_err() {
+        if nodes.reserve(self.nodes.count()).is_err() {
             return Err(self);
         }
         let Handed {

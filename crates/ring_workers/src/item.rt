@@ -3,7 +3,7 @@ use ring_node::{Charter, Envelope};
 use std::alloc::Global;
 use std::sync::Arc;
 
-/// What a worker takes from its inbox.
+/// An item that a worker takes from its inbox.
 #[derive(Drop)]
 pub enum Item<E: RingElection> {
     /// A term begins: the worker seats the nodes of its ring that it owns.

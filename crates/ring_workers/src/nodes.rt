@@ -1,4 +1,4 @@
-ghost use Rattle.std.specs.Prelude.{◌≡◌, ◌+◌, ◌≤◌, ◌++◌, [], false, length, None, vec_capacity, vec_len, IfErr, IfOk, IfSome, IsTrue, MatchOption, OnOk};
+ghost use Rattle.std.specs.Prelude.{◌≡◌, ◌+◌, ◌-◌, ◌^◌, ◌≤◌, ◌++◌, [], false, length, min, None, vec_capacity, vec_len, IfErr, IfOk, IsTrue, MatchOption, OnOk};
 ghost use Rattle.ring_workers.specs.Holdings.{AllOwned, AllSeated, NoTwoAlike, charters_of, nodes_of};
 ghost use Rattle.ring_workers.specs.private.Holdings.{HasGroupAt, HasOlderAt, IsOlder, Steps};
 ghost use Rattle.std.specs.Map.{lookup};
@@ -18,11 +18,11 @@ use std::collections::VecDeque;
 use std::marker::Model;
 use std::sync::Arc;
 
-/// The nodes that a worker holds: of each group those of one term. That it is the newest term that the
-/// worker saw is tested, not proved.
+/// The nodes that a worker holds: of each group those of one term. Tested, not proved: it is the
+/// newest term that the worker saw.
 ///
-/// Contracts see the worker's number, how many workers there are, and the seats of each group. No two
-/// nodes have one charter and one position, and the worker owns each.
+/// Contracts see the worker's number, how many workers there are, and the seats of each group. No
+/// two nodes have one charter and one position, and the worker owns each.
 #[derive(Drop)]
 pub struct Nodes<E: RingElection> {
     owner: Owner,
@@ -35,13 +35,17 @@ impl<E: RingElection> Model for Nodes<E> {
 
     ghost Value = { Holding E E.Msg };
 
-    ghost view = { λ a. record { number = a.owner.number; workers = a.owner.workers; groups = a.groups.entries } };
+    ghost view = { λ a. record {
+      number = a.owner.number;
+      workers = a.owner.workers;
+      groups = a.groups.entries;
+    } };
 
     ghost invariant = { λ a. IsHolding a.owner.number a.owner.workers a.groups.entries };
 }
 
 impl<E: RingElection> Nodes<E> {
-    /// No nodes, of this owner. Takes no memory.
+    /// No nodes, of this owner. Does not allocate.
     pub(crate) fn new(alloc: Global, owner: Owner) -> Nodes<E>
         ensures { result ≡ record { number = owner.number; workers = owner.workers; groups = [] } }
     {
@@ -51,7 +55,7 @@ impl<E: RingElection> Nodes<E> {
         }
     }
 
-    /// The owner. Its last two clauses are what the type keeps.
+    /// The owner. The last two clauses give the invariant of the type.
     pub(crate) fn owner(&self) -> Owner
         ensures number { result.number ≡ self.now.number }
         ensures workers { result.workers ≡ self.now.workers }
@@ -61,16 +65,17 @@ impl<E: RingElection> Nodes<E> {
         self.owner
     }
 
-    /// Seats each node of a charter that the owner owns. Older nodes of the group are dropped, and so is a
-    /// charter of an older term. `Strange` where another charter of this group and term is held. Refused
-    /// for want of memory, the nodes seated so far stay.
+    /// Seats each node of a charter that the owner owns. Older nodes of the group are dropped, and
+    /// so is a charter of an older term. The result is `Strange` if another charter of this group
+    /// and term is held. If an allocation fails, the nodes seated so far stay.
     pub(crate) fn begin(
         &mut self,
         alloc: Global,
         charter: &Arc<Charter<E>>,
         outbox: &mut VecDeque<Envelope<E>>,
     ) -> Result<Fate, NoMemory>
-        ensures steps { Steps E.table charter.now.value self.old self.new outbox.old.items outbox.new.items }
+        ensures steps { Steps E.table charter.now.value self.old self.new
+            outbox.old.items outbox.new.items }
         ensures fate { IfOk result (IsFate self.old self.new charter.now.value) }
     {
         let Some(place) = self.turn_to(alloc, charter)? else {
@@ -82,10 +87,10 @@ impl<E: RingElection> Nodes<E> {
         }
     }
 
-    /// Hands an envelope to the node to which its link leads, which the owner owns. Older nodes of the
-    /// group are dropped, and so is an envelope of an older term. `Strange` where the envelope is of another
-    /// charter of this group and term, or not the next of its link. Refused for want of memory, the
-    /// envelope comes back.
+    /// Hands an envelope to the node to which its link leads, which the owner owns. Older nodes of
+    /// the group are dropped, and so is an envelope of an older term. The result is `Strange` if
+    /// the envelope is of another charter of this group and term, or not the next of its link. If
+    /// an allocation fails, the envelope comes back.
     pub(crate) fn hand_over(
         &mut self,
         alloc: Global,
@@ -93,7 +98,8 @@ impl<E: RingElection> Nodes<E> {
         outbox: &mut VecDeque<Envelope<E>>,
     ) -> Result<(Fate, Option<Report<E>>), Envelope<E>>
         requires { owner_of self.old.workers (receiver_of envelope) ≡ self.old.number }
-        ensures steps { Steps E.table envelope.charter self.old self.new outbox.old.items outbox.new.items }
+        ensures steps { Steps E.table envelope.charter self.old self.new
+            outbox.old.items outbox.new.items }
         ensures fate { IfOk result (λ r. IsEnvelopeFate self.old self.new envelope r.0) }
         ensures back { IfErr result (λ back. back ≡ envelope) }
     {
@@ -117,8 +123,10 @@ impl<E: RingElection> Nodes<E> {
         outbox: &mut VecDeque<Envelope<E>>,
     ) -> Result<bool, NoMemory>
         requires { HasGroupAt self.old.groups place charter.now.value }
-        ensures steps { Steps E.table charter.now.value self.old self.new outbox.old.items outbox.new.items }
-        ensures seated { IfOk result (λ own. IsTrue own → AllSeated self.new.number self.new.workers (nodes_of self.new) charter.now.value) }
+        ensures steps { Steps E.table charter.now.value self.old self.new
+            outbox.old.items outbox.new.items }
+        ensures seated { IfOk result (λ own. IsTrue own
+            → AllSeated self.new.number self.new.workers (nodes_of self.new) charter.now.value) }
         ensures strange { IfOk result (λ own. own ≡ false → HasOther self.new charter.now.value) }
     {
         let Some(seats) = self.groups.get_index_mut(place) else {
@@ -137,8 +145,10 @@ impl<E: RingElection> Nodes<E> {
     ) -> Result<(bool, Option<Report<E>>), Envelope<E>>
         requires group { HasGroupAt self.old.groups place envelope.charter }
         requires owned { owner_of self.old.workers (receiver_of envelope) ≡ self.old.number }
-        ensures steps { Steps E.table envelope.charter self.old self.new outbox.old.items outbox.new.items }
-        ensures received { IfOk result (λ r. IsTrue r.0 → HasReceived (nodes_of self.new) envelope) }
+        ensures steps { Steps E.table envelope.charter self.old self.new
+            outbox.old.items outbox.new.items }
+        ensures received { IfOk result
+            (λ r. IsTrue r.0 → HasReceived (nodes_of self.new) envelope) }
         ensures strange { IfOk result (λ r. r.0 ≡ false → IsStranger self.new envelope) }
         ensures back { IfErr result (λ back. back ≡ envelope) }
     {
@@ -148,16 +158,18 @@ impl<E: RingElection> Nodes<E> {
         seats.hand_over(alloc, envelope, outbox)
     }
 
-    /// The place of a charter's group, which then holds seats of the charter's term: the group gets a
-    /// place if it has none, and seats of an older term are dropped. None where the group's seats are of
-    /// a newer term. Refused for want of memory, nothing changes.
+    /// The place of a charter's group, which then holds seats of the charter's term. The group gets
+    /// a place if it has none, and seats of an older term are dropped. The result is `None` if the
+    /// group's seats are of a newer term. If an allocation fails, nothing changes.
     fn turn_to(
         &mut self,
         alloc: Global,
         charter: &Arc<Charter<E>>,
     ) -> Result<Option<usize>, NoMemory>
         ensures steps { Steps E.table charter.now.value self.old self.new [] [] }
-        ensures place { IfOk result (λ place. MatchOption place (IsOlder (charters_of self.old) charter.now.value) (λ i. HasGroupAt self.new.groups i charter.now.value)) }
+        ensures place { IfOk result (λ place. MatchOption place
+            (IsOlder (charters_of self.old) charter.now.value)
+            (λ i. HasGroupAt self.new.groups i charter.now.value)) }
     {
         let Some(place) = self.groups.get_index_of(&charter.group()) else {
             return self.add(alloc, charter);
@@ -199,7 +211,8 @@ impl<E: RingElection> Nodes<E> {
     fn add(&mut self, alloc: Global, charter: &Arc<Charter<E>>) -> Result<Option<usize>, NoMemory>
         requires { lookup (bytes_eq charter.now.value.group) self.old.groups ≡ None }
         ensures steps { Steps E.table charter.now.value self.old self.new [] [] }
-        ensures place { IfOk result (λ place. MatchOption place ⊥ (λ i. HasGroupAt self.new.groups i charter.now.value)) }
+        ensures place { IfOk result (λ place. MatchOption place ⊥
+            (λ i. HasGroupAt self.new.groups i charter.now.value)) }
     {
         let place = self.groups.len();
         let seats = Seats::new(alloc, self.owner, charter)?;
@@ -209,15 +222,16 @@ impl<E: RingElection> Nodes<E> {
         Ok(Some(place))
     }
 
-    /// How many nodes there are; none where that is more than a number can say.
-    pub(crate) fn count(&self) -> Option<usize>
-        ensures { IfSome result (λ count. count ≡ length (nodes_of self.now)) }
+    /// The number of nodes, or the greatest `usize` if there are more nodes than it counts. No list
+    /// has room for that many.
+    pub(crate) fn count(&self) -> usize
+        ensures { result ≡ min (length (nodes_of self.now)) (2 ^ 64 - 1) }
     {
         let mut count: usize = 0;
         for seats in self.groups.values() {
-            count = count.checked_add(seats.len())?;
+            count = count.saturating_add(seats.len());
         }
-        Some(count)
+        count
     }
 
     /// Moves all nodes to the end of a list that has room for them.

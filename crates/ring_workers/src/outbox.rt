@@ -21,7 +21,7 @@ pub(crate) fn receiver<E: RingElection>(envelope: &Envelope<E>) -> NodeId
     ring.at(position).unwrap()
 }
 
-/// Puts an envelope into an inbox, or gives it back where the inbox does not store it.
+/// Puts an envelope into an inbox. Returns the envelope if the inbox does not store it.
 fn put_one<E: RingElection, R: Wait>(
     rt: &R,
     pass: &mut SenderPass<Item<E>>,
@@ -36,8 +36,8 @@ fn put_one<E: RingElection, R: Wait>(
     }
 }
 
-/// Puts what waits in the outbox into the inboxes of its receivers' owners, from the front on, up to the
-/// first that is not stored, which stays at the front.
+/// Puts the packets of the outbox into the inboxes of their receivers' owners, from the front on.
+/// It ends at the first packet that is not stored, which stays at the front.
 pub(crate) fn send<E: RingElection, R: Wait>(
     rt: &R,
     owner: &Owner,
@@ -45,7 +45,8 @@ pub(crate) fn send<E: RingElection, R: Wait>(
     senders: &mut Vec<SenderPass<Item<E>>>,
 )
     requires { vec_len senders.old ≡ owner.now.workers }
-    ensures sends { Sends owner.now.workers outbox.old.items outbox.new.items senders.old.items senders.new.items }
+    ensures sends { Sends owner.now.workers
+        outbox.old.items outbox.new.items senders.old.items senders.new.items }
     ensures count { vec_len senders.new ≡ vec_len senders.old }
 {
     for _ in 0..outbox.len() {

@@ -5,7 +5,7 @@ use ring_id::NodeId;
 use std::alloc::Global;
 use std::marker::PhantomData;
 
-/// Which nodes a worker owns: those whose number, modulo the number of workers, is the worker's own.
+/// The owner of nodes: a worker owns those whose number, modulo the number of workers, is its own.
 #[derive(Clone, Copy)]
 pub(crate) struct Owner {
     pub(crate) number: usize,
@@ -14,7 +14,8 @@ pub(crate) struct Owner {
 }
 
 impl Owner {
-    /// The number of the worker that owns this member: its number modulo theirs, whatever it weighs.
+    /// The number of the worker that owns this member: the member's number modulo the number of
+    /// workers. The weight of the member does not count.
     pub fn of(&self, member: NodeId) -> usize
         ensures value { result ≡ owner_of self.now.workers member }
         ensures numbered { result < self.now.workers }
@@ -32,7 +33,7 @@ pub struct Worker<E> {
 }
 
 impl<E> Worker<E> {
-    /// The worker of this number among so many, numbered from 0. Takes no memory.
+    /// The worker of this number among `workers`, which are numbered from 0. Does not allocate.
     pub fn new(alloc: Global, number: usize, workers: usize) -> Worker<E>
         requires { number < workers }
         ensures number { result.owner.number ≡ number }

@@ -12,8 +12,8 @@ use std::alloc::Global;
 use std::collections::VecDeque;
 use std::sync::Arc;
 
-/// Finds room for so many more packets of a term: places in the outbox, and owners of the charter. What
-/// waits in the outbox stays in any case.
+/// Finds room for `more` packets of a term: places in the outbox, and owners of the charter. The
+/// packets in the outbox stay, whatever the result.
 pub(crate) fn find_room<E: RingElection>(
     charter: &Arc<Charter<E>>,
     copies: &mut Vec<Arc<Charter<E>>>,
@@ -35,8 +35,8 @@ pub(crate) fn find_room<E: RingElection>(
     Ok(())
 }
 
-/// Puts what a node has sent to a side, from this place on, at the back of the outbox. There is room for
-/// it, and a copy of the charter for each packet.
+/// Puts the packets that a node has sent to a side, from this place on, at the back of the outbox.
+/// There is room for them, and a copy of the charter for each.
 pub(crate) fn post<E: RingElection>(
     node: &Node<E>,
     side: Side,
@@ -47,11 +47,15 @@ pub(crate) fn post<E: RingElection>(
     requires copies { All (λ c. c.value ≡ node.now.charter) copies.old.items }
     requires from { from ≤ length (sent_of E.table node.now side) }
     requires many { length (sent_of E.table node.now side) ≤ vec_len copies.old + from }
-    requires room { deque_len outbox.old + length (sent_of E.table node.now side) ≤ deque_capacity outbox.old + from }
+    requires room { deque_len outbox.old + length (sent_of E.table node.now side)
+        ≤ deque_capacity outbox.old + from }
     ensures copies { All (λ c. c.value ≡ node.now.charter) copies.new.items }
-    ensures posts { Posts (envelope_of E.table node.now side) from outbox.old.items outbox.new.items }
-    ensures many { vec_len copies.new + length (sent_of E.table node.now side) ≡ vec_len copies.old + from }
-    ensures len { deque_len outbox.new + from ≡ deque_len outbox.old + length (sent_of E.table node.now side) }
+    ensures posts { Posts (envelope_of E.table node.now side) from
+        outbox.old.items outbox.new.items }
+    ensures many { vec_len copies.new + length (sent_of E.table node.now side)
+        ≡ vec_len copies.old + from }
+    ensures len { deque_len outbox.new + from
+        ≡ deque_len outbox.old + length (sent_of E.table node.now side) }
     ensures room { deque_capacity outbox.new ≡ deque_capacity outbox.old }
 {
     for place in from..node.sent(side) {
@@ -61,8 +65,8 @@ pub(crate) fn post<E: RingElection>(
     }
 }
 
-/// Hands an envelope to a node, and posts what the node sends because of it. Where the node does not take
-/// the envelope, it comes back and nothing changes.
+/// Hands an envelope to a node, and posts the packets that the node sends because of it. If the
+/// node does not take the envelope, it comes back and nothing changes.
 pub(crate) fn hand_to<E: RingElection>(
     node: &mut Node<E>,
     envelope: Envelope<E>,
@@ -73,8 +77,10 @@ pub(crate) fn hand_to<E: RingElection>(
     requires many { 3 ≤ vec_len copies.old }
     requires room { deque_len outbox.old + 3 ≤ deque_capacity outbox.old }
     ensures copies { All (λ c. c.value ≡ node.old.charter) copies.new.items }
-    ensures handed { HandsTo E.table node.old envelope result node.new outbox.old.items outbox.new.items }
-    ensures gains { OnOk result (Gains E.table node.old (other envelope.side) envelope.packet node.new) }
+    ensures handed { HandsTo E.table node.old envelope result node.new
+        outbox.old.items outbox.new.items }
+    ensures gains { OnOk result
+        (Gains E.table node.old (other envelope.side) envelope.packet node.new) }
     ensures refused { IfErr result (λ r. IsFault node.old envelope r.0) }
 {
     let left = node.sent(Side::Left);

@@ -21,7 +21,7 @@ const LOOKS_BEFORE_SLEEP: u32 = 100;
 /// How long an idle worker sleeps between two looks, in milliseconds.
 const SLEEP_MILLIS: u64 = 1;
 
-/// What a look into the inbox brings.
+/// The result of a look into the inbox.
 #[derive(Drop)]
 enum Next<E: RingElection> {
     /// An item.
@@ -32,17 +32,20 @@ enum Next<E: RingElection> {
     Closed,
 }
 
-/// Runs a worker: it takes one item at a time from its inbox and handles it, and puts what its nodes send
-/// into the inboxes of the receivers' owners, its own among them; the pass at place v is used for worker v.
-/// It ends when it takes the word to stop, or when the inbox is closed, the gate halts it, memory is
-/// refused, or its desk has used up its turns. That it returns isn't claimed.
+/// Runs a worker. It takes one item at a time from its inbox and handles it. It puts the packets of
+/// its nodes into the inboxes of the receivers' owners, its own among them. The pass at place v is
+/// for worker v. It ends when it takes the word to stop, or when the inbox is closed, the gate
+/// halts it, an allocation fails, or its desk has used up its turns. No contract claims that it
+/// returns.
 ///
-/// If a packet cannot be stored, it stays at the front of the outbox, and the worker goes on with its own
-/// inbox. With an empty outbox an idle worker waits in its inbox. Else it looks again and again, and sleeps
-/// a millisecond between two looks after the first hundred. How it waits is neither proved nor tested.
+/// If a packet cannot be stored, it stays at the front of the outbox, and the worker goes on with
+/// its own inbox. With an empty outbox an idle worker waits in its inbox. Else it looks again and
+/// again, and sleeps a millisecond between two looks after the first hundred. How it waits is
+/// neither proved nor tested.
 ///
-/// An envelope for which memory is refused is in hand at the end and is not counted as dropped: that is the
-/// contract of the inner function that handles an item. That the gate is told this worker's number is tested.
+/// If an allocation fails for an envelope, the envelope is in hand at the end and is not counted as
+/// dropped: that is the contract of the inner function that handles an item. Tested, not proved:
+/// the gate is called with this worker's number.
 pub fn run_worker<E: RingElection, G: Gate, D: Desk<E> + Drop, R: Wait + Clock>(
     rt: &R,
     worker: Worker<E>,
@@ -52,7 +55,8 @@ pub fn run_worker<E: RingElection, G: Gate, D: Desk<E> + Drop, R: Wait + Clock>(
     mut desk: D,
 ) -> Handed<E>
     requires { vec_len senders.old ≡ worker.owner.workers }
-    ensures { Hands E.table worker.owner.number worker.owner.workers receiver.old receiver.new senders.old.items senders.new.items result }
+    ensures { Hands E.table worker.owner.number worker.owner.workers
+        receiver.old receiver.new senders.old.items senders.new.items result }
 {
     let mut bench = Bench::new(worker);
     let mut turn: u64 = 0;
@@ -77,8 +81,8 @@ pub fn run_worker<E: RingElection, G: Gate, D: Desk<E> + Drop, R: Wait + Clock>(
     unreachable!()
 }
 
-/// Handles an item between the gate's two calls, unless the gate halts the worker. The answer is there
-/// where the worker ends: why, and the item where it was not handled.
+/// Handles an item between the gate's two calls, unless the gate halts the worker. If the worker
+/// ends, the result says why, and has the item if it was not handled.
 fn handle_at<E: RingElection, G: Gate, D: Desk<E>>(
     bench: &mut Bench<E>,
     item: Item<E>,
@@ -86,7 +90,9 @@ fn handle_at<E: RingElection, G: Gate, D: Desk<E>>(
     gate: &G,
     desk: &mut D,
 ) -> Option<(Why, Option<Item<E>>)>
-    ensures turns { Turns E.table item bench.old.nodes bench.new.nodes bench.old.outbox.items bench.new.outbox.items bench.old.dropped bench.new.dropped (held_of result) }
+    ensures turns { Turns E.table item bench.old.nodes bench.new.nodes
+        bench.old.outbox.items bench.new.outbox.items
+        bench.old.dropped bench.new.dropped (held_of result) }
     ensures ends { EndsAt item result }
 {
     let number = bench.nodes.owner().number;
@@ -100,7 +106,7 @@ fn handle_at<E: RingElection, G: Gate, D: Desk<E>>(
     }
 }
 
-/// The next item of the inbox. It waits for one only where it is told to.
+/// The next item of the inbox. It waits for an item only if `waits`.
 fn next_item<E: RingElection, R: Wait>(
     rt: &R,
     receiver: &mut ReceiverPass<Item<E>>,
@@ -121,7 +127,7 @@ fn next_item<E: RingElection, R: Wait>(
     }
 }
 
-/// Lets other threads run between two looks: it sleeps where there were many looks in vain. The answer is
+/// Lets other threads run between two looks, and sleeps if there were many looks in vain. Returns
 /// how many there were.
 fn rest<R: Clock>(rt: &R, idle: u32) -> u32 {
     if idle < LOOKS_BEFORE_SLEEP {

@@ -20,10 +20,11 @@ use std::sync::Arc;
 /// How many packets a node sends at most when it is seated: one to each side.
 const SENT_AT_SEAT: usize = 2;
 
-/// How many packets a node sends at most because of one receipt: one to each side, and an announcement.
+/// How many packets a node sends at most because of one receipt: one to each side, and an
+/// announcement.
 const SENT_AT_RECEIPT: usize = 3;
 
-/// What became of an item.
+/// The fate of an item.
 #[derive(Clone, Copy)]
 pub(crate) enum Fate {
     /// It was handled.
@@ -36,7 +37,8 @@ pub(crate) enum Fate {
 
 /// The nodes of one term that a worker owns, each at the place of its position.
 ///
-/// Contracts see the owner, the charter, and for each position the node that is seated there, or none.
+/// Contracts see the owner, the charter, and for each position the node that is seated there, if
+/// any.
 #[derive(Drop)]
 pub(crate) struct Seats<E: RingElection> {
     owner: Owner,
@@ -52,16 +54,25 @@ impl<E: RingElection> Model for Seats<E> {
 
     ghost Value = { Seating E E.Msg };
 
-    ghost view = { λ a. record { number = a.owner.number; workers = a.owner.workers; charter = a.charter.value; places = a.places.items } };
+    ghost view = { λ a. record {
+      number = a.owner.number;
+      workers = a.owner.workers;
+      charter = a.charter.value;
+      places = a.places.items;
+    } };
 
-    ghost invariant = { λ a. IsSeating a.owner.number a.owner.workers a.charter.value a.places.items × All (λ c. c.value ≡ a.charter.value) a.copies.items };
+    ghost invariant = { λ a.
+        IsSeating a.owner.number a.owner.workers a.charter.value a.places.items
+        × All (λ c. c.value ≡ a.charter.value) a.copies.items };
 }
 
 impl<E: RingElection> Seats<E> {
-    /// The seats of this charter's ring, with no node yet. Refused for want of memory alone.
+    /// The seats of this charter's ring, with no node yet. Fails only if an allocation fails.
     pub fn new(alloc: Global, owner: Owner, charter: &Arc<Charter<E>>) -> Result<Seats<E>, NoMemory>
-        ensures empty { IfOk result (λ seats. seats ≡ empty_seating owner.number owner.workers charter.now.value) }
-        ensures kept { IfOk result (λ seats. IsSeating seats.number seats.workers seats.charter seats.places) }
+        ensures empty { IfOk result
+            (λ seats. seats ≡ empty_seating owner.number owner.workers charter.now.value) }
+        ensures kept { IfOk result
+            (λ seats. IsSeating seats.number seats.workers seats.charter seats.places) }
     {
         let ring = charter.roster().len();
         let mut places = Vec::with_capacity(alloc, ring)?;
@@ -84,9 +95,9 @@ impl<E: RingElection> Seats<E> {
         &self.charter
     }
 
-    /// Seats each node of the term that the owner owns and that is not seated, where the charter is the
-    /// term's own, which is the answer. Room for what they send is found first. Refused for want of
-    /// memory, the nodes seated so far stay.
+    /// Seats each node of the term that the owner owns and that is not seated, if the charter is
+    /// the term's own. Returns whether it is. Room for the packets that they send is found first.
+    /// If an allocation fails, the nodes seated so far stay.
     pub fn begin(
         &mut self,
         alloc: Global,
@@ -95,8 +106,10 @@ impl<E: RingElection> Seats<E> {
     ) -> Result<bool, NoMemory>
         ensures term { KeepsTerm self.old self.new }
         ensures kept { IsSeating self.new.number self.new.workers self.new.charter self.new.places }
-        ensures goes { Goes E.table (seated_in self.old.places) (seated_in self.new.places) outbox.old.items outbox.new.items }
-        ensures seated { IfOk result (λ own. IsTrue own → AllSeated self.new.number self.new.workers (seated_in self.new.places) charter.now) }
+        ensures goes { Goes E.table (seated_in self.old.places) (seated_in self.new.places)
+            outbox.old.items outbox.new.items }
+        ensures seated { IfOk result (λ own. IsTrue own
+            → AllSeated self.new.number self.new.workers (seated_in self.new.places) charter.now) }
         ensures strange { IfOk result (λ own. own ≡ false → self.new.charter ≡ charter.now → ⊥) }
     {
         if !self.charter.same(charter) {
@@ -112,11 +125,11 @@ impl<E: RingElection> Seats<E> {
         Ok(true)
     }
 
-    /// Hands an envelope of this group and term to the node to which its link leads, which is seated
-    /// first where it is not. The answer is whether the node took it, and its report; it does not where
-    /// the envelope is of another charter or not the next of its link. Room for all that it can cause is
-    /// found first. Refused for want of memory, the envelope comes back; a node that was seated for it
-    /// stays.
+    /// Hands an envelope of this group and term to the node to which its link leads, which is
+    /// seated first if it is not. Returns whether the node took it, and its report. The node does
+    /// not take it if the envelope is of another charter or not the next of its link. Room for all
+    /// packets that it can cause is found first. If an allocation fails, the envelope comes back; a
+    /// node that was seated for it stays.
     pub fn hand_over(
         &mut self,
         alloc: Global,
@@ -126,9 +139,12 @@ impl<E: RingElection> Seats<E> {
         requires { owner_of self.old.workers (receiver_of envelope) ≡ self.old.number }
         ensures term { KeepsTerm self.old self.new }
         ensures kept { IsSeating self.new.number self.new.workers self.new.charter self.new.places }
-        ensures goes { Goes E.table (seated_in self.old.places) (seated_in self.new.places) outbox.old.items outbox.new.items }
-        ensures received { IfOk result (λ r. IsTrue r.0 → HasReceived (seated_in self.new.places) envelope) }
-        ensures away { IfOk result (λ r. r.0 ≡ false → IsTurnedAway (seated_in self.new.places) self.new.charter envelope) }
+        ensures goes { Goes E.table (seated_in self.old.places) (seated_in self.new.places)
+            outbox.old.items outbox.new.items }
+        ensures received { IfOk result
+            (λ r. IsTrue r.0 → HasReceived (seated_in self.new.places) envelope) }
+        ensures away { IfOk result (λ r. r.0 ≡ false
+            → IsTurnedAway (seated_in self.new.places) self.new.charter envelope) }
         ensures back { IfErr result (λ back. back ≡ envelope) }
     {
         let position = position(&envelope);
@@ -146,8 +162,8 @@ impl<E: RingElection> Seats<E> {
         }
     }
 
-    /// Seats the node at this position of a charter where none is seated there and the charter is the
-    /// term's own. The answer is whether a node is seated there.
+    /// Seats the node at this position of a charter, if none is seated there and the charter is the
+    /// term's own. Returns whether a node is seated there.
     fn make_seat(
         &mut self,
         alloc: Global,
@@ -156,12 +172,16 @@ impl<E: RingElection> Seats<E> {
         outbox: &mut VecDeque<Envelope<E>>,
     ) -> Result<bool, NoMemory>
         requires inside { position < length charter.now.roster }
-        requires owned { owner_of self.old.workers (slice_index charter.now.roster position) ≡ self.old.number }
+        requires owned { owner_of self.old.workers (slice_index charter.now.roster position)
+            ≡ self.old.number }
         ensures term { KeepsTerm self.old self.new }
         ensures kept { IsSeating self.new.number self.new.workers self.new.charter self.new.places }
-        ensures goes { Goes E.table (seated_in self.old.places) (seated_in self.new.places) outbox.old.items outbox.new.items }
-        ensures seated { IfOk result (λ there. IsTrue there → HasNodeAt (seated_in self.new.places) self.new.charter position) }
-        ensures strange { IfOk result (λ there. there ≡ false → self.new.charter ≡ charter.now → ⊥) }
+        ensures goes { Goes E.table (seated_in self.old.places) (seated_in self.new.places)
+            outbox.old.items outbox.new.items }
+        ensures seated { IfOk result (λ there. IsTrue there
+            → HasNodeAt (seated_in self.new.places) self.new.charter position) }
+        ensures strange { IfOk result
+            (λ there. there ≡ false → self.new.charter ≡ charter.now → ⊥) }
     {
         if self.is_seated(position) {
             return Ok(true);
@@ -173,8 +193,8 @@ impl<E: RingElection> Seats<E> {
         Ok(true)
     }
 
-    /// Seats the node at this position, with room for what it sends and for what it sends because of one
-    /// receipt.
+    /// Seats the node at this position, with room for the packets that it sends then and because of
+    /// one receipt.
     fn seat_for_receipt(
         &mut self,
         alloc: Global,
@@ -183,11 +203,14 @@ impl<E: RingElection> Seats<E> {
     ) -> Result<(), NoMemory>
         requires inside { position < length self.old.charter.roster }
         requires empty { slice_get self.old.places position ≡ Some None }
-        requires owned { owner_of self.old.workers (slice_index self.old.charter.roster position) ≡ self.old.number }
+        requires owned { owner_of self.old.workers (slice_index self.old.charter.roster position)
+            ≡ self.old.number }
         ensures term { KeepsTerm self.old self.new }
         ensures kept { IsSeating self.new.number self.new.workers self.new.charter self.new.places }
-        ensures goes { Goes E.table (seated_in self.old.places) (seated_in self.new.places) outbox.old.items outbox.new.items }
-        ensures seated { OnOk result (HasNodeAt (seated_in self.new.places) self.new.charter position) }
+        ensures goes { Goes E.table (seated_in self.old.places) (seated_in self.new.places)
+            outbox.old.items outbox.new.items }
+        ensures seated { OnOk result
+            (HasNodeAt (seated_in self.new.places) self.new.charter position) }
     {
         find_room(
             &self.charter,
@@ -198,7 +221,7 @@ impl<E: RingElection> Seats<E> {
         self.seat(alloc, position, outbox)
     }
 
-    /// Seats the node at this position and posts what it sends.
+    /// Seats the node at this position and posts the packets that it sends.
     fn seat(
         &mut self,
         alloc: Global,
@@ -207,11 +230,14 @@ impl<E: RingElection> Seats<E> {
     ) -> Result<(), NoMemory>
         requires inside { position < length self.old.charter.roster }
         requires empty { slice_get self.old.places position ≡ Some None }
-        requires owned { owner_of self.old.workers (slice_index self.old.charter.roster position) ≡ self.old.number }
+        requires owned { owner_of self.old.workers (slice_index self.old.charter.roster position)
+            ≡ self.old.number }
         ensures term { KeepsTerm self.old self.new }
         ensures kept { IsSeating self.new.number self.new.workers self.new.charter self.new.places }
-        ensures goes { Goes E.table (seated_in self.old.places) (seated_in self.new.places) outbox.old.items outbox.new.items }
-        ensures seated { OnOk result (HasNodeAt (seated_in self.new.places) self.new.charter position) }
+        ensures goes { Goes E.table (seated_in self.old.places) (seated_in self.new.places)
+            outbox.old.items outbox.new.items }
+        ensures seated { OnOk result
+            (HasNodeAt (seated_in self.new.places) self.new.charter position) }
     {
         find_room(&self.charter, &mut self.copies, outbox, SENT_AT_SEAT)?;
         let copy = Arc::try_clone(&self.charter)?;
@@ -222,7 +248,8 @@ impl<E: RingElection> Seats<E> {
         Ok(())
     }
 
-    /// Hands an envelope to the node that is seated at this position, and posts what it sends.
+    /// Hands an envelope to the node that is seated at this position, and posts the packets that it
+    /// sends.
     fn take(
         &mut self,
         position: usize,
@@ -233,9 +260,11 @@ impl<E: RingElection> Seats<E> {
         requires led { position ≡ position_of envelope }
         ensures term { KeepsTerm self.old self.new }
         ensures kept { IsSeating self.new.number self.new.workers self.new.charter self.new.places }
-        ensures goes { Goes E.table (seated_in self.old.places) (seated_in self.new.places) outbox.old.items outbox.new.items }
+        ensures goes { Goes E.table (seated_in self.old.places) (seated_in self.new.places)
+            outbox.old.items outbox.new.items }
         ensures received { OnOk result (HasReceived (seated_in self.new.places) envelope) }
-        ensures away { IfErr result (λ r. (r.0 ≡ TakeFault.NoMemory) ⊎ IsTurnedAway (seated_in self.new.places) self.new.charter envelope) }
+        ensures away { IfErr result (λ r. (r.0 ≡ TakeFault.NoMemory)
+            ⊎ IsTurnedAway (seated_in self.new.places) self.new.charter envelope) }
         ensures back { IfErr result (λ r. r.1 ≡ envelope) }
     {
         if find_room(&self.charter, &mut self.copies, outbox, SENT_AT_RECEIPT).is_err() {
@@ -249,7 +278,10 @@ impl<E: RingElection> Seats<E> {
 
     /// Whether a node is seated at this position.
     fn is_seated(&self, position: usize) -> bool
-        ensures { MatchBool result (HasNodeAt (seated_in self.now.places) self.now.charter position) (slice_get self.now.places position ≡ Some None ⊎ slice_get self.now.places position ≡ None) }
+        ensures { MatchBool result
+            (HasNodeAt (seated_in self.now.places) self.now.charter position)
+            (slice_get self.now.places position ≡ Some None
+            ⊎ slice_get self.now.places position ≡ None) }
     {
         match self.places.get(position) {
             Some(Some(_)) => true,

@@ -1,4 +1,4 @@
--- Fates: what became of an item, where memory was not refused, and how many items were dropped.
+-- Fates: what became of an item, if no allocation failed, and how many items were dropped.
 use Rattle.std.specs.Prelude.{◌≡◌, ◌+◌, ◌-◌, ◌^◌, ◌⊎◌, ℕ, List, min}
 use Rattle.ring_id.specs.Sides.{other}
 use Rattle.ring_node.specs.declared.charter.Charter.{Charter}
@@ -12,15 +12,16 @@ use Rattle.ring_workers.specs.Lists.{IsOneOf}
 use Rattle.ring_workers.specs.Owners.{owner_of, receiver_of}
 use Rattle.ring_workers.specs.private.Holdings.{IsOlder}
 
--- among these nodes is the one to which the envelope's link leads, and the packet is not the next of the link: it was
--- taken before, or one before it was not
+-- among these nodes is the one to which the envelope's link leads, and the packet is not the next
+-- of the link: it was taken before, or one before it was not
 pub record IsOutOfTurn {E M : Type 0} (nodes : List (Seated E M)) (envelope : Sent E M) : Type 0 where
   pub node : Seated E M
   pub there : IsOneOf nodes node
   pub led : IsForNode node envelope
   pub late : IsNext (taken_of node (other envelope.side)) envelope.index envelope.packet → ⊥
 
--- these nodes, which are of this charter, do not take the envelope: it is of another charter, or out of turn
+-- these nodes, which are of this charter, do not take the envelope: it is of another charter, or
+-- out of turn
 abbrev pub IsTurnedAway : {E M : Type 0} → List (Seated E M) → Charter E → Sent E M → Type 0
 IsTurnedAway nodes charter envelope = (charter ≡ envelope.charter → ⊥) ⊎ IsOutOfTurn nodes envelope
 
@@ -40,20 +41,21 @@ pub record HasOther {E M : Type 0} (holding : Holding E M) (charter : Charter E)
   pub term : held.term ≡ charter.term
   pub differs : held ≡ charter → ⊥
 
--- what became of a charter that begins: each node that the worker owns is seated, or a newer term was held, or another
--- charter of its term is
+-- the fate of a charter that begins: each node that the worker owns is seated, or a newer term was
+-- held, or another charter of its term is held
 abbrev pub IsFate : {E M : Type 0} → Holding E M → Holding E M → Charter E → Fate → Type 0
 IsFate old new charter Done = AllSeated new.number new.workers (nodes_of new) charter
 IsFate old new charter Older = IsOlder (charters_of old) charter
 IsFate old new charter Strange = HasOther new charter
 
--- what became of an envelope: it is a receipt, or a newer term was held, or the nodes of its term do not take it
+-- the fate of an envelope: it is a receipt, or a newer term was held, or the nodes of its term do
+-- not take it
 abbrev pub IsEnvelopeFate : {E M : Type 0} → Holding E M → Holding E M → Sent E M → Fate → Type 0
 IsEnvelopeFate old new envelope Done = HasReceived (nodes_of new) envelope
 IsEnvelopeFate old new envelope Older = IsOlder (charters_of old) envelope.charter
 IsEnvelopeFate old new envelope Strange = IsStranger new envelope
 
--- how many items were dropped after one of this fate, up to the greatest number that a u64 holds
+-- how many items were dropped after an item of this fate, up to the greatest `u64`
 abbrev pub dropped_by : Fate → ℕ → ℕ
 dropped_by Done dropped = dropped
 dropped_by Older dropped = dropped
@@ -63,8 +65,8 @@ dropped_by Strange dropped = min (dropped + 1) (2 ^ 64 - 1)
 abbrev pub IsBegun : {E M : Type 0} → Holding E M → Holding E M → ℕ → ℕ → Charter E → Type 0
 IsBegun old new before dropped charter = (fate : Fate) × IsFate old new charter fate × (dropped ≡ dropped_by fate before)
 
--- an envelope has one of these fates, or is for a node of another worker; it is counted if it is strange or for such a
--- node
+-- an envelope has one of these fates, or is for a node of another worker; it is counted if it is
+-- strange or for such a node
 abbrev pub IsDelivered : {E M : Type 0} → Holding E M → Holding E M → ℕ → ℕ → Sent E M → Type 0
 IsDelivered old new before dropped envelope =
     ((fate : Fate) × IsEnvelopeFate old new envelope fate × (dropped ≡ dropped_by fate before))

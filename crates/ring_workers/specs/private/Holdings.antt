@@ -1,4 +1,4 @@
--- What a worker keeps of what it holds, and what inner functions say of it.
+-- The invariant of the nodes that a worker holds, and the promises of inner functions on them.
 use Rattle.std.specs.Prelude.{◌≡◌, ◌<◌, ℕ, List, ◌++◌, ◌⊎◌, Some, slice_get}
 use Rattle.ring_election.specs.Tables.{Table}
 use Rattle.ring_node.specs.declared.charter.Charter.{Charter}
@@ -30,7 +30,7 @@ pub record IsOlder {E : Type 0} (charters : List (Charter E)) (charter : Charter
   pub group : newer.group ≡ charter.group
   pub term : charter.term < newer.term
 
--- at this place stand seats of the charter's group and term
+-- the seats at this place are of the charter's group and term
 pub record HasGroupAt {E M : Type 0} (groups : List (List ℕ × Seating E M)) (place : ℕ) (charter : Charter E) : Type 0 where
   pub name : List ℕ
   pub seats : Seating E M
@@ -38,7 +38,7 @@ pub record HasGroupAt {E M : Type 0} (groups : List (List ℕ × Seating E M)) (
   pub group : seats.charter.group ≡ charter.group
   pub term : seats.charter.term ≡ charter.term
 
--- at this place stand seats of the charter's group and of an older term
+-- the seats at this place are of the charter's group and of an older term
 pub record HasOlderAt {E M : Type 0} (groups : List (List ℕ × Seating E M)) (place : ℕ) (charter : Charter E) : Type 0 where
   pub name : List ℕ
   pub seats : Seating E M
@@ -47,9 +47,10 @@ pub record HasOlderAt {E M : Type 0} (groups : List (List ℕ × Seating E M)) (
   pub term : seats.charter.term < charter.term
 
 module _ {E S M : Type 0} (t : E → Table S M) where
-  -- What handling an item of this charter does to all nodes: nodes of another term of its group may be dropped,
-  -- all others stay and may have received more; each packet that a node has sent was sent before, or has joined
-  -- the outbox; a charter that was not held before is of the group and term of this one.
+  -- The change of all nodes while an item of this charter is handled. Nodes of another term of its
+  -- group may be dropped; all others stay and may have received more. Each packet that a node has
+  -- sent was sent before, or has joined the outbox. A charter that was not held before is of the
+  -- group and term of this one.
   pub record Steps (charter : Charter E) (old new : Holding E M) (waiting after : List (Sent E M)) : Type 0 where
     pub number_is : new.number ≡ old.number
     pub workers_is : new.workers ≡ old.workers

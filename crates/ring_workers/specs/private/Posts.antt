@@ -1,4 +1,4 @@
--- Posts: what a node sent joins the outbox.
+-- Posts: the packets that a node sent join the outbox.
 use Rattle.std.specs.Prelude.{◌≡◌, ◌<◌, ◌≤◌, ℕ, List, ◌++◌, Option, Some}
 use Rattle.ring_workers.specs.Lists.{IsOneOf}
 

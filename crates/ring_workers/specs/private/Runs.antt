@@ -1,8 +1,7 @@
--- What inner functions of a worker say of what it did in a run.
+-- The promises of inner functions of a worker on its work in a run.
 use Rattle.std.specs.Prelude.{◌≡◌, ◌≤◌, ◌⊎◌, ℕ, List, [], ◌∷◌, ◌++◌, Option, None, Some}
 use Rattle.ring_election.specs.Tables.{Table}
 use Rattle.ring_inbox.specs.Values.{ReceiverLog}
-use Rattle.ring_node.specs.declared.charter.Charter.{Charter}
 use Rattle.ring_node.specs.Envelopes.{Sent}
 use Rattle.ring_workers.specs.declared.handed.Why.{Why}
 use Rattle.ring_workers.specs.declared.item.Item.{Item}
@@ -21,31 +20,31 @@ module _ {E M S : Type 0} where
   Gives old next.Nothing new = new ≡ old
   Gives old next.Closed new = new ≡ old
 
-  -- the item that a worker has in hand where it ends
+  -- the item that a worker has in hand when it ends
   abbrev pub held_of : Option (Why × Option (Item E M S)) → Option (Item E M S)
   held_of None = None
   held_of (Some end) = end.1
 
-  -- it ends at this item, or goes on, which it does after no word to stop
+  -- it ends at this item, or goes on; after the word to stop it never goes on
   abbrev pub EndsAt : Item E M S → Option (Why × Option (Item E M S)) → Type 0
   EndsAt item None = item ≡ Stop → ⊥
   EndsAt item (Some end) = IsEnd end.0 item end.1
 
-  -- what became of the item, and whether it was counted as dropped
+  -- the fate of the item, and whether it was counted as dropped
   abbrev pub IsHandled : Holding E M → Holding E M → ℕ → ℕ → Item E M S → Type 0
   IsHandled old new before dropped (Begin c) = IsBegun old new before dropped c.value
   IsHandled old new before dropped (Packet e) = IsDelivered old new before dropped e
   IsHandled old new before dropped Stop = dropped ≡ before
 
   module _ (t : E → Table S M) where
-    -- what an item does to the nodes and the outbox
+    -- the effect of an item on the nodes and the outbox
     abbrev pub StepsFor : Item E M S → Holding E M → Holding E M → List (Sent E M) → List (Sent E M) → Type 0
     StepsFor (Begin c) old new waiting after = Steps t c.value old new waiting after
     StepsFor (Packet e) old new waiting after = Steps t e.charter old new waiting after
     StepsFor Stop old new waiting after = (new ≡ old) × (after ≡ waiting)
 
-    -- one turn of a worker: the item does what it does, and it is in hand still and not counted as dropped, or it was
-    -- handled
+    -- one turn of a worker: the item has its effect, and it is in hand still and not counted as
+    -- dropped, or it was handled
     pub record Turns (item : Item E M S) (old new : Holding E M) (waiting after : List (Sent E M)) (before dropped : ℕ) (held : Option (Item E M S)) : Type 0 where
       pub steps : StepsFor item old new waiting after
       pub grows : before ≤ dropped

@@ -1,4 +1,4 @@
--- What inner functions of a worker say of seating nodes.
+-- The promises of inner functions of a worker on seating nodes.
 use Rattle.std.specs.Prelude.{◌≡◌, ◌<◌, ℕ, List, Option, None, Some, length, replicate, slice_get, slice_index}
 use Rattle.ring_node.specs.declared.charter.Charter.{Charter}
 use Rattle.ring_node.specs.Nodes.{Seated, member_of}
@@ -15,7 +15,7 @@ pub record IsPlaced {E M : Type 0} (number workers : ℕ) (charter : Charter E) 
   pub position_is : node.position ≡ place
   pub owned : owner_of workers (member_of node) ≡ number
 
--- there is a place for each position, and each node stands at its own
+-- there is a place for each position, and each node is at its own
 pub record IsSeating {E M : Type 0} (number workers : ℕ) (charter : Charter E) (places : List (Option (Seated E M))) : Type 0 where
   pub size : length places ≡ length charter.roster
   pub each : (place : ℕ) (node : Seated E M) → slice_get places place ≡ Some (Some node) → IsPlaced number workers charter place node

@@ -5,7 +5,8 @@ use Rattle.std.specs.Str.{bytes_eq}
 use Rattle.std.proofs.lemmas.Result.{err_from_is_err_and}
 use Rattle.indexmap.proofs.CallerLemmas.{insert_entry-new}
 use Rattle.ring_workers.specs.private.Holdings.{IsGroupAt, IsHolding, Steps}
-use Rattle.ring_workers.proofs.Groups.{empty_group, get_pushed, holding_push, other_name, steps_none, steps_push}
+use Rattle.ring_workers.proofs.Groups.{empty_group, get_pushed, holding_push, other_name}
+use Rattle.ring_workers.proofs.GroupSteps.{steps_none, steps_push}
 use Rattle.ring_workers.proofs.nodes.Nodes.add.Goals as goal
 
 pub returns-in_default-clause-steps : goal.returns-in_default-clause-steps

@@ -1,5 +1,5 @@
 -- A charter begins after the turn to its term.
-use Rattle.ring_workers.proofs.Groups.{steps_before, steps_on}
+use Rattle.ring_workers.proofs.GroupSteps.{steps_before, steps_on}
 use Rattle.ring_workers.proofs.nodes.Nodes.begin.Goals as goal
 
 pub returns-in_err-begin_at-clause-steps : goal.returns-in_err-begin_at-clause-steps

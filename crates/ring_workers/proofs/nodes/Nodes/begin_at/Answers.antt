@@ -9,7 +9,8 @@ use Rattle.ring_workers.specs.private.Holdings.{Steps}
 use Rattle.ring_workers.specs.private.Seatings.{KeepsTerm}
 use Rattle.ring_workers.specs.Seatings.{seated_in}
 use Rattle.ring_workers.proofs.Dropping.{other_held}
-use Rattle.ring_workers.proofs.Groups.{all_held_if, get_set_value-same, group_kept, holding_set, steps_in, value_there}
+use Rattle.ring_workers.proofs.Groups.{all_held_if, get_set_value-same, group_kept, holding_set, value_there}
+use Rattle.ring_workers.proofs.GroupSteps.{steps_in}
 use Rattle.ring_workers.proofs.nodes.Nodes.begin_at.Goals as goal
 
 pub unreachable-requires : goal.unreachable-requires

@@ -4,7 +4,7 @@ use Rattle.std.proofs.lemmas.Result.{err_from_is_err_and}
 use Rattle.ring_node.specs.declared.charter.Charter.{Charter}
 use Rattle.ring_workers.specs.Holdings.{charters_of}
 use Rattle.ring_workers.specs.private.Holdings.{IsOlder, Steps}
-use Rattle.ring_workers.proofs.Groups.{steps_before, steps_on}
+use Rattle.ring_workers.proofs.GroupSteps.{steps_before, steps_on}
 use Rattle.ring_workers.proofs.nodes.Nodes.hand_over.Goals as goal
 
 pub returns-in_err-report : goal.returns-in_err-report

@@ -8,7 +8,8 @@ use Rattle.ring_workers.specs.Owners.{owner_of, receiver_of}
 use Rattle.ring_workers.specs.private.Seatings.{KeepsTerm}
 use Rattle.ring_workers.specs.Seatings.{seated_in}
 use Rattle.ring_workers.proofs.Dropping.{stranger_held_if}
-use Rattle.ring_workers.proofs.Groups.{get_set_value-same, group_kept, holding_set, received_held_if, steps_in, value_there}
+use Rattle.ring_workers.proofs.Groups.{get_set_value-same, group_kept, holding_set, received_held_if, value_there}
+use Rattle.ring_workers.proofs.GroupSteps.{steps_in}
 use Rattle.ring_workers.proofs.nodes.Nodes.hand_over_at.Goals as goal
 
 pub unreachable-requires : goal.unreachable-requires

@@ -4,7 +4,8 @@ use Rattle.std.proofs.lemmas.Option.{slice_get_within}
 use Rattle.std.proofs.lemmas.Result.{err_from_is_err_and}
 use Rattle.indexmap.specs.IndexMap.{set_value_at}
 use Rattle.ring_workers.specs.private.Holdings.{IsGroupAt, Steps}
-use Rattle.ring_workers.proofs.Groups.{empty_group, get_set_value-same, holding_set, steps_none, steps_replace}
+use Rattle.ring_workers.proofs.Groups.{empty_group, get_set_value-same, holding_set}
+use Rattle.ring_workers.proofs.GroupSteps.{steps_none, steps_replace}
 use Rattle.ring_workers.proofs.nodes.Nodes.replace.Goals as goal
 
 pub unreachable-requires : goal.unreachable-requires

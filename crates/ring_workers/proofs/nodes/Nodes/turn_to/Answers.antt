@@ -2,7 +2,8 @@
 use Rattle.std.proofs.Common.{◌≡◌, ◌<◌, slice_get, sym, ap, ◌∙◌, subst, arith, refl}
 use Rattle.ring_workers.specs.Holdings.{charters_of}
 use Rattle.ring_workers.specs.Lists.{IsOneOf}
-use Rattle.ring_workers.proofs.Groups.{charter_at, name_found, steps_none}
+use Rattle.ring_workers.proofs.Groups.{charter_at, name_found}
+use Rattle.ring_workers.proofs.GroupSteps.{steps_none}
 use Rattle.ring_workers.proofs.nodes.Nodes.turn_to.Goals as goal
 
 pub returns-then-wanted-held-clause-steps : goal.returns-then-wanted-held-clause-steps
