@@ -19,11 +19,13 @@ use std::snapshot::Snapshot;
 /// A table that many threads call in turns.
 ///
 /// It is a ticket lock (Mellor-Crummey and Scott, "Algorithms for scalable synchronization on
-/// shared-memory multiprocessors", 1991): a call draws a ticket, waits until that ticket is served, takes
-/// the table from its desk, performs the call, puts the table back and serves the next ticket. Through a
-/// seat that keeps the table several calls are made before it is put back. Callers queue at a plain lock
-/// before, so that the thread whose ticket is next is a running one. Contracts see which lock it is, how
-/// many seats it has, and the history that it was opened with.
+/// shared-memory multiprocessors", 1991). A call draws a ticket and waits until that ticket is
+/// served. It takes the table from its desk, performs the call, puts the table back and serves the
+/// next ticket. If a seat keeps the table, several calls are made before it is put back.
+///
+/// Callers first queue at a plain lock, so that the thread with the next ticket is a running one.
+/// Contracts see the identity of the lock, its number of seats, and the history that it was opened
+/// with.
 #[derive(Drop)]
 pub struct TurnLock<E: RingElection, T: Tabled<E> + Drop = Table<E>> {
     pub(crate) alloc: Global,
@@ -40,14 +42,16 @@ impl<E: RingElection, T: Tabled<E> + Drop> Model for TurnLock<E, T> {
 
     ghost view = { λ lock. lock_of lock.board.shared.table_id lock.maker.me.0 };
 
-    ghost invariant = { λ lock. IsMaker lock.board.shared.table_id lock.maker.table_id lock.maker.me };
+    ghost invariant = { λ lock.
+        IsMaker lock.board.shared.table_id lock.maker.table_id lock.maker.me };
 }
 
 impl<E: RingElection, T: Tabled<E> + Drop> TurnLock<E, T> {
-    /// Opens a lock over a table, with so many seats, numbered from 0, that have so many turns each.
+    /// Opens a lock over a table, with `seats` seats, numbered from 0, that have `turns` turns
+    /// each.
     ///
-    /// Both numbers are at least 1, and their product is below 2^64. Refused for want of memory alone:
-    /// then the table is dropped.
+    /// Both numbers are at least 1, and their product is below 2^64. Fails only if an allocation
+    /// fails. Then the table is dropped.
     pub fn new(
         alloc: Global,
         table: T,
@@ -56,8 +60,10 @@ impl<E: RingElection, T: Tabled<E> + Drop> TurnLock<E, T> {
     ) -> Result<(TurnLock<E, T>, Vec<Seat<E, T>>), NoMemory>
         requires some { (0 < seats) × (0 < turns) }
         requires few { seats * turns < 2 ^ 64 }
-        ensures opened { IfOk result (λ made. (made.0.seats ≡ seats) × (made.0.opening ≡ (T.shows table).history)) }
-        ensures seats { IfOk result (λ made. made.1.items ≡ fresh_seats made.0.id turns (T.shows table).history seats) }
+        ensures opened { IfOk result (λ made.
+            (made.0.seats ≡ seats) × (made.0.opening ≡ (T.shows table).history)) }
+        ensures seats { IfOk result (λ made.
+            made.1.items ≡ fresh_seats made.0.id turns (T.shows table).history seats) }
     {
         let Ok(mut all) = Vec::with_capacity(alloc, seats) else {
             drop(table);
@@ -85,12 +91,12 @@ impl<E: RingElection, T: Tabled<E> + Drop> TurnLock<E, T> {
         Ok((lock, all))
     }
 
-    /// Ends the lock, with all its seats, and hands its table over.
+    /// Ends the lock, with all its seats, and returns its table. Does not allocate.
     ///
-    /// The table's history is the one that the lock was opened with, followed by the entries that the
-    /// seats made: those of each seat, each once, in its order, and no others. It begins with what each
-    /// seat has seen. The table keeps for good each entry of which a seat knows that. The condition is that
-    /// each seat is one of this lock and that none is missing. Takes no memory.
+    /// The table's history is the one that the lock was opened with, followed by the entries that
+    /// the seats made. It has each seat's entries, each once, in the seat's order, and no others.
+    /// It begins with all that any seat has seen. If a seat knows that an entry is kept for good,
+    /// the table keeps it for good. Each seat must be one of this lock, and none may be missing.
     pub fn close(self, seats: Vec<Seat<E, T>>) -> T
         requires { HasAllSeats self seats.items }
         ensures closes { Closes E.is_two_way E.is_greatest self seats.items (T.shows result) }
@@ -125,7 +131,7 @@ impl<E: RingElection, T: Tabled<E> + Drop> TurnLock<E, T> {
     }
 }
 
-// The table with its words and its desk, and the place that makes the seats.
+// Makes the table with its words and its desk, and the place that makes the seats.
 fn open<E: RingElection, T: Tabled<E> + Drop>(
     alloc: Global,
     table: T,
@@ -133,7 +139,8 @@ fn open<E: RingElection, T: Tabled<E> + Drop>(
     turns: u64,
 ) -> Result<(Board<E, T>, Place<E, T>), NoMemory>
     requires few { seats * turns < 2 ^ 64 }
-    ensures { IfOk result (λ made. IsOpened seats turns (T.shows table).history made.0.shared.table_id made.1.table_id made.1.me) }
+    ensures { IfOk result (λ made. IsOpened seats turns (T.shows table).history
+        made.0.shared.table_id made.1.table_id made.1.me) }
 {
     let start = Start {
         limit: seats as u64 * turns,

@@ -9,8 +9,8 @@ use std::alloc::Global;
 use std::marker::PhantomData;
 use std::snapshot::Snapshot;
 
-// The words: tickets drawn, tickets served, and how many of the first entries are told to be kept for good. And
-// the one slot.
+// The words: tickets drawn, tickets served, and how many of the first entries are known to be kept
+// for good. And the one slot.
 pub(crate) const DRAWN: usize = 0;
 
 pub(crate) const SERVED: usize = 1;
@@ -31,7 +31,7 @@ pub(crate) type Board<E, T> = atomic_table::Table<
 
 pub(crate) type Place<E, T> = Seat<Desk<E, T>, Doing<E>>;
 
-// How a lock starts: how many turns there are in all, how many each seat gets, and the table.
+// The start of a lock: the number of turns in all, the number of turns of each seat, and the table.
 #[derive(Drop)]
 pub struct Start<E: RingElection, T: Tabled<E> + Drop> {
     pub(crate) limit: u64,
@@ -62,7 +62,7 @@ impl<E: RingElection, T: Tabled<E> + Drop> Play<Option<HeldTable<E, T>>, Doing<E
     ghost then = { IsDraw };
 }
 
-// A seat looks whether its turn has come, and then takes the desk.
+// A seat looks whether its turn has come. If so, it takes the desk.
 pub struct Looks;
 
 impl<E: RingElection, T: Tabled<E> + Drop> Play<Option<HeldTable<E, T>>, Doing<E>> for Looks {
@@ -80,7 +80,7 @@ impl<E: RingElection, T: Tabled<E> + Drop> Play<Option<HeldTable<E, T>>, Doing<E
     ghost then = { IsService };
 }
 
-// A seat tells how many entries it knows to be kept for good.
+// A seat stores how many entries it knows to be kept for good.
 pub struct Tells;
 
 impl<E: RingElection, T: Tabled<E> + Drop> Play<Option<HeldTable<E, T>>, Doing<E>> for Tells {
@@ -89,7 +89,7 @@ impl<E: RingElection, T: Tabled<E> + Drop> Play<Option<HeldTable<E, T>>, Doing<E
     ghost then = { IsTelling };
 }
 
-// A seat looks how many entries are told to be.
+// A seat reads how many entries are stored as kept for good.
 pub struct Learns;
 
 impl<E: RingElection, T: Tabled<E> + Drop> Play<Option<HeldTable<E, T>>, Doing<E>> for Learns {

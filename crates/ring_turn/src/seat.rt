@@ -9,16 +9,18 @@ use std::marker::Model;
 
 /// One seat of a turn lock, for the calls of one thread.
 ///
-/// Contracts see its lock, its number there, how many turns it has left, the history that the lock was
-/// opened with, the turns that it has seen, its own entries, in order, and how many entries it knows to be
-/// kept for good. At run time a seat has two counts, a flag, and the table while it keeps it. The rest is for
-/// proofs alone.
+/// Contracts see its lock, its number there, and how many turns it has left. They see the history
+/// that the lock was opened with, the turns that the seat has seen, and its own entries, in order.
+/// They see how many entries it knows to be kept for good.
+///
+/// At run time a seat has two counts, a flag, and the table while it keeps it. The rest exists only
+/// in proofs.
 #[derive(Drop)]
 pub struct Seat<E: RingElection, T: Tabled<E> + Drop = Table<E>> {
     pub(crate) place: Place<E, T>,
     pub(crate) left: u64,
-    // how many entries it has seen, or 0 if it knows that all of them are kept for good; a call stores it, for
-    // `settle` to do nothing if there is nothing to keep
+    // The number of entries that it has seen, or 0 if it knows that all of them are kept for good.
+    // A call stores it, so that `settle` does nothing if there is nothing to keep.
     pub(crate) owes: usize,
     // whether the seat keeps the table over its calls
     pub(crate) keeps: bool,
@@ -32,13 +34,15 @@ impl<E: RingElection, T: Tabled<E> + Drop> Model for Seat<E, T> {
 
     ghost Value = { SeatView E };
 
-    ghost view = { λ seat. seat_of seat.place.table_id seat.left (with_hand seat.hand seat.place.me.0) };
+    ghost view = { λ seat.
+        seat_of seat.place.table_id seat.left (with_hand seat.hand seat.place.me.0) };
 
     ghost invariant = { λ seat. IsSeated seat.left seat.owes seat.hand seat.place.me };
 }
 
 impl<E: RingElection, T: Tabled<E> + Drop> Seat<E, T> {
-    /// Whether the seat has no turn left, so that each further call is answered `SeatSpent`. Takes no memory.
+    /// Returns whether the seat has no turn left, so that each further call is answered
+    /// `SeatSpent`. Does not allocate.
     pub fn is_spent(&self) -> bool
         ensures { IsTrue result ↔ (self.now.left ≡ 0) }
     {

@@ -55,7 +55,8 @@ impl<E: RingElection, T: Tabled<E> + Drop> Access<E> for TurnLock<E, T> {
     ) -> Answer
         requires { seat.old.lock ≡ self.now.id }
         ensures seat { seat.new.lock ≡ self.now.id }
-        ensures entry { AnswersAtSeat E.is_two_way E.is_greatest session command seat.old.mine result seat.new.mine }
+        ensures entry { AnswersAtSeat E.winner E.is_two_way E.is_greatest session command
+            seat.old.mine result seat.new.mine }
         ensures place { HasPlaceBelow T.most result }
     {
         TurnLock::call(self, rt, seat, session, command)
@@ -71,7 +72,8 @@ impl<E: RingElection, T: Tabled<E> + Drop> Access<E> for TurnLock<E, T> {
     ) -> (Answer, Vec<Arc<Charter<E>>>)
         requires { seat.old.lock ≡ self.now.id }
         ensures seat { seat.new.lock ≡ self.now.id }
-        ensures entry { BeginsAtSeat E.is_two_way E.is_greatest session group copies seat.old.mine result.0 (map (λ charter. charter.value) result.1.items) seat.new.mine }
+        ensures entry { BeginsAtSeat E.winner E.is_two_way E.is_greatest session group copies
+            seat.old.mine result.0 (map (λ charter. charter.value) result.1.items) seat.new.mine }
         ensures place { HasPlaceBelow T.most result.0 }
     {
         TurnLock::begin(self, rt, seat, session, group, copies)
@@ -80,7 +82,7 @@ impl<E: RingElection, T: Tabled<E> + Drop> Access<E> for TurnLock<E, T> {
     fn report<R: Wait>(&self, rt: &R, seat: &mut Seat<E, T>, report: &Report<E>) -> Filed
         requires { seat.old.lock ≡ self.now.id }
         ensures seat { seat.new.lock ≡ self.now.id }
-        ensures entry { Reports E.is_greatest report.now seat.old.mine result seat.new.mine }
+        ensures entry { Reports E.winner E.is_greatest report.now seat.old.mine result seat.new.mine }
     {
         TurnLock::report(self, rt, seat, report)
     }

@@ -1,4 +1,5 @@
-//! How entries are kept for good: one thread has all of them kept, for all threads that wait for that.
+//! How entries are kept for good: one thread has all of them kept, for all threads that wait for
+//! it.
 ghost use Rattle.std.specs.Prelude.{◌≡◌, ◌⊎◌, ◌<◌};
 ghost use Rattle.ring_turn.specs.Calls.{Passes};
 ghost use Rattle.ring_turn.specs.Seats.{IsSameSeat, Settled};
@@ -15,12 +16,13 @@ use std::sync::Wait;
 use std::thread::Parker;
 
 impl<E: RingElection, T: Tabled<E> + Drop> TurnLock<E, T> {
-    /// Has all entries that the seat has seen kept for good. The seat is one of this lock and gains no entry. A
-    /// turn that is open ends.
+    /// Has all entries that a seat of this lock has seen kept for good. The seat gains no entry. If
+    /// a turn is open, it ends.
     ///
-    /// If the seat knows already that they are kept, nothing changes. Otherwise the call uses one turn. It
-    /// does not return if the seat has no turn left, or if the entries cannot be kept. Where several threads
-    /// settle, one of them may have the entries of all kept. Who settles must not hold the head of the queue.
+    /// If the seat knows already that they are kept, nothing changes. Otherwise the call uses one
+    /// turn. It does not return if the seat has no turn left, or if the entries cannot be kept. If
+    /// several threads settle, one of them may have the entries of all kept. The caller must not
+    /// hold the head of the queue.
     #[inline(always)]
     pub fn settle<R: Wait>(&self, rt: &R, seat: &mut Seat<E, T>)
         requires { seat.old.lock ≡ self.now.id }
@@ -65,7 +67,7 @@ impl<E: RingElection, T: Tabled<E> + Drop> TurnLock<E, T> {
         unreachable!()
     }
 
-    // Has all entries kept for good, in a turn of this place, and tells others how many they are.
+    // Has all entries kept for good, in a turn of this place, and stores their number for others.
     fn settle_table<R: Wait>(&self, rt: &R, place: &mut Place<E, T>)
         requires here { place.old.table_id ≡ self.now.id }
         requires idle { IsIdle place.old.me }

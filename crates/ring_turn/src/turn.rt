@@ -1,5 +1,5 @@
-//! One turn of a seat: it draws a ticket, waits and takes the table, and ends the turn with the entries that
-//! were added to it.
+//! One turn of a seat: it draws a ticket, waits and takes the table, and ends the turn with the
+//! entries that were added to it.
 ghost use Rattle.std.specs.Prelude.{◌≡◌, ◌<◌, ℕ, true, []};
 ghost use Rattle.ring_turn.specs.Seats.{seat_of, with_hand};
 ghost use Rattle.ring_turn.specs.declared.view.Stage.TheVariants as stage;
@@ -14,7 +14,7 @@ use ring_table::Tabled;
 use std::sync::Wait;
 use std::{hint, thread};
 
-/// How often a thread looks whether its time has come before it lets other threads run.
+/// This often a thread looks whether its time has come before it lets other threads run.
 pub(crate) const LOOKS: u32 = 100;
 
 impl<E: RingElection, T: Tabled<E> + Drop> TurnLock<E, T> {
@@ -56,7 +56,7 @@ impl<E: RingElection, T: Tabled<E> + Drop> TurnLock<E, T> {
         unreachable!()
     }
 
-    // The table: what the seat keeps in its hand, or by a turn that begins here.
+    // Returns the table: the one in the seat's hand, or by a turn that begins here.
     #[inline(always)]
     pub(crate) fn reach<R: Wait>(
         &self,
@@ -76,8 +76,8 @@ impl<E: RingElection, T: Tabled<E> + Drop> TurnLock<E, T> {
         }
     }
 
-    // What the seat keeps in its hand of the table after a call: the table, or nothing, by a turn that ends
-    // here.
+    // Returns the hand of the seat after a call: the table if the seat keeps it; otherwise the turn
+    // ends here, and the hand is empty.
     pub(crate) fn part(
         &self,
         place: &mut Place<E, T>,
@@ -98,7 +98,7 @@ impl<E: RingElection, T: Tabled<E> + Drop> TurnLock<E, T> {
     }
 }
 
-// Ends the turn of a seat that keeps the table in its hand, if it does.
+// If a seat has the table in its hand, ends its turn.
 pub(crate) fn put_back<E: RingElection, T: Tabled<E> + Drop>(
     board: &Board<E, T>,
     place: &mut Place<E, T>,
@@ -110,7 +110,8 @@ pub(crate) fn put_back<E: RingElection, T: Tabled<E> + Drop>(
     ensures here { place.new.table_id ≡ place.old.table_id }
     ensures idle { IsIdle place.new.me }
     ensures budget { place.new.me.0.budget ≡ place.old.me.0.budget }
-    ensures same { (left : ℕ) → seat_of place.new.table_id left place.new.me.0 ≡ seat_of place.old.table_id left (with_hand hand place.old.me.0) }
+    ensures same { (left : ℕ) → seat_of place.new.table_id left place.new.me.0
+        ≡ seat_of place.old.table_id left (with_hand hand place.old.me.0) }
 {
     if let Some(table) = hand {
         leave(board, place, table);
