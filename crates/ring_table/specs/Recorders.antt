@@ -1,4 +1,4 @@
--- What contracts see of a recorder that keeps no entry.
+-- Contracts see this of a recorder that keeps no entry.
 use Rattle.std.specs.Prelude.{ℕ, List}
 use Rattle.ring_table.specs.declared.entry.Entry.{Entry}
 

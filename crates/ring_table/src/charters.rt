@@ -10,8 +10,8 @@ use ring_terms::Book;
 use std::alloc::Global;
 use std::sync::Arc;
 
-/// Returns `copies` clones of the charter that a start in this group would use, and none if the start
-/// would be refused. Fails only if an allocation fails.
+/// Returns `copies` clones of the charter that a start in this group would use, and none if the
+/// start would be refused. Fails only if an allocation fails.
 pub(crate) fn plan_charters<E: RingElection>(
     alloc: Global,
     book: &Book<E>,

@@ -1,11 +1,13 @@
-//! A table: a book of groups and terms, and the list of all that was asked of it.
+//! A table: a book of groups and terms, and the list of all calls and filed reports.
 //!
-//! Each call and each filed report of a `Table` adds one entry, or is refused memory and changes nothing;
-//! the history, replayed from no groups at all, gives the book and every reply. By an `Access` many
-//! share a table, each through a seat that knows its own entries; a `LockedTable` is a table under a lock.
+//! Each call and each filed report of a `Table` adds one entry, or runs out of memory and changes
+//! nothing. The history, replayed from no groups at all, gives the book and every reply.
 //!
-//! A `Recorded` is the same table over a `Recorder`, which decides what is kept of each entry. With
-//! `Unkept` that is only how many entries there are: the history then exists in the contracts alone.
+//! By an `Access` many callers share a table, each through a seat that knows its own entries. A
+//! `LockedTable` is a table under a lock.
+//!
+//! A `Recorded` is the same table over a `Recorder`, which decides how much is kept of each entry.
+//! With `Unkept` that is only the number of entries: the history then exists only in the contracts.
 //! Contracts see too how many of the first entries are kept for good. After `settle` they all are.
 #![tactic(auto)]
 

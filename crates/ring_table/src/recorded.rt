@@ -1,5 +1,6 @@
 ghost use Rattle.std.specs.Prelude.{◌≡◌, ◌<◌, ◌≤◌, [], length, map, ◌↔◌, IsTrue};
 ghost use Rattle.ring_events.specs.declared.event.Command.TheVariants as command;
+ghost use Rattle.ring_terms.specs.Kept.{IsKept};
 ghost use Rattle.ring_table.specs.Histories.{IsLegal};
 ghost use Rattle.ring_table.specs.Tables.{Calls, Files, GivesCharters, plain};
 
@@ -18,8 +19,8 @@ use std::sync::{Arc, Wait};
 
 /// A book of groups and terms, whose history goes to a recorder.
 ///
-/// Contracts see it as a table, its book and the entries that were recorded, and how many of the first
-/// entries are kept for good. Its type keeps what a table's type keeps.
+/// Contracts see it as a table, its book and the entries that were recorded, and how many of the
+/// first entries are kept for good. Its type keeps what a table's type keeps.
 #[derive(Drop)]
 pub struct Recorded<E: RingElection, H: Recorder<E> + Drop> {
     alloc: Global,
@@ -34,7 +35,11 @@ impl<E: RingElection, H: Recorder<E> + Drop> Model for Recorded<E, H> {
 
     ghost use Rattle.ring_table.specs.Histories.{IsLegal};
 
-    ghost view = { λ a. record { book = a.book; history = H.entries a.recorder; sure = H.sure a.recorder } };
+    ghost view = { λ a. record {
+      book = a.book;
+      history = H.entries a.recorder;
+      sure = H.sure a.recorder;
+    } };
 
     ghost invariant = { λ a. IsLegal E.is_two_way E.is_greatest (H.entries a.recorder) a.book };
 }
@@ -86,22 +91,29 @@ impl<E: RingElection, H: Recorder<E> + Drop> Recorded<E, H> {
         &self.book
     }
 
-    /// Returns the number of entries. Does not allocate. The history is legal for the book.
+    /// Returns the number of entries. Does not allocate. The other clauses are what every table
+    /// keeps.
     pub fn count(&self) -> usize
         ensures value { result ≡ length self.now.history }
         ensures within { length self.now.history < H.most }
         ensures legal { IsLegal E.is_two_way E.is_greatest self.now.history self.now.book }
+        ensures kept { IsKept E.winner self.now.book }
     {
+        // for its clause on what every book keeps
+        let _ = self.book.len();
         self.recorder.count()
     }
 
-    /// Carries out a session's command: one step of the election object, and one entry with its reply.
+    /// Carries out a session's command: one step of the election object, and one entry with its
+    /// reply.
     ///
-    /// The room for the entry is found first. If that allocation or one of the command fails, the reply
-    /// is `NoMemory`, no entry is added and nothing has changed. Every other refusal is an entry.
+    /// The room for the entry is found first. If that allocation or one of the command fails, the
+    /// reply is `NoMemory`, no entry is added and nothing has changed. Every other refusal is an
+    /// entry.
     #[inline(always)]
     pub fn call(&mut self, session: u32, command: Command<E>) -> Reply
-        ensures called { Calls E.is_two_way E.is_greatest session command (plain self.old) result (plain self.new) }
+        ensures called { Calls E.is_two_way E.is_greatest session command
+            (plain self.old) result (plain self.new) }
         ensures sure { self.old.sure ≤ self.new.sure }
     {
         let Ok(()) = self.recorder.reserve() else {
@@ -115,17 +127,19 @@ impl<E: RingElection, H: Recorder<E> + Drop> Recorded<E, H> {
         reply
     }
 
-    /// Starts a term and returns the reply with `copies` clones of the term's charter. They are made
-    /// before the start. If no term was started, there are none.
+    /// Starts a term and returns the reply with `copies` clones of the term's charter. They are
+    /// made before the start. If no term was started, there are none.
     pub fn begin(
         &mut self,
         session: u32,
         group: GroupName,
         copies: usize,
     ) -> (Reply, Vec<Arc<Charter<E>>>)
-        ensures called { Calls E.is_two_way E.is_greatest session (command.Start group) (plain self.old) result.0 (plain self.new) }
+        ensures called { Calls E.is_two_way E.is_greatest session (command.Start group)
+            (plain self.old) result.0 (plain self.new) }
         ensures sure { self.old.sure ≤ self.new.sure }
-        ensures charters { GivesCharters group copies result.0 (map (λ charter. charter.value) result.1.items) self.new.book }
+        ensures charters { GivesCharters group copies
+            result.0 (map (λ charter. charter.value) result.1.items) self.new.book }
     {
         let Ok(charters) = plan_charters(self.alloc, &self.book, group, copies) else {
             return (Reply::Refused(Refusal::NoMemory), Vec::new(self.alloc));
@@ -136,8 +150,8 @@ impl<E: RingElection, H: Recorder<E> + Drop> Recorded<E, H> {
         }
     }
 
-    /// Files a report. What the book makes of it is the answer, and one entry. If the room for the entry
-    /// cannot be allocated, the report is refused and nothing has changed.
+    /// Files a report. What the book makes of it is the answer, and one entry. If the room for the
+    /// entry cannot be allocated, the report is refused and nothing has changed.
     pub fn report(&mut self, report: &Report<E>) -> Filed
         ensures files { Files E.is_greatest report.now (plain self.old) result (plain self.new) }
         ensures sure { self.old.sure ≤ self.new.sure }
@@ -157,8 +171,8 @@ impl<E: RingElection, H: Recorder<E> + Drop> Recorded<E, H> {
         self.recorder.is_settled()
     }
 
-    /// Has all entries kept for good. It may wait, and does not return if they cannot be kept. Then the
-    /// recorder may keep them in less space.
+    /// Has all entries kept for good. It may wait, and does not return if they cannot be kept. Then
+    /// the recorder may keep them in less space.
     pub fn settle<R: Wait>(&mut self, rt: &R)
         ensures same { plain self.new ≡ plain self.old }
         ensures sure { self.old.sure ≤ self.new.sure }

@@ -13,7 +13,7 @@ use std::alloc::Global;
 use std::marker::Model;
 use std::sync::Wait;
 
-/// What keeps the entries of a table: in memory, in another place, or not at all.
+/// Keeps the entries of a table: in memory, in another place, or not at all.
 ///
 /// Contracts see the entries that were recorded, in order, for how many more there is room, and how
 /// many of the first ones are kept for good.
@@ -67,8 +67,8 @@ pub trait Recorder<E: RingElection> {
         ensures sure { sure self.old ≤ sure self.new }
         ensures all { length (entries self.new) ≤ sure self.new };
 
-    /// Keeps the entries in less space, if that is due: `book` is what they lead to. It may wait, and does
-    /// not return if they cannot be kept.
+    /// Keeps the entries in less space, if that is due: `book` is what they lead to. It may wait,
+    /// and does not return if they cannot be kept.
     fn shorten<R: Wait>(&mut self, rt: &R, alloc: Global, book: &Book<E>)
         requires { IsLegal E.is_two_way E.is_greatest (entries self.old) book.now }
         ensures items { entries self.new ≡ entries self.old }

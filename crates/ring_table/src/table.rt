@@ -2,8 +2,10 @@ ghost use Rattle.std.specs.Prelude.{◌≡◌, ◌↔◌, [], map, IsTrue, OnErr
 ghost use Rattle.ring_events.specs.declared.event.Command.TheVariants as command;
 ghost use Rattle.ring_node.specs.Nodes.{report_of};
 ghost use Rattle.ring_node.specs.declared.charter.Charter.{Charter};
-ghost use Rattle.ring_world.specs.Settlements.{EachReports};
+ghost use Rattle.ring_node.specs.Nodes.{IsFaithful};
+ghost use Rattle.ring_world.specs.Settlements.{EachReports, IsSettled};
 ghost use Rattle.ring_terms.specs.Charters.{running_in};
+ghost use Rattle.ring_terms.specs.Kept.{IsKept};
 ghost use Rattle.ring_table.specs.Finishing.{AllInformed, Finishes, FilesOne};
 ghost use Rattle.ring_table.specs.Histories.{IsLegal, starved};
 ghost use Rattle.ring_table.specs.Tables.{Calls, Files, GivesCharters};
@@ -23,9 +25,9 @@ use std::sync::Arc;
 
 /// A book of groups and terms, and the history of the calls and filings that made it.
 ///
-/// Its type keeps that the history, replayed from no groups at all, gives the book and the replies: a
-/// call is a step of the election object, and a report that was noted is a step by which that member
-/// becomes informed. No reply in it is want of memory.
+/// Its type keeps that the history, replayed from no groups at all, gives the book and the replies.
+/// A call is a step of the election object. A report that was noted is a step by which that member
+/// becomes informed. No reply in it is `NoMemory`.
 #[derive(Drop)]
 pub struct Table<E: RingElection> {
     alloc: Global,
@@ -46,7 +48,7 @@ impl<E: RingElection> Model for Table<E> {
 }
 
 impl<E: RingElection> Table<E> {
-    /// A table without groups and entries. Takes no memory.
+    /// Returns a table without groups and entries. Does not allocate.
     pub fn new(alloc: Global) -> Table<E>
         ensures { result ≡ record { book = []; history = [] } }
     {
@@ -57,27 +59,31 @@ impl<E: RingElection> Table<E> {
         }
     }
 
-    /// The book of groups and terms. Takes no memory.
+    /// Returns the book of groups and terms. Does not allocate.
     pub fn book(&self) -> &Book<E>
         ensures { result.now ≡ self.now.book }
     {
         &self.book
     }
 
-    /// All calls and filings so far, in order. Takes no memory. Its second clause is what every table
-    /// keeps.
+    /// Returns all calls and filings so far, in order. Does not allocate. The other clauses are
+    /// what every table keeps.
     pub fn history(&self) -> &History<E>
         ensures value { result.now ≡ self.now.history }
         ensures legal { IsLegal E.is_two_way E.is_greatest self.now.history self.now.book }
+        ensures kept { IsKept E.winner self.now.book }
     {
+        // for its clause on what every book keeps
+        let _ = self.book.len();
         &self.history
     }
 
-    /// A command of a session: one step of the election object, and one entry with its reply.
+    /// Carries out a session's command: one step of the election object, and one entry with its
+    /// reply.
     ///
-    /// The room for the entry is found before the command is looked at. Where that or the command is
-    /// refused memory, the answer is `NoMemory`, no entry is added and nothing has changed. Every other
-    /// refusal is an entry.
+    /// The room for the entry is found first. If that allocation or one of the command fails, the
+    /// reply is `NoMemory`, no entry is added and nothing has changed. Every other refusal is an
+    /// entry.
     pub fn call(&mut self, session: u32, command: Command<E>) -> Reply
         ensures { Calls E.is_two_way E.is_greatest session command self.old result self.new }
     {
@@ -101,16 +107,18 @@ impl<E: RingElection> Table<E> {
         reply
     }
 
-    /// A start, with so many copies of the new term's charter, which are found before the command is
-    /// made. Where no term was started there are none.
+    /// Starts a term and returns the reply with `copies` clones of the term's charter. They are
+    /// made before the start. If no term was started, there are none.
     pub fn begin(
         &mut self,
         session: u32,
         group: GroupName,
         copies: usize,
     ) -> (Reply, Vec<Arc<Charter<E>>>)
-        ensures called { Calls E.is_two_way E.is_greatest session (command.Start group) self.old result.0 self.new }
-        ensures charters { GivesCharters group copies result.0 (map (λ charter. charter.value) result.1.items) self.new.book }
+        ensures called { Calls E.is_two_way E.is_greatest session (command.Start group)
+            self.old result.0 self.new }
+        ensures charters { GivesCharters group copies
+            result.0 (map (λ charter. charter.value) result.1.items) self.new.book }
     {
         let Ok(charters) = plan_charters(self.alloc, &self.book, group, copies) else {
             return (Reply::Refused(Refusal::NoMemory), Vec::new(self.alloc));
@@ -121,15 +129,15 @@ impl<E: RingElection> Table<E> {
         }
     }
 
-    /// No charters, as a list over the table's allocator. Takes no memory.
+    /// Returns no charters, as a list over the table's allocator. Does not allocate.
     pub fn no_charters(&self) -> Vec<Arc<Charter<E>>>
         ensures { result.items ≡ [] }
     {
         Vec::new(self.alloc)
     }
 
-    /// Files a report: what the book makes of it is the answer, and one entry. Where the room for the
-    /// entry is refused, nothing has changed.
+    /// Files a report. What the book makes of it is the answer, and one entry. If the room for the
+    /// entry cannot be allocated, the report is refused and nothing has changed.
     pub fn report(&mut self, report: &Report<E>) -> Filed
         ensures { Files E.is_greatest report.now self.old result self.new }
     {
@@ -147,16 +155,22 @@ impl<E: RingElection> Table<E> {
         filed_from(noting)
     }
 
-    /// Files the reports of nodes that come back from elsewhere: of each node that knows the leader of its
-    /// term, in order.
+    /// Files the reports of nodes that come back from elsewhere: of each node that knows the leader
+    /// of its term, in order.
     ///
-    /// Where the reports of the nodes of a running term tell of each member of its ring, as `settle` says of
-    /// nodes that are settled, each member of that term is informed afterwards. Refused for want of memory
-    /// alone: then the reports before that one are filed.
+    /// If the nodes of a running term are settled, each member of the term is informed afterwards.
+    /// For that it is enough that each member of its ring is in a report of these nodes. Fails only
+    /// if an allocation fails. Then the reports before that one are filed.
     pub fn finish(&mut self, nodes: &[Node<E>]) -> Result<(), NoMemory>
         ensures files { Finishes E.table E.is_greatest nodes.now self.old result self.new }
-        ensures informed { OnOk result ((charter : Charter E) → EachReports E.table E.winner charter nodes.now →
-            running_in charter.group self.old.book ≡ Some charter → AllInformed charter (E.winner charter.algorithm charter.roster) self.new.book) }
+        ensures informed { OnOk result ((charter : Charter E) →
+            EachReports E.table E.winner charter nodes.now →
+            running_in charter.group self.old.book ≡ Some charter →
+            AllInformed charter (E.winner charter.algorithm charter.roster) self.new.book) }
+        ensures settled { OnOk result ((charter : Charter E) →
+            IsSettled E.table charter nodes.now →
+            running_in charter.group self.old.book ≡ Some charter →
+            AllInformed charter (E.winner charter.algorithm charter.roster) self.new.book) }
     {
         for node in nodes {
             let Ok(()) = self.finish_one(node) else {
@@ -166,11 +180,15 @@ impl<E: RingElection> Table<E> {
         Ok(())
     }
 
-    // Files what a node knows.
+    // Files the report of a node, if it knows the leader.
     fn finish_one(&mut self, node: &Node<E>) -> Result<(), NoMemory>
-        ensures ok { OnOk result (FilesOne E.is_greatest (report_of E.table node.now) self.old self.new) }
+        ensures ok { OnOk result (
+            FilesOne E.is_greatest (report_of E.table node.now) self.old self.new) }
         ensures err { OnErr result (self.new ≡ self.old) }
+        ensures faithful { IsFaithful E.table E.fits E.winner node.now }
     {
+        // for its clause on what every node keeps
+        let _ = node.position();
         let Ok(copy) = Arc::try_clone(node.charter()) else {
             return Err(NoMemory);
         };
@@ -184,7 +202,7 @@ impl<E: RingElection> Table<E> {
     }
 }
 
-/// Whether a table's reply to a call is want of memory. Takes no memory.
+/// Returns whether a table's reply to a call is `NoMemory`. Does not allocate.
 pub fn is_starved(reply: &Reply) -> bool
     ensures { IsTrue result ↔ (reply.now ≡ starved) }
 {

@@ -1,5 +1,6 @@
 ghost use Rattle.std.specs.Prelude.{◌≡◌, ◌<◌, ◌≤◌, length, map, ◌↔◌, IsTrue};
 ghost use Rattle.ring_events.specs.declared.event.Command.TheVariants as command;
+ghost use Rattle.ring_terms.specs.Kept.{IsKept};
 ghost use Rattle.ring_table.specs.Histories.{IsLegal};
 ghost use Rattle.ring_table.specs.Tables.{Calls, Files, GivesCharters, plain};
 
@@ -14,8 +15,8 @@ use std::sync::{Arc, Wait};
 
 /// A table whose history is kept, or not, in a way of its own.
 ///
-/// Contracts see what a `Table` shows, its book and its history, and how many of the first entries are
-/// kept for good.
+/// Contracts see its book and its history, as those of a `Table`, and how many of the first entries
+/// are kept for good.
 pub trait Tabled<E: RingElection> {
     ghost use Rattle.std.specs.Prelude.{ℕ};
     ghost use Rattle.ring_table.specs.Tables.{TableView};
@@ -31,18 +32,22 @@ pub trait Tabled<E: RingElection> {
 
     /// Carries out a session's command, as `Table::call` does.
     fn call(&mut self, session: u32, command: Command<E>) -> Reply
-        ensures called { Calls E.is_two_way E.is_greatest session command (shows self.old) result (shows self.new) }
+        ensures called { Calls E.is_two_way E.is_greatest session command
+            (shows self.old) result (shows self.new) }
         ensures sure { sure self.old ≤ sure self.new };
 
-    /// Starts a term and returns the reply with `copies` clones of its charter, as `Table::begin` does.
+    /// Starts a term and returns the reply with `copies` clones of its charter, as `Table::begin`
+    /// does.
     fn begin(
         &mut self,
         session: u32,
         group: GroupName,
         copies: usize,
     ) -> (Reply, Vec<Arc<Charter<E>>>)
-        ensures called { Calls E.is_two_way E.is_greatest session (command.Start group) (shows self.old) result.0 (shows self.new) }
-        ensures charters { GivesCharters group copies result.0 (map (λ charter. charter.value) result.1.items) (shows self.new).book }
+        ensures called { Calls E.is_two_way E.is_greatest session (command.Start group)
+            (shows self.old) result.0 (shows self.new) }
+        ensures charters { GivesCharters group copies
+            result.0 (map (λ charter. charter.value) result.1.items) (shows self.new).book }
         ensures sure { sure self.old ≤ sure self.new };
 
     /// Files a report, as `Table::report` does.
@@ -60,11 +65,13 @@ pub trait Tabled<E: RingElection> {
         ensures sure { sure self.old ≤ sure self.new }
         ensures all { length (shows self.new).history ≤ sure self.new };
 
-    /// Returns the number of entries. Does not allocate. The history is legal for the book.
+    /// Returns the number of entries. Does not allocate. The other clauses are what every table
+    /// keeps.
     fn count(&self) -> usize
         ensures value { result ≡ length (shows self.now).history }
         ensures within { length (shows self.now).history < most }
-        ensures legal { IsLegal E.is_two_way E.is_greatest (shows self.now).history (shows self.now).book };
+        ensures legal { IsLegal E.is_two_way E.is_greatest (shows self.now).history (shows self.now).book }
+        ensures kept { IsKept E.winner (shows self.now).book };
 }
 
 impl<E: RingElection> Tabled<E> for Table<E> {
@@ -90,8 +97,10 @@ impl<E: RingElection> Tabled<E> for Table<E> {
         group: GroupName,
         copies: usize,
     ) -> (Reply, Vec<Arc<Charter<E>>>)
-        ensures called { Calls E.is_two_way E.is_greatest session (command.Start group) self.old result.0 self.new }
-        ensures charters { GivesCharters group copies result.0 (map (λ charter. charter.value) result.1.items) self.new.book }
+        ensures called { Calls E.is_two_way E.is_greatest session (command.Start group)
+            self.old result.0 self.new }
+        ensures charters { GivesCharters group copies
+            result.0 (map (λ charter. charter.value) result.1.items) self.new.book }
         ensures sure { length self.old.history ≤ length self.new.history }
     {
         Table::begin(self, session, group, copies)
@@ -125,7 +134,8 @@ impl<E: RingElection, H: Recorder<E> + Drop> Tabled<E> for Recorded<E, H> {
     ghost sure = { λ table. table.sure };
 
     fn call(&mut self, session: u32, command: Command<E>) -> Reply
-        ensures called { Calls E.is_two_way E.is_greatest session command (plain self.old) result (plain self.new) }
+        ensures called { Calls E.is_two_way E.is_greatest session command
+            (plain self.old) result (plain self.new) }
         ensures sure { self.old.sure ≤ self.new.sure }
     {
         Recorded::call(self, session, command)
@@ -137,8 +147,10 @@ impl<E: RingElection, H: Recorder<E> + Drop> Tabled<E> for Recorded<E, H> {
         group: GroupName,
         copies: usize,
     ) -> (Reply, Vec<Arc<Charter<E>>>)
-        ensures called { Calls E.is_two_way E.is_greatest session (command.Start group) (plain self.old) result.0 (plain self.new) }
-        ensures charters { GivesCharters group copies result.0 (map (λ charter. charter.value) result.1.items) self.new.book }
+        ensures called { Calls E.is_two_way E.is_greatest session (command.Start group)
+            (plain self.old) result.0 (plain self.new) }
+        ensures charters { GivesCharters group copies
+            result.0 (map (λ charter. charter.value) result.1.items) self.new.book }
         ensures sure { self.old.sure ≤ self.new.sure }
     {
         Recorded::begin(self, session, group, copies)
