@@ -1,4 +1,4 @@
-"""What the scripts share that call the prover themselves: the crates, what each stands on, and the words that tell it."""
+"""What the programs share that call the prover themselves: the crates, the crates below each, and the prover's words."""
 
 import os
 import pathlib
@@ -20,7 +20,7 @@ def kit():
 
 
 def listed():
-    """The lines of crates.txt by the crates that they name, each with the names of what its crate stands on."""
+    """The lines of crates.txt by the crates that they name, each with the names of the libraries that its crate uses."""
     found = {}
     for line in (TOP / "crates.txt").read_text(encoding="utf-8").splitlines():
         head, _, named = line.partition("#")[0].partition(":")
@@ -30,12 +30,12 @@ def listed():
 
 
 def libraries():
-    """What each crate stands on, by the lines of crates.txt."""
+    """The libraries that each crate uses, by the lines of crates.txt."""
     return {crate: named for crate, (_, named) in listed().items()}
 
 
 def below(crate, named):
-    """The crates of the repository that a crate stands on, near and far."""
+    """The crates of the repository below a crate, those that they use included."""
     found, left = {}, [crate]
     while left:
         new = [it for it in named[left.pop()] if it in named and it not in found]
@@ -50,7 +50,7 @@ def built_by_rt(crate):
 
 
 def words_of(crate, library=built_by_rt, jobs=1):
-    """The words of `rattle check` and `rattle build` that say what a crate is, on what it stands and where that lies."""
+    """The words of `rattle check` and `rattle build` that say what a crate is, and where the libraries are that it uses."""
     named, home = libraries(), kit()
     is_program = (TOP / "crates" / crate / "src/main.rt").exists()
     words = ["--crate-name", crate, "src/main.rt" if is_program else "src/lib.rt"]
@@ -64,9 +64,9 @@ def words_of(crate, library=built_by_rt, jobs=1):
     return [*words, "--logic-built", f"{home}/logic_built", "--links", f"{crate}=", "--jobs", str(jobs)]
 
 
-def missing(crate):
+def missing(crate, library=built_by_rt):
     """The libraries below a crate that aren't built, which `rt ci` or `rt all check` does."""
-    return [it for it in below(crate, libraries()) if not built_by_rt(it).is_dir()]
+    return [it for it in below(crate, libraries()) if not library(it).is_dir()]
 
 
 def copy_of(crate, to):

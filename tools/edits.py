@@ -1,8 +1,12 @@
-"""What the scripts that try edits of the sources share: an edit's file, and a check of a copy."""
+"""Edits of the sources that the prover must judge: their files, and a check of a copy of a crate."""
 
 import subprocess
 
-from crates import PARTS, TOP, kit, words_of
+from crates import PARTS, TOP, built_by_rt, kit, words_of
+from verdicts import PASSED, REFUSED, UNJUDGED
+
+# The folders of a crate with edits, and what an edit of each is called.
+KINDS = {"wrong": "wrong", "controls": "control", "laws": "law", "must-fail": "must-fail"}
 
 
 class BadEdit(Exception):
@@ -12,18 +16,17 @@ class BadEdit(Exception):
 class Edit:
     """The lines `file: PATH`, and then `old: TEXT` and `new: TEXT` in pairs, of an edit's file.
 
-    Each old text stands once in its file, as the pairs before it leave that; or behind a text that
-    stands there once, in a line `after: TEXT` before it, and then the first one there is meant. `places` has
-    the file and the number of the line of each, from 0; `texts` the files as the edit alone leaves them;
-    `words` what stands behind any other word and its colon."""
+    Each old text is in its file once, as the pairs before it leave that. Or a line `after: TEXT` before it names a text
+    that is there once, and then the first old text after that is meant. `places` has the file and the number of the line
+    of each, from 0; `texts` the files as the edit alone leaves them; `words` the rest of a line by any other word."""
 
-    def __init__(self, path, text=None):
-        self.name, self.crate = path.stem, path.parts[-3]
+    def __init__(self, path):
+        self.name, self.crate, self.kind = path.stem, path.parts[-3], KINDS[path.parts[-2]]
         self.folder = TOP / "crates" / self.crate
         self.words, self.places, self.pairs, self.texts = {}, [], [], {}
         file = old = None
         after = ""
-        for line in (path.read_text(encoding="utf-8") if text is None else text).splitlines():
+        for line in path.read_text(encoding="utf-8").splitlines():
             word, _, rest = line.partition(":")
             rest = rest.removeprefix(" ")
             if word == "file":
@@ -54,7 +57,7 @@ class Edit:
 
     def label(self):
         """What it is called where the tools say what became of it."""
-        return f"{'control' if 'verdict' in self.words else 'wrong'} {self.crate}/{self.name}"
+        return f"{self.kind} {self.crate}/{self.name}"
 
     def apply(self, folder):
         """Changes a copy of the crate."""
@@ -65,7 +68,7 @@ class Edit:
 
 
 def place_of(text, after, old, file):
-    """Where an old text stands: once in the whole text, or first behind the one `after` text."""
+    """Where an old text is: once in the whole text, or first after the one `after` text."""
     once = after or old
     if text.count(once) != 1:
         raise BadEdit(f"an '{'after' if after else 'old'}:' text stands in {file} {text.count(once)} times, and not once")
@@ -75,10 +78,28 @@ def place_of(text, after, old, file):
     return at
 
 
-def check(crate, folder, *words, instead=None):
-    """Checks a copy of a crate over the libraries of this tree: the status, and what was said. What else runs goes first.
-    A command of the shell may run instead of the prover."""
-    command = ["sh", "-c", instead] if instead else [kit() / "bin/rattle", "check", *words_of(crate), *words]
+def read_edits(names, folder="wrong"):
+    """The edits in the folders of this name, by crate: of these crates, or of all if none is named. And a result for each
+    that can't be applied."""
+    found, bad = {}, []
+    for path in sorted(TOP.glob(f"crates/*/{folder}/*.edit")):
+        if names and path.parts[-3] not in names:
+            continue
+        try:
+            edit = Edit(path)
+            edit.wanted = edit.words.get("verdict", REFUSED)
+            if edit.wanted not in (REFUSED, PASSED, UNJUDGED):
+                raise BadEdit(f"its verdict is none: {edit.wanted}")
+            found.setdefault(edit.crate, []).append(edit)
+        except (BadEdit, OSError) as why:
+            bad.append((f"{KINDS[folder]} {path.parts[-3]}/{path.stem}", False, f"BAD EDIT: {why}"))
+    return found, bad
+
+
+def check(crate, folder, *words, library=built_by_rt, instead=None):
+    """Checks a copy of a crate over the libraries at these places: the status, and what was said. Other programs go first.
+    A command of the shell may run in place of the prover."""
+    command = ["sh", "-c", instead] if instead else [kit() / "bin/rattle", "check", *words_of(crate, library), *words]
     ran = subprocess.run(["nice", *command], cwd=folder,
                          stdin=subprocess.DEVNULL, stdout=subprocess.PIPE, stderr=subprocess.STDOUT,
                          text=True, errors="replace", check=False)

@@ -7,6 +7,8 @@ import re
 import threading
 import time
 
+from crates import built_by_rt
+
 MEMORY = 3_000_000_000  # what one check may take
 PAUSE = 1
 
@@ -55,7 +57,7 @@ class Lanes:
     work. Of those that wait the heaviest is the next."""
 
     def __init__(self, gate=None, beside=1):
-        self.gate, self.beside = gate, beside
+        self.gate, self.beside, self.library = gate, beside, built_by_rt
         self.at_work, self.waiting, self.changed = 0, [], threading.Condition()
 
     def most(self):

@@ -10,6 +10,8 @@ search proves it, and false if the prover names values that break it or has trie
 A function is not refused where the prover says that its proof has no holes. In every other case it is not judged: its
 text can't be read, the borrow checker refuses it or does not cover it, an invariant fits no more, or the prover was
 killed, met a limit or a fault of its own.
+
+A wrong algorithm is refused if exactly the lemmas fail that its edit names, and if each other error follows from these.
 """
 
 import collections
@@ -32,7 +34,8 @@ PROVED = re.compile(r"no holes|proved|depends on a hole in |not proved; it calls
 FAULT = re.compile(r"internal (?:compiler )?error|\binternal: |panicked at|please report|bug in rattle|bug of antt")
 LIMIT = re.compile(r"antt ran out of (?:stack|the (?:steps|memory))|(?:outgrew the memory limit|stopped at the step limit) \(")
 # What only follows from another error.
-FOLLOWS = re.compile(r"\d+ declarations? that depend|(?:was|is) not admitted")
+DEPENDS = r"\d+ declarations? that depend"
+FOLLOWS = re.compile(DEPENDS + r"|(?:was|is) not admitted")
 SEARCH = re.compile(r"`(?:search|grind|omega)`: ")
 BREAKS = re.compile(r"values at which this goal is false|the goal fails")
 ALL_TRIED = re.compile(r"Every way was tried")
@@ -40,6 +43,8 @@ ALL_TRIED = re.compile(r"Every way was tried")
 UNSURE = re.compile(r"these may not break the goal")
 # That an answer is for no goal any more.
 GONE = re.compile(r"Goals` has no `[^`]+` that can be named from here|no name that rattle asks for")
+# That the text of a wrong algorithm can't be read.
+UNREADABLE = re.compile(r"is not in scope|has no field|is no name|operand is missing|expected the end")
 # By which parts the type that is wanted and that of an answer differ, and the two types.
 DIFFER = (re.compile(r"differ.*? where one has `(.*?)`\s+\(expected\).*?the other has `(.*?)`\s+\(found\)"),
           re.compile(r"expected type `(.*?)`\s+but this has type `(.*?)`"))
@@ -50,11 +55,11 @@ NAME = re.compile(r"[^\s()\[\]`,]+")
 
 class Error:
     """What was refused: the file and the place in it, the word of the compiler's error, the name of the goal, and what was
-    said."""
+    said, of which `first` is the first line."""
 
     def __init__(self, file, line, column, code, name, said):
         self.file, self.line, self.column = file, int(line or 0) - 1, int(column or 0) - 1
-        self.code, self.name, self.said = code, name, said
+        self.code, self.name, self.said, self.first = code, name, said, said
         self.follows, self.is_unasked = bool(FOLLOWS.search(said)), False
 
     def is_at(self, function):
@@ -224,3 +229,24 @@ def failed_answers(said, function):
     for it in failures(said, function):
         found[it.name] = found.get(it.name, False) or bool(GONE.search(it.said))
     return found, list(said.open_goals(function))
+
+
+def judged_at(lemmas, said, text):
+    """Whether the prover refused a wrong algorithm at these lemmas and nowhere else, and what to say."""
+    refused, elsewhere = {}, []
+    for it in said.errors:
+        if it.code or it.is_unasked or it.line < 0:
+            continue
+        if UNREADABLE.search(it.first):
+            return False, f"the edited text can't be read: {it.first}"
+        if it.name:
+            refused.setdefault(it.name, f"`{it.name}`: {it.said}")
+        elif not re.match(DEPENDS, it.first):
+            elsewhere.append(f"{it.file}: {it.first}")
+    if said.status < 0:
+        return False, f"NOT JUDGED: {said.stop}"
+    if said.status == 0:
+        return False, "NOT REFUSED: the crate is still proved"
+    if set(refused) != lemmas or elsewhere:
+        return False, "refused elsewhere: " + "; ".join([*sorted(refused), *elsewhere, text[-300:] if not refused else ""])
+    return True, "refused at " + "; ".join(it[:300] for it in refused.values())

@@ -1,0 +1,211 @@
+"""Wrong bodies and controls: how the edits of a crate are put into few checks, and what the prover says of each."""
+
+import functools
+import pathlib
+import re
+import shutil
+
+from answers import searched
+from crates import TOP, copy_of
+from edits import BadEdit, check
+from lanes import Lanes
+from sources import functions_of
+from verdicts import PASSED, REFUSED, UNCLEAR, UNJUDGED, Said, failed_answers, judged, judged_again
+
+PROOF_FILES = ("Answers.antt", "Invariants.antt", "Proof.antt")
+# How much is printed of a reason.
+SHOWN = 400
+
+
+class Bodies:
+    """A crate's wrong bodies and controls, the functions that they change, a folder for the checks and their lanes.
+
+    Edits of different functions are tried in one check of a copy of the crate. It proves the changed functions alone: every
+    other function has no body there, and a hole in the place of its proof, so its callers take its contract as it is. What
+    is not judged in company is tried alone. If nothing failed except answers by hand that may fit no more, one more check
+    has a search in their place. An edit that changes other lines than those of bodies is tried alone, and in a check of
+    its whole crate if it changes no body."""
+
+    def __init__(self, name, edits, room, lanes=None):
+        self.name, self.edits, self.room, self.lanes = name, edits, room / name, lanes or Lanes()
+        self.functions = functions_of(TOP / "crates" / name)
+        self.targets, self.alone = {}, {it for it in edits if it.wanted == UNJUDGED}
+        for edit in edits:
+            self.targets[edit] = self.changed_by(edit)
+        self.checks = 0
+
+    def changed_by(self, edit):
+        """The functions whose bodies an edit changes. If it changes other lines too, it is tried alone."""
+        found = []
+        for file, line in edit.places:
+            at = [it for it in self.functions.values() if it.file == file and it.body <= line <= it.last]
+            if not at:
+                self.alone.add(edit)
+            found += [it for it in at if it not in found]
+        return found
+
+    def packs(self):
+        """The edits in as few checks as their functions let them be; those that must not be judged are alone."""
+        paths = {it: {function.path for function in self.targets[it] if it not in self.alone} for it in self.edits}
+        goes = lambda a, b: paths[a] and paths[b] and not paths[a] & paths[b]
+        meets = {it: {other for other in self.edits if other is not it and not goes(it, other)} for it in self.edits}
+        left = sorted(self.edits, key=lambda it: -len(meets[it]))
+        return next(found for most in range(1, len(left) + 1) if (found := placed(left, meets, [], most)))
+
+    def results(self, is_changed=True):
+        """What became of each edit, as the tool prints it, one check after another; each check uses what those before kept."""
+        for pack in self.packs():
+            for edit, found in zip(pack, self.tried(pack) if is_changed else self.stays(pack)):
+                yield edit.label(), *outcome(edit, *found)
+
+    def leave_out(self, folder, kept):
+        """Leaves out the bodies of all functions except these, which no caller sees, and puts holes in place of their proofs."""
+        others = [it for it in self.functions.values() if it not in kept]
+        for file in {it.file for it in others}:
+            without_bodies(folder / file, [it for it in others if it.file == file])
+        for it in others:
+            at = folder / "proofs" / it.folder()
+            at.mkdir(parents=True, exist_ok=True)
+            for name in PROOF_FILES:
+                (at / name).unlink(missing_ok=True)
+            shutil.rmtree(folder / "proofs" / it.closures(), ignore_errors=True)
+            module = f"Rattle.{self.name}.proofs.{it.path.replace('::', '.')}.Statement"
+            (at / "Proof.antt").write_text(f"use {module}.{{statement}}\n\npub {it.name()}_spec : {{M : Type 1}}"
+                                           f" → statement M\n{it.name()}_spec = ?\n", encoding="utf-8")
+
+    def checked(self, pack, is_changed=True, failed=()):
+        """Checks a copy with all edits of a pack, or as it stands, with a search in the place of each of these answers that
+        failed: what was said, and the copy. A check that was killed is done a second time."""
+        for _ in range(2):
+            self.checks += 1
+            folder = self.room / f"{self.checks}-with-{len(pack)}"
+            with self.lanes.lane(len(self.edits)):
+                said = Said(*self.checked_now(folder, pack, is_changed, failed))
+            if said.status >= 0:
+                break
+        return said, folder
+
+    def checked_now(self, folder, pack, is_changed, failed):
+        """The status of one check in a new copy, and what was said."""
+        changed = [it for edit in pack for it in self.targets[edit]]
+        copy_of(self.name, folder)
+        for edit in pack if is_changed else []:
+            edit.apply(folder)
+        instead = pack[0].words.get("checker")
+        if not changed:
+            return check(self.name, folder, library=self.lanes.library, instead=instead)
+        self.leave_out(folder, changed)
+        for function, names in failed:
+            at = folder / "proofs" / function.folder() / "Answers.antt"
+            at.write_text(searched(at.read_text(encoding="utf-8"), *names), encoding="utf-8")
+        only = [word for it in changed for word in ("--only", it.path)]
+        kept = ["--incremental", str(self.room / "kept")]
+        return check(self.name, folder, "--allow-holes", "--short-goals", *only, *kept, library=self.lanes.library, instead=instead)
+
+    def tried(self, pack):
+        """What became of each edit of a pack: its verdict, and what to say."""
+        try:
+            said, folder = self.checked(pack)
+        except (BadEdit, OSError) as why:
+            return self.apart(pack, {it: f"it can't be applied: {why}" if len(pack) == 1 else "" for it in pack})
+        if said.stop:
+            return self.apart(pack, {it: said.stop if len(pack) == 1 else self.uncompiled(said, it) for it in pack})
+        elsewhere = self.elsewhere(said, pack)
+        found = {it: self.judge(it, said, folder) for it in pack}
+        unclear = [it for it in pack if found[it][0] == UNCLEAR]
+        if unclear:
+            found.update(zip(unclear, self.tried_again(unclear, said, found)))
+        left = [it for it in pack if elsewhere or it not in unclear and found[it][0] == UNJUDGED]
+        if left and len(pack) > 1:
+            found.update({it: self.tried([it])[0] for it in left})
+        elif elsewhere:
+            found = {it: (UNJUDGED, f"something else is refused: {elsewhere}") for it in pack}
+        return [found[it] for it in pack]
+
+    def apart(self, pack, why):
+        """What became of the edits of a pack whose check judged nothing: of those to which this is due, and of the others
+        without them. If it is due to none, each is tried alone."""
+        left = [it for it in pack if not why[it]]
+        packs = [left] if left and len(left) < len(pack) else [[it] for it in left]
+        found = {edit: it for few in packs for edit, it in zip(few, self.tried(few))}
+        return [found.get(it, (UNJUDGED, why[it])) for it in pack]
+
+    def tried_again(self, unclear, before, found):
+        """What became of these edits in a check with a search in the place of each answer that failed in the check before."""
+        failed = [(it, names) for edit in unclear for it in self.of_edit(edit) if (names := failed_answers(before, it))[0]]
+        said, folder = self.checked(unclear, failed=failed)
+        if said.stop:
+            return [(UNJUDGED, f"with a search in the place of an answer, {said.stop}") for _ in unclear]
+        return [self.judge(it, said, folder, functools.partial(judged_again, before=found[it][1])) for it in unclear]
+
+    def stays(self, pack):
+        """The verdict on each edit of a pack in a check without the edits, where nothing may be refused."""
+        said, folder = self.checked(pack, is_changed=False)
+        if said.stop:
+            return [(UNJUDGED, said.stop) for _ in pack]
+        return [self.judge(it, said, folder) for it in pack]
+
+    def of_edit(self, edit):
+        """The functions in which an edit may be refused: all of the crate if it changes no body."""
+        return self.targets[edit] or list(self.functions.values())
+
+    def uncompiled(self, said, edit):
+        """What the compiler refuses in a function that an edit changes; nothing if there is none."""
+        return next(filter(None, map(said.uncompiled, self.targets[edit])), "")
+
+    def elsewhere(self, said, pack):
+        """What was refused outside of the functions that the edits of a pack change; nothing if there is none."""
+        functions = [it for edit in pack for it in self.of_edit(edit)]
+        other = [it for it in said.errors if not it.follows and not any(map(it.is_at, functions))]
+        return other[0].shown() if other else ""
+
+    def judge(self, edit, said, folder, judged_by=judged):
+        """The verdict on an edit, and what to say: refused if one function is that it changed, and judged if each is."""
+        text_of = lambda file: (folder / file).read_text(encoding="utf-8")
+        found = [judged_by(said, it, text_of) for it in self.of_edit(edit)]
+        return next(it for kind in (REFUSED, UNCLEAR, UNJUDGED, PASSED) for it in found if it[0] == kind)
+
+
+def without_bodies(path, functions):
+    """Leaves out the bodies of these functions of a file, except of those that the compiler runs. No line moves."""
+    lines = path.read_text(encoding="utf-8").split("\n")
+    for it in functions:
+        if any(" const fn " in f" {line}" for line in lines[it.first : it.body + 1]):
+            continue
+        if it.body == it.last:
+            lines[it.body] = re.sub(r"\{(\}| [^{]*\})$", "{ unreachable!() }", lines[it.body])
+        else:
+            lines[it.body + 1 : it.last] = ["unreachable!()", *[""] * (it.last - it.body - 2)]
+    path.write_text("\n".join(lines), encoding="utf-8")
+
+
+def placed(left, meets, packs, most):
+    """These edits in `most` packs at most, after the edits that are in them, and none with one that it meets; or None."""
+    if not left:
+        return packs
+    edit, rest = left[0], left[1:]
+    for at in range(min(len(packs) + 1, most)):
+        pack = packs[at] if at < len(packs) else []
+        if meets[edit].isdisjoint(pack):
+            if found := placed(rest, meets, [*packs[:at], [*pack, edit], *packs[at + 1 :]], most):
+                return found
+    return None
+
+
+def outcome(edit, verdict, why):
+    """Whether a verdict on an edit is the one that it must have, and what to say. Of a control that is right: None."""
+    is_control, says, shown = "verdict" in edit.words, edit.words.get("says", ""), why[:SHOWN]
+    if verdict == edit.wanted and says in why:
+        return None if is_control else True, f"{'as it must be, ' if is_control else ''}{verdict}: {shown}"
+    if is_control:
+        return False, f"CONTROL FAILED: {verdict}, and it must be {edit.wanted} {says}: {shown}"
+    return False, f"{verdict.upper()}: {shown}"
+
+
+def misplaced(edits):
+    """A result for each control of a crate that changes another function than it says, as the sources are read."""
+    crate = Bodies(edits[0].crate, edits, pathlib.Path())
+    for it in edits:
+        at = " ".join(function.path for function in crate.targets[it])
+        if at != it.words.get("at", at):
+            yield it.label(), False, f"CONTROL FAILED: it changes {at or 'no function'}, as it is read"
