@@ -1,9 +1,10 @@
-"""How many checks run side by side, and when a crate's edits may be tried: what the scripts that try edits share."""
+"""How many checks run at a time, when a crate's edits may be tried, and over which libraries."""
 
 import contextlib
 import os
 import pathlib
 import re
+import shutil
 import threading
 import time
 
@@ -14,30 +15,71 @@ PAUSE = 1
 
 
 class Gate:
-    """A run of `rt ci` beside which edits are tried: what it has said so far, in a file that it writes."""
+    """A run of `rt ci` during which edits are tried: what it has said so far, in a file, and the libraries that it made.
+
+    Each library is taken, by links to its files, as soon as the run says that its crate is proved or kept, and edits are
+    tried over what was taken. The crates' `out` folders will not do. In them `rt ci` puts back what an earlier run left
+    there, perhaps of other sources: after it has said `rt: ok` or `rt: FAILED`, and before its last line can be read,
+    which it holds back until then. So to wait for that last line would be too late, for wrong algorithms as for wrong
+    bodies. A library that was not taken before `rt: ok` is not used."""
 
     PROVED = re.compile(r"^rt: (\w+) (?:proved$|is kept: )", re.M)
+    PUTS_BACK = re.compile(r"^rt: (?:ok;|FAILED: )|^\d+ passed, \d+ failed", re.M)
     ENDED = re.compile(r"^\d+ passed, \d+ failed", re.M)
 
-    def __init__(self, path):
-        self.path, self.size, self.proved, self.has_ended, self.looking = pathlib.Path(path), -1, set(), False, threading.Lock()
+    def __init__(self, path, room):
+        self.path, self.room = pathlib.Path(path), room
+        self.said, self.settled, self.looking = "", set(), threading.Lock()
+
+    def read(self):
+        """Reads what the run has said so far."""
+        with contextlib.suppress(OSError):
+            self.said = self.path.read_text(encoding="utf-8", errors="replace")
 
     def look(self):
-        """Reads what was said, where that is more than at the last look."""
-        with self.looking, contextlib.suppress(OSError):
-            size = self.path.stat().st_size
-            if size != self.size:
-                said = self.path.read_text(encoding="utf-8", errors="replace")
-                self.size, self.proved, self.has_ended = size, set(self.PROVED.findall(said)), bool(self.ENDED.search(said))
+        """Looks at what the run has said, and takes the libraries of the crates that it has proved since the last look."""
+        with self.looking:
+            size = len(self.said)
+            self.read()
+            if len(self.said) == size:
+                return
+            new = set(self.PROVED.findall(self.said)) - self.settled
+            for crate in new:
+                self.take(crate)
+            self.read()
+            if self.PUTS_BACK.search(self.said):
+                for crate in new:
+                    shutil.rmtree(self.library(crate), ignore_errors=True)
+            self.settled |= new
+
+    def library(self, crate):
+        """Where a crate's library is, once it was taken."""
+        return self.room / crate / f"{crate}.rlib"
+
+    def take(self, crate):
+        """Takes a crate's library, if it has one and all of it is there."""
+        if built_by_rt(crate).is_dir():
+            try:
+                shutil.copytree(built_by_rt(crate), self.library(crate), copy_function=link_or_copy)
+            except (OSError, shutil.Error):
+                shutil.rmtree(self.library(crate), ignore_errors=True)
 
     def is_at_work(self):
         self.look()
-        return not self.has_ended
+        return not self.ENDED.search(self.said)
 
     def wait_for(self, crates):
         """Waits until all these crates are proved, or the run has ended."""
-        while self.is_at_work() and not self.proved.issuperset(crates):
+        while self.is_at_work() and not self.settled.issuperset(crates):
             time.sleep(PAUSE)
+
+
+def link_or_copy(one, other):
+    """Gives a file of a library a second name. rt removes such a file before it makes it anew, and never writes into it."""
+    try:
+        os.link(one, other)
+    except OSError:
+        shutil.copyfile(one, other)
 
 
 def free_memory():
@@ -46,18 +88,18 @@ def free_memory():
 
 
 def processors():
-    """How many checks to run side by side: $RT_JOBS, or one a processor."""
+    """How many checks to run at a time: $RT_JOBS, or one for each processor."""
     if os.environ.get("RT_JOBS", "").isdigit():
         return max(1, int(os.environ["RT_JOBS"]))
     return len(os.sched_getaffinity(0))
 
 
 class Lanes:
-    """Lets so many checks run side by side as there are processors and memory for; but `beside` beside a gate that is at
-    work. Of those that wait the heaviest is the next."""
+    """Lets as many checks run at a time as there are processors and memory for, and `beside` during a run of `rt ci`. Of
+    the checks that wait the heaviest is the next. `library` says where a crate's library is."""
 
     def __init__(self, gate=None, beside=1):
-        self.gate, self.beside, self.library = gate, beside, built_by_rt
+        self.gate, self.beside, self.library = gate, beside, gate.library if gate else built_by_rt
         self.at_work, self.waiting, self.changed = 0, [], threading.Condition()
 
     def most(self):
