@@ -101,19 +101,50 @@ class Program:
     def write_stamp(self, decided):
         self.stamp.write_text(self.stamp_of(decided), encoding="utf-8")
 
+    def note(self):
+        """What has to be the same before and after a proof: the sum of all that decides the program, and which files those
+        are and when each was last changed. A file that was changed, proved and changed back has another time."""
+        places = [TOP / "crates.txt"]
+        for crate in self.crates:
+            places += [pathlib.Path(at) for part in PARTS for at, _, _ in os.walk(crate.folder / part)]
+            places += files_of(crate.folder)
+        times = [(str(it), stat.st_ino, stat.st_mtime_ns, stat.st_ctime_ns) for it in places for stat in [it.stat()]]
+        return f"{self.name} {self.decided()} {hashlib.sha256(repr(times).encode()).hexdigest()}\n"
+
 
 @contextlib.contextmanager
-def locked(program):
-    """Keeps other builds out, and runs of rt out of the program's folder."""
+def locked(program, is_waiting=True):
+    """Keeps other builds out, and runs of rt out of the program's folder. If one is at work it waits for it, or fails."""
     held = [os.open(it, os.O_RDONLY) for it in (TOP / "crates", TOP / "crates" / program.name)]
     try:
         for it in held:
             try:
                 fcntl.flock(it, fcntl.LOCK_EX | fcntl.LOCK_NB)
             except BlockingIOError:
+                if not is_waiting:
+                    raise
                 say("waiting for another run of rt, or of this build")
                 fcntl.flock(it, fcntl.LOCK_EX)
         yield
     finally:
         for it in held:
             os.close(it)
+
+
+def note(file):
+    """Notes in a file what decides the programs, before `rt ci` builds them."""
+    pathlib.Path(file).write_text("".join(Program(it).note() for it in (NAME, REPLAYS)), encoding="utf-8")
+
+
+def stamp_noted(file):
+    """Writes the stamps of the programs that `rt ci` built, once all of CI passed: of each that is there, if nothing that
+    decides it was touched since the note. Another build that is at work writes its own stamp."""
+    noted = pathlib.Path(file).read_text(encoding="utf-8").splitlines(keepends=True)
+    for program in (Program(NAME), Program(REPLAYS)):
+        line = program.note()
+        if line not in noted or not program.is_there():
+            say(f"{program.name} will be proved again: it is not there, or its files were touched since CI began")
+            continue
+        with contextlib.suppress(BlockingIOError), locked(program, is_waiting=False):
+            program.write_stamp(line.split()[1])
+            say(f"{program.name} is proved and built: no command proves it again as its files are")
