@@ -99,8 +99,8 @@ class Bodies:
             at = folder / "proofs" / function.folder() / "Answers.antt"
             at.write_text(searched(at.read_text(encoding="utf-8"), *names), encoding="utf-8")
         only = [word for it in changed for word in ("--only", it.path)]
-        kept = ["--incremental", str(self.room / "kept")]
-        return check(self.name, folder, "--allow-holes", "--short-goals", *only, *kept, library=self.lanes.library, instead=instead)
+        words = ["--allow-holes", "--short-goals", *only, "--incremental", str(self.room / "kept")]
+        return check(self.name, folder, *words, library=self.lanes.library, instead=instead)
 
     def tried(self, pack):
         """What became of each edit of a pack: its verdict, and what to say."""

@@ -158,42 +158,59 @@ def subject(line):
     return (item[2], bool(item[1])) if item else (None, False)
 
 
-def public_text(text, names):
-    """The public part of a source: the headers of its public functions, and all else of its public types and traits.
+class PublicText:
+    """The public part of a source, line by line: the heads of its public functions, and all else of its public types and
+    traits. It relies on the layout of rt fmt. Tests are left out, and so are bodies."""
 
-    It rests on rt fmt's layout. Tests are left out, and so are bodies and invariants.
-    """
-    kept, public, inherent, testing, header, shown, depth, end = [], False, False, False, False, False, 0, None
-    for line in INVARIANT.sub("", text).splitlines():
+    def __init__(self, names):
+        self.names, self.kept, self.public, self.inherent, self.testing = names, [], False, False, False
+        self.header, self.shown, self.depth, self.end = False, False, 0, None
+
+    def take(self, line):
+        """Takes the next line."""
         bare = line.strip()
-        if end is not None:
-            end = None if line == end else end
-            continue
+        if self.end is not None:
+            self.end = None if line == self.end else self.end
+            return
         if not bare or bare.startswith("//") or "use Rattle." in line:
-            continue
-        if line[0] not in " {})#" and not line.startswith("where"):
-            name, public = subject(line)
-            public = public and (names is None or name in names)
-            inherent = line.startswith("impl") and " for " not in line
-            if testing and bare.endswith("{"):
-                end = "}"
-            if testing:
-                public = testing = False
-                continue
-        testing = testing or line == "#[cfg(test)]"
-        start = FN.match(line)
-        if start:
-            header, depth = True, 0
-            shown = public and (start[2] == "pub " or not inherent)
-        if (shown if header else public):
-            kept.append(line)
-        if header and (depth or bare.startswith(("ensures", "requires"))):
-            depth += line.count("{") - line.count("}")
-            header = depth > 0 or not bare.endswith(";")
-        elif header and bare.endswith(("{", "}", ";")):
-            header = False
-            end = f"{line[:len(line) - len(bare)]}}}" if bare.endswith("{") else None
-    return "\n".join(kept)
+            return
+        if line[0] not in " {})#" and not line.startswith("where") and self.is_test(line):
+            return
+        self.testing = self.testing or line == "#[cfg(test)]"
+        if start := FN.match(line):
+            self.header, self.depth = True, 0
+            self.shown = self.public and (start[2] == "pub " or not self.inherent)
+        if self.shown if self.header else self.public:
+            self.kept.append(line)
+        self.look_for_end(line, bare)
+
+    def is_test(self, line):
+        """Begins an item. Whether it is a test, which is left out."""
+        name, self.public = subject(line)
+        self.public = self.public and (self.names is None or name in self.names)
+        self.inherent = line.startswith("impl") and " for " not in line
+        if not self.testing:
+            return False
+        self.end = "}" if line.rstrip().endswith("{") else self.end
+        self.public = self.testing = False
+        return True
+
+    def look_for_end(self, line, bare):
+        """Ends the head of a function after its last line, and leaves out the body."""
+        if self.header and (self.depth or bare.startswith(("ensures", "requires"))):
+            self.depth += line.count("{") - line.count("}")
+            self.header = self.depth > 0 or not bare.endswith(";")
+        elif self.header and bare.endswith(("{", "}", ";")):
+            self.header = False
+            self.end = f"{line[:len(line) - len(bare)]}}}" if bare.endswith("{") else None
+
+
+def public_text(text, names):
+    """The public part of a source, without invariants, if a crate hands out these names."""
+    found = PublicText(names)
+    for line in INVARIANT.sub("", text).splitlines():
+        found.take(line)
+    return "\n".join(found.kept)
 
 
 def reached(specs, crate):

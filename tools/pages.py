@@ -125,7 +125,6 @@ class Page:
 
     def read_blocks(self, lines):
         opened = []
-
         def close():
             if opened:
                 kind, line, text = opened.pop()

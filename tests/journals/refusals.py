@@ -7,7 +7,7 @@ import stat
 
 from journals.changes import MOST_LIVES, WORDS, first_line, marked, text_of_changes
 from journals.lives import AHEAD, Life, client_of, listing, living
-from serving import Differs, ended, same
+from serving import Differs, same
 
 CHECKS = []
 NOBODY = 65534
