@@ -1,7 +1,7 @@
 -- What an answer of an access says of a line, where its place is told too.
 use Rattle.std.proofs.Common.{◌+◌, ◌<◌, ℕ, List, refl}
 use Rattle.ring_id.specs.declared.refusal.Refusal.TheVariants.{BadLine}
-use Rattle.ring_any.specs.Any.{any_greatest, any_two_way}
+use Rattle.ring_any.specs.Any.{any_greatest, any_two_way, any_winner}
 use Rattle.ring_any.specs.declared.any.Any.{Any}
 use Rattle.ring_events.specs.declared.event.Command.{Command}
 use Rattle.ring_events.specs.declared.event.Event.TheVariants.{Client}
@@ -18,7 +18,7 @@ use Rattle.ring_service.proofs.Replying.{answers_line, unread_line}
 
 -- a line that spells a command is answered by what the access answers to it
 pub places_line : (base most session : ℕ) (line : List ℕ) (command : Command Any) (mine : List (Entry Any)) (answer : Answer) (now : List (Entry Any)) →
-    Spells line (Client command) → AnswersAtSeat any_two_way any_greatest session command mine answer now → HasPlaceBelow most answer → PlacesIn base most session line mine (told_from base answer) now
+    Spells line (Client command) → AnswersAtSeat any_winner any_two_way any_greatest session command mine answer now → HasPlaceBelow most answer → PlacesIn base most session line mine (told_from base answer) now
 places_line base most session line command mine (Placed reply place) now spelled a below =
     (answers_line session line command mine (Placed reply place) now spelled a, ((place, below, refl), (Call session command reply, a.1)))
 places_line base most session line command mine (Unplaced refusal) now spelled a below = (answers_line session line command mine (Unplaced refusal) now spelled a, a.1)

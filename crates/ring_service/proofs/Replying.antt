@@ -1,7 +1,7 @@
 -- What an answer of an access says of the line that asked for it.
 use Rattle.std.proofs.Common.{ℕ, List, [], ◌∷◌, map, refl, sym, ◌∙◌, append-nil, inl, inr}
 use Rattle.ring_id.specs.declared.refusal.Refusal.TheVariants.{BadLine}
-use Rattle.ring_any.specs.Any.{any_greatest, any_two_way}
+use Rattle.ring_any.specs.Any.{any_greatest, any_two_way, any_winner}
 use Rattle.ring_any.specs.declared.any.Any.{Any}
 use Rattle.ring_events.specs.declared.event.Command.{Command}
 use Rattle.ring_events.specs.declared.event.Command.TheVariants.{Start}
@@ -23,27 +23,27 @@ use Rattle.ring_service.proofs.Speaking.{step_not}
 
 -- a start, as a call
 pub begins_answers : (session : ℕ) (group : List ℕ) (copies : ℕ) (mine : List (Entry Any)) (answer : Answer) (charters : List (Charter Any)) (now : List (Entry Any)) →
-    BeginsAtSeat any_two_way any_greatest session group copies mine answer charters now → AnswersAtSeat any_two_way any_greatest session (Start group) mine answer now
-begins_answers session group copies mine (Placed reply place) charters now b = (record { old = b.0.old; new = b.0.new; call = b.0.call }, b.1)
+    BeginsAtSeat any_winner any_two_way any_greatest session group copies mine answer charters now → AnswersAtSeat any_winner any_two_way any_greatest session (Start group) mine answer now
+begins_answers session group copies mine (Placed reply place) charters now b = (record { new = b.0.new; step = b.0.step }, b.1)
 begins_answers session group copies mine (Unplaced refusal) charters now b = (b.0, b.2)
 
 -- so a start of which the workers were told
 pub told_answers : {M S : Type 0} (session : ℕ) (group : List ℕ) (workers : ℕ) (mine : List (Entry Any)) (answer : Answer) (now : List (Entry Any)) (waiting after : List Waiting)
-    (old new : List (SenderLog (Item Any M S))) → Begins any_two_way any_greatest session group workers mine answer now waiting after old new
-    → AnswersAtSeat any_two_way any_greatest session (Start group) mine answer now
+    (old new : List (SenderLog (Item Any M S))) → Begins any_winner any_two_way any_greatest session group workers mine answer now waiting after old new
+    → AnswersAtSeat any_winner any_two_way any_greatest session (Start group) mine answer now
 told_answers session group workers mine answer now waiting after old new begins =
     begins_answers session group workers mine answer (map (λ charter. charter.value) begins.charters) now begins.gives
 
 -- a line that spells a command is answered by what the access answers to it
 pub answers_line : (session : ℕ) (line : List ℕ) (command : Command Any) (mine : List (Entry Any)) (answer : Answer) (now : List (Entry Any)) →
-    Spells line (Client command) → AnswersAtSeat any_two_way any_greatest session command mine answer now → AnswersIn session line mine (reply_of answer) now
+    Spells line (Client command) → AnswersAtSeat any_winner any_two_way any_greatest session command mine answer now → AnswersIn session line mine (reply_of answer) now
 answers_line session line command mine (Placed reply place) now spelled a = (
   Call session command reply ∷ [],
   inl (record {
     command = command;
     spelled = spelled;
     step = a.0;
-    good = λ bad. step_not any_two_way any_greatest a.0.old a.0.new command (rw bad at a.0.call.step);
+    good = λ bad. step_not any_two_way any_greatest a.0.step.old a.0.new command (rw bad at a.0.step.call.step);
     entry = refl;
   }),
   a.1,

@@ -3,7 +3,7 @@
 use Rattle.std.specs.Prelude.{◌≡◌, ◌⊎◌, ℕ, List, [], ◌∷◌, ◌++◌, Result}
 use Rattle.ring_id.specs.declared.refusal.Refusal.{Refusal}
 use Rattle.ring_id.specs.declared.refusal.Refusal.TheVariants.{BadLine}
-use Rattle.ring_any.specs.Any.{any_greatest, any_two_way}
+use Rattle.ring_any.specs.Any.{any_greatest, any_two_way, any_winner}
 use Rattle.ring_any.specs.declared.any.Any.{Any}
 use Rattle.ring_events.specs.declared.event.Command.{Command}
 use Rattle.ring_events.specs.declared.event.Event.TheVariants.{Client}
@@ -22,7 +22,7 @@ use Rattle.ring_table.specs.declared.entry.Entry.TheVariants.{Call}
 pub record IsPlaced (session : ℕ) (line : List ℕ) (answer : Reply) (gained : List (Entry Any)) : Type 0 where
   pub command : Command Any
   pub spelled : Spells line (Client command)
-  pub step : HasStep any_two_way any_greatest command answer
+  pub step : HasStep any_winner any_two_way any_greatest command answer
   pub good : answer ≡ Refused BadLine → ⊥
   pub entry : gained ≡ Call session command answer ∷ []
 

@@ -1,5 +1,5 @@
 ghost use Rattle.std.specs.Prelude.{◌≡◌, ◌⊎◌, ◌≤◌, ◌+◌, ◌^◌, vec_len};
-ghost use Rattle.ring_any.specs.Any.{any_greatest, any_two_way};
+ghost use Rattle.ring_any.specs.Any.{any_greatest, any_two_way, any_winner};
 ghost use Rattle.ring_events.specs.declared.event.Command.TheVariants as command;
 ghost use Rattle.ring_table.specs.Accesses.{AnswersAtSeat};
 ghost use Rattle.ring_table.specs.Places.{HasPlaceBelow};
@@ -174,7 +174,8 @@ impl<A: Access<Any> + Drop> Front<A> {
     ) -> Answer
         requires { A.has_seat self.now seat.old }
         ensures seat { A.has_seat self.now seat.new }
-        ensures entry { AnswersAtSeat any_two_way any_greatest session command (A.mine seat.old) result (A.mine seat.new) }
+        ensures entry { AnswersAtSeat any_winner any_two_way any_greatest session command
+            (A.mine seat.old) result (A.mine seat.new) }
         ensures place { HasPlaceBelow A.most result }
     {
         match command {
@@ -192,7 +193,8 @@ impl<A: Access<Any> + Drop> Front<A> {
     fn begin<R: Wait>(&self, rt: &R, seat: &mut A::Seat, session: u32, group: GroupName) -> Answer
         requires { A.has_seat self.now seat.old }
         ensures seat { A.has_seat self.now seat.new }
-        ensures entry { AnswersAtSeat any_two_way any_greatest session (command.Start group) (A.mine seat.old) result (A.mine seat.new) }
+        ensures entry { AnswersAtSeat any_winner any_two_way any_greatest session
+            (command.Start group) (A.mine seat.old) result (A.mine seat.new) }
         ensures place { HasPlaceBelow A.most result }
     {
         let mut posts = self.posts.lock(rt);
@@ -214,7 +216,8 @@ impl<A: Access<Any> + Drop> Front<A> {
         requires { A.has_seat self.now seat.old }
         ensures seat { A.has_seat self.now seat.new }
         ensures place { HasPlaceBelow A.most result }
-        ensures begins { Begins any_two_way any_greatest session group (vec_len posts.old.passes) (A.mine seat.old) result (A.mine seat.new)
+        ensures begins { Begins any_winner any_two_way any_greatest session group
+            (vec_len posts.old.passes) (A.mine seat.old) result (A.mine seat.new)
             posts.old.waiting.items posts.new.waiting.items posts.old.passes.items posts.new.passes.items }
     {
         posts.try_waiting(rt);

@@ -23,8 +23,8 @@ module _ {M S : Type 0} where
 
   -- A start, of which so many workers are told: by one charter of the new term for each of them, and by none if no term
   -- began.
-  pub record Begins (two_way greatest : Any → Bool) (session : ℕ) (group : List ℕ) (workers : ℕ) (mine : List (Entry Any)) (answer : Answer) (now : List (Entry Any))
+  pub record Begins (winner : Any → List ℕ → ℕ) (two_way greatest : Any → Bool) (session : ℕ) (group : List ℕ) (workers : ℕ) (mine : List (Entry Any)) (answer : Answer) (now : List (Entry Any))
       (waiting after : List Waiting) (old new : List (SenderLog (Item Any M S))) : Type 0 where
     pub charters : List (Arc (Charter Any) Global)
-    pub gives : BeginsAtSeat two_way greatest session group workers mine answer (map (λ charter. charter.value) charters) now
+    pub gives : BeginsAtSeat winner two_way greatest session group workers mine answer (map (λ charter. charter.value) charters) now
     pub tells : TellsAll charters waiting after old new
