@@ -5,6 +5,7 @@ pub mod Bits
 pub mod Cuts
 pub mod Deliveries
 pub mod Links
+pub mod Marks
 pub mod Passing
 pub mod Placing
 pub mod Quiet

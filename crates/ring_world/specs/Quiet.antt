@@ -1,5 +1,5 @@
--- Quiet worlds: nothing is in flight. Where no link is cut, or nothing is stuck, every node knows the
--- leader.
+-- Quiet worlds: nothing is in flight. If no link is cut, or nothing is stuck, every node of a quiet
+-- world knows the leader.
 use Rattle.std.specs.Prelude.{◌≡◌, ◌<◌, ℕ, List, [], Some}
 use Rattle.ring_id.specs.declared.side.Side.{Side}
 use Rattle.ring_election.specs.Tables.{Table}

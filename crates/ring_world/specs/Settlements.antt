@@ -1,6 +1,6 @@
--- Settled terms: nodes of a charter, one at each position of its ring, that have taken all that was
--- sent to them. An announcement may be taken before messages that were sent earlier on its link, so
--- each sort of packet is compared by itself.
+-- Settled terms: nodes of a charter, one at each position of its ring, that have taken all packets
+-- that were sent to them. An announcement may be taken before messages that were sent earlier on
+-- its link. So each sort of packet is compared by itself.
 use Rattle.std.specs.Prelude.{◌≡◌, ◌<◌, ℕ, List, length, Some, slice_get}
 use Rattle.ring_id.specs.declared.side.Side.{Side}
 use Rattle.ring_id.specs.Sides.{other}
@@ -11,7 +11,7 @@ use Rattle.ring_node.specs.Nodes.{Seated, known_of, report_of, sent_of, taken_of
 use Rattle.ring_world.specs.declared.sort.Sort.{Sort}
 use Rattle.ring_world.specs.Sorts.{of_sort}
 
--- this node of the charter stands at a position, and it is the only one of these nodes that does
+-- this node of the charter is at a position, and no other of these nodes of the charter is
 pub record IsAlone {E M : Type 0} (charter : Charter E) (nodes : List (Seated E M)) (position : ℕ) (node : Seated E M) : Type 0 where
   pub place : ℕ
   pub there : slice_get nodes place ≡ Some node
@@ -32,7 +32,7 @@ module _ {E S M : Type 0} (t : E → Table S M) where
     pub alone : IsAlone charter nodes position node
     pub fed : (side : Side) → IsFed charter nodes node side
 
-  -- and so it is at each position of the ring
+  -- each position of the ring is settled
   pub record IsSettled (charter : Charter E) (nodes : List (Seated E M)) : Type 0 where
     pub each : (i : ℕ) → i < length charter.roster → IsSettledAt charter nodes i
 
@@ -40,12 +40,12 @@ module _ {E S M : Type 0} (t : E → Table S M) where
   pub record EachKnows (winner : E → List ℕ → ℕ) (charter : Charter E) (nodes : List (Seated E M)) : Type 0 where
     pub each : (k : ℕ) (node : Seated E M) → slice_get nodes k ≡ Some node → node.charter ≡ charter → known_of t node ≡ Some (winner charter.algorithm charter.roster)
 
-  -- the node that alone stands at a position reports that its member knows the winner
+  -- exactly one node is at a position, and it reports that its member knows the winner
   pub record HasReport (winner : E → List ℕ → ℕ) (charter : Charter E) (nodes : List (Seated E M)) (position member : ℕ) : Type 0 where
     pub node : Seated E M
     pub alone : IsAlone charter nodes position node
     pub reports : report_of t node ≡ Some (record { charter = charter; member = member; leader = winner charter.algorithm charter.roster })
 
-  -- and so it is with each member of the ring
+  -- the node of each member of the ring reports so
   pub record EachReports (winner : E → List ℕ → ℕ) (charter : Charter E) (nodes : List (Seated E M)) : Type 0 where
     pub each : (i member : ℕ) → slice_get charter.roster i ≡ Some member → HasReport winner charter nodes i member

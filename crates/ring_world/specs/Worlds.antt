@@ -1,5 +1,5 @@
--- Worlds: the journals of all nodes of a term, which links between them are cut, and what is in flight.
--- What is in flight is said of whole journals; no queue and no count is in these definitions.
+-- Worlds: the journals of all nodes of a term, which links between them are cut, and the packets in
+-- flight. These follow from whole journals: no queue and no count is in these definitions.
 use Rattle.std.specs.Prelude.{◌≡◌, ◌+◌, ◌*◌, ◌<◌, ◌≤◌, ◌⊎◌, ℕ, zero, suc, Bool, true, false, cond, nat_lt, List, [], ◌∷◌, ◌++◌, length, drop, replicate, Option, Some, None, Result, Ok, Err, slice_set, slice_index_or}
 use Rattle.ring_id.specs.declared.refusal.Refusal.{Refusal}
 use Rattle.ring_id.specs.declared.side.Side.{Side}
@@ -23,14 +23,14 @@ use Rattle.ring_world.specs.declared.passage.Passages.{Passages}
 use Rattle.ring_world.specs.declared.passage.PassagesEnd.{PassagesEnd}
 use Rattle.ring_world.specs.declared.passage.PassagesEnd.TheVariants as ended
 
--- The place of a link in the order of links. A link is named by its receiver, that position and the side
--- from which it takes: the position counts first, and left comes before right.
+-- The place of a link in the order of links. A link is named by its receiver, that position and the
+-- side from which it takes: the position counts first, and left comes before right.
 abbrev pub link_place : ℕ → Side → ℕ
 link_place i Left = 2 * i
 link_place i Right = 2 * i + 1
 
--- a term that runs: its charter, the journal of each position of its ring, and for each link in the order
--- of links whether it is cut
+-- a term that runs: its charter, the journal of each position of its ring, and for each link in the
+-- order of links whether it is cut
 pub record Running (E M : Type 0) : Type 0 where
   pub charter : Charter E
   pub journals : List (List (Side × Packet M))
@@ -73,7 +73,7 @@ after_cut world i side = record world { cut = slice_set world.cut (link_place i 
 pub record IsUncut {E M : Type 0} (world : Running E M) : Type 0 where
   pub uncut : (i : ℕ) (side : Side) → i < size_of world → is_cut world i side ≡ false
 
--- what `cut` answers, and the world after it
+-- the result of `cut`, and the world after it
 abbrev pub Cuts : {E M : Type 0} → Bool → Running E M → ℕ → Side → Result (Unit {0}) Refusal → Running E M → Type 0
 Cuts two_way old i side (Ok done) new = (link_refusal two_way side ≡ None) × (new ≡ after_cut old i side)
 Cuts two_way old i side (Err refusal) new = (link_refusal two_way side ≡ Some refusal) × (new ≡ old)
@@ -106,23 +106,23 @@ abbrev pub most_deliveries : {E M : Type 0} → (E → ℕ → ℕ) → Running 
 most_deliveries bound world = bound world.charter.algorithm (size_of world) + size_of world
 
 module _ {E S M : Type 0} (t : E → Table S M) where
-  -- what was sent on a link
+  -- the packets that were sent on a link
   abbrev pub sent_into : Running E M → ℕ → Side → List (Packet M)
   sent_into world i side = sent_of t (node_at world (neighbour (size_of world) i side)) (other side)
 
-  -- what was taken from it
+  -- the packets that were taken from it
   abbrev pub taken_at : Running E M → ℕ → Side → List (Packet M)
   taken_at world i side = taken_of (node_at world i) side
 
-  -- what stands on it: what was sent, without as many packets from the front as were taken
+  -- the packets on it: those that were sent, without as many from the front as were taken
   abbrev pub on_link : Running E M → ℕ → Side → List (Packet M)
   on_link world i side = drop (length (taken_at world i side)) (sent_into world i side)
 
-  -- what is in flight on it, and so can move: what stands there, if it isn't cut
+  -- the packets in flight on it, which can move: those on the link, if it isn't cut
   abbrev pub in_flight : Running E M → ℕ → Side → List (Packet M)
   in_flight world i side = cond (is_cut world i side) [] (on_link world i side)
 
-  -- what is stuck on it: what stands there, if it is cut
+  -- the packets stuck on it: those on the link, if it is cut
   abbrev pub stuck_on : Running E M → ℕ → Side → List (Packet M)
   stuck_on world i side = cond (is_cut world i side) (on_link world i side) []
 
@@ -139,11 +139,12 @@ module _ {E S M : Type 0} (t : E → Table S M) where
   abbrev pub pending_of : Running E M → ℕ
   pending_of world = pending_below world (size_of world)
 
-  -- each link's receiver took a first part of what was sent there
+  -- each link's receiver took a prefix of the packets that were sent there
   pub record IsSoundLinks (world : Running E M) : Type 0 where
     pub taken_first : (i : ℕ) (side : Side) → i < size_of world → taken_at world i side ++ on_link world i side ≡ sent_into world i side
 
-  -- At every moment the journals are a sound family that fits, and what a node knows is the winner.
+  -- At every moment the journals are a sound family that fits, and a leader that a node knows is
+  -- the winner.
   pub record IsSoundWorld (fits : E → Fitting M) (winner : E → List ℕ → ℕ) (world : Running E M) : Type 0 where
     pub is_ring : IsRing world.charter.roster
     pub count : length world.journals ≡ size_of world
@@ -159,14 +160,14 @@ module _ {E S M : Type 0} (t : E → Table S M) where
     pub journals : new ≡ after_receipt old i side packet
     pub report_is : report ≡ told_of t (node_at old i) (node_at new i)
 
-  -- what `deliver` answers, and the world after it
+  -- the result of `deliver`, and the world after it
   abbrev pub Delivers : Bool → Running E M → ℕ → Side → Delivery E M S → Running E M → Type 0
   Delivers two_way old i side (Moved report) new = (link_refusal two_way side ≡ None) × HasMoved old i side report new
   Delivers two_way old i side Idle new = (link_refusal two_way side ≡ None) × (in_flight old i side ≡ []) × (new ≡ old)
   Delivers two_way old i side (Refused refusal) new = IsRefusal (link_refusal two_way side) (nat_lt 0 (length (in_flight old i side))) refusal × (new ≡ old)
 
-  -- the first packet in flight on a link is taken, no other journal changes, and the leader is news to the
-  -- receiver
+  -- the first packet in flight on a link is taken, no other journal changes, and the leader is news
+  -- to the receiver
   pub record HasPassed (old : Running E M) (i : ℕ) (side : Side) (leader : Option ℕ) (new : Running E M) : Type 0 where
     pub packet : Packet M
     pub rest : List (Packet M)
@@ -174,14 +175,15 @@ module _ {E S M : Type 0} (t : E → Table S M) where
     pub journals : new ≡ after_receipt old i side packet
     pub leader_is : leader ≡ news_of t (node_at old i) (node_at new i)
 
-  -- What `pass` answers, and the traffic after it. A packet moves only where news of it may be told; where it
-  -- may not, want of memory is answered.
+  -- The result of `pass`, and the traffic after it. A packet moves only if a report of its news may
+  -- be made. If it may not, the result is no-memory.
   abbrev pub Passes : Bool → Bool → Running E M → ℕ → Side → Passage → Running E M → Type 0
   Passes two_way may_tell old i side (passage.Moved leader) new = (link_refusal two_way side ≡ None) × (may_tell ≡ true) × HasPassed old i side leader new
   Passes two_way may_tell old i side passage.Idle new = (link_refusal two_way side ≡ None) × (in_flight old i side ≡ []) × (new ≡ old)
   Passes two_way may_tell old i side (passage.Refused refusal) new = IsRefusal (link_refusal two_way side) (nat_lt 0 (length (in_flight old i side))) refusal × (new ≡ old)
 
-  -- a link comes before another: its receiver's position is less, or it is the left link of the same
+  -- a link comes before another: its receiver's position is less, or it is the left link of the
+  -- same
   abbrev pub IsBefore : ℕ → Side → ℕ → Side → Type 0
   IsBefore j from i side = (j < i) ⊎ ((j ≡ i) × (from ≡ Left) × (side ≡ Right))
 
@@ -191,25 +193,28 @@ module _ {E S M : Type 0} (t : E → Table S M) where
     pub waits : 0 < length (in_flight world i side)
     pub least : (j : ℕ) (from : Side) → IsBefore j from i side → in_flight world j from ≡ []
 
-  -- what `ready` answers
+  -- the result of `ready`
   abbrev pub IsReady : Running E M → Option (ℕ × Side) → Type 0
   IsReady world None = (i : ℕ) (side : Side) → i < size_of world → in_flight world i side ≡ []
   IsReady world (Some link) = IsFirstLink world link.0 link.1
 
-  -- the first packet in flight on the first link passes to its receiver, at a position, and the world is sound then
+  -- the first packet in flight on the first link passes to its receiver, at position `i`, and the
+  -- world is sound then
   pub record HasPassedFirst (fits : E → Fitting M) (winner : E → List ℕ → ℕ) (old : Running E M) (i : ℕ) (leader : Option ℕ) (new : Running E M) : Type 0 where
     pub side : Side
     pub first : IsFirstLink old i side
     pub passed : HasPassed old i side leader new
     pub sound : IsSoundWorld fits winner new
 
-  -- so many packets pass one after another, each on the link that is first then, and none of them tells a leader
+  -- packets pass one after another, each on the link that is first at that moment, and no node
+  -- learns the leader
   abbrev pub PassesSilently : (E → Fitting M) → (E → List ℕ → ℕ) → Running E M → ℕ → Running E M → Type 0
   PassesSilently fits winner old zero new = new ≡ old
   PassesSilently fits winner old (suc n) new = (mid : Running E M) × (i : ℕ) × PassesSilently fits winner old n mid × HasPassedFirst fits winner mid i None new
 
-  -- What ended so many passages: the last told the node at a position the leader. Else none told one, and all are
-  -- made, or nothing is in flight, or there were more to make and memory was refused.
+  -- The end of `done` passages: by the last, and no other, the node at a position learnt the
+  -- leader. Else no node learnt it, and all are made, or nothing is in flight, or an allocation
+  -- failed at one that was still to be made.
   abbrev pub EndsPassages : (E → Fitting M) → (E → List ℕ → ℕ) → ℕ → Running E M → ℕ → PassagesEnd → Running E M → Type 0
   EndsPassages fits winner most old done (ended.Told i leader) new =
       (n : ℕ) × (mid : Running E M) × (done ≡ suc n) × PassesSilently fits winner old n mid × HasPassedFirst fits winner mid i (Some leader) new
@@ -217,7 +222,7 @@ module _ {E S M : Type 0} (t : E → Table S M) where
   EndsPassages fits winner most old done ended.Quiet new = PassesSilently fits winner old done new × IsReady new None
   EndsPassages fits winner most old done ended.Starved new = (done < most) × PassesSilently fits winner old done new × (i : ℕ) × (side : Side) × IsFirstLink new i side
 
-  -- what `pass_ready` answers, and the traffic after it
+  -- the result of `pass_ready`, and the traffic after it
   pub record PassesReady (fits : E → Fitting M) (winner : E → List ℕ → ℕ) (most : ℕ) (old : Running E M) (result : Passages) (new : Running E M) : Type 0 where
     pub within : result.done ≤ most
     pub ends : EndsPassages fits winner most old result.done result.end new

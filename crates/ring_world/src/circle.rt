@@ -16,7 +16,8 @@ use std::sync::Arc;
 
 /// The nodes of one term in the order of their ring, and which links between them are cut.
 ///
-/// What is in flight between them, and what is stuck, follows from what each has sent and taken.
+/// The packets in flight between them, and those that are stuck, follow from what each has sent and
+/// taken.
 #[derive(Drop)]
 pub struct Circle<E: RingElection> {
     charter: Arc<Charter<E>>,
@@ -32,15 +33,25 @@ impl<E: RingElection> Model for Circle<E> {
 
     ghost Value = { Running E E.Msg };
 
-    ghost view = { λ a. record { charter = a.charter.value; journals = journals_of a.nodes.items; cut = bits_from a.cut.words 0 (2 * length a.charter.value.roster) } };
+    ghost view = { λ a. record {
+      charter = a.charter.value;
+      journals = journals_of a.nodes.items;
+      cut = bits_from a.cut.words 0 (2 * length a.charter.value.roster);
+    } };
 
-    ghost invariant = { λ a. IsWorld E.table E.fits E.winner a.charter.value a.nodes.items (bits_from a.cut.words 0 (2 * length a.charter.value.roster)) };
+    ghost invariant = { λ a. IsWorld E.table E.fits E.winner a.charter.value a.nodes.items
+        (bits_from a.cut.words 0 (2 * length a.charter.value.roster)) };
 }
 
 impl<E: RingElection> Circle<E> {
-    /// The nodes of this charter, which have started, and no link is cut. Refused for want of memory alone.
+    /// The nodes of this charter, which have started, and no link is cut. Fails only if an
+    /// allocation fails.
     pub fn begin(alloc: Global, charter: Arc<Charter<E>>) -> Result<Circle<E>, NoMemory>
-        ensures { IfOk result (λ circle. circle ≡ record { charter = charter.value; journals = replicate (length charter.value.roster) []; cut = no_cuts (length charter.value.roster) }) }
+        ensures { IfOk result (λ circle. circle ≡ record {
+          charter = charter.value;
+          journals = replicate (length charter.value.roster) [];
+          cut = no_cuts (length charter.value.roster);
+        }) }
     {
         let size = charter.roster().len();
         let Ok(mut nodes) = Vec::with_capacity(alloc, size) else {
@@ -62,7 +73,7 @@ impl<E: RingElection> Circle<E> {
         })
     }
 
-    /// The charter of this term. Takes no memory, like the other readers.
+    /// The charter of this term. Does not allocate, like the other readers.
     pub fn charter(&self) -> &Arc<Charter<E>>
         ensures value { result.now.value ≡ self.now.charter }
         ensures sound { IsSoundWorld E.table E.fits E.winner self.now }
@@ -107,7 +118,8 @@ impl<E: RingElection> Circle<E> {
 
     /// Whether nothing is ever sent on the links that arrive from this side.
     pub fn is_closed(&self, side: Side) -> bool
-        ensures value { result ≡ (same_side side Right && not (E.is_two_way self.now.charter.algorithm)) }
+        ensures value { result
+            ≡ (same_side side Right && not (E.is_two_way self.now.charter.algorithm)) }
         ensures sound { IsSoundWorld E.table E.fits E.winner self.now }
     {
         let one_way = !self.charter().algorithm().two_way();
@@ -135,7 +147,7 @@ impl<E: RingElection> Circle<E> {
         self.cut.has(place_of(position, side))
     }
 
-    /// Gives the first packet that stands on a link to its receiver: the leader, exactly where this receipt
+    /// Gives the first packet on a link to its receiver. Returns the leader exactly if this receipt
     /// is the first by which the receiver knows it.
     #[inline(always)]
     pub fn hand_over(
@@ -148,7 +160,8 @@ impl<E: RingElection> Circle<E> {
         requires front { slice_get (on_link E.table self.old position side) 0 ≡ Some packet }
         requires proper { IsComing E.fits E.winner (node_at self.old position) side packet }
         ensures journals { OnOk result (self.new ≡ after_receipt self.old position side packet) }
-        ensures news { IfOk result (λ leader. leader ≡ news_of E.table (node_at self.old position) (node_at self.new position)) }
+        ensures news { IfOk result (λ leader.
+            leader ≡ news_of E.table (node_at self.old position) (node_at self.new position)) }
         ensures err { OnErr result (self.new ≡ self.old) }
         ensures sound { IsSoundWorld E.table E.fits E.winner self.new }
     {
@@ -156,12 +169,15 @@ impl<E: RingElection> Circle<E> {
         node.accept(side, packet)
     }
 
-    /// The first packet that stands on a link, which is proper there, and whether it is the last.
+    /// The first packet on a link, which is proper there, and whether it is the last.
     pub fn front(&self, position: usize, side: Side) -> Option<(Packet<E::Msg>, bool)>
         requires { position < length self.now.charter.roster }
-        ensures value { option_map (λ front. front.0) result ≡ slice_get (on_link E.table self.now position side) 0 }
-        ensures last { IfSome result (λ front. front.1 ≡ (length (on_link E.table self.now position side) == 1)) }
-        ensures proper { IfSome result (λ front. IsComing E.fits E.winner (node_at self.now position) side front.0) }
+        ensures value { option_map (λ front. front.0) result
+            ≡ slice_get (on_link E.table self.now position side) 0 }
+        ensures last { IfSome result
+            (λ front. front.1 ≡ (length (on_link E.table self.now position side) == 1)) }
+        ensures proper { IfSome result
+            (λ front. IsComing E.fits E.winner (node_at self.now position) side front.0) }
     {
         let sender = self.node(self.neighbour(position, side));
         let to = side.other();
@@ -172,7 +188,7 @@ impl<E: RingElection> Circle<E> {
         Some((packet, sender.sent(to) - taken == 1))
     }
 
-    /// How many packets stand on a link.
+    /// How many packets are on a link, be they in flight or stuck.
     pub fn waiting(&self, position: usize, side: Side) -> usize
         requires { position < length self.now.charter.roster }
         ensures value { result ≡ length (on_link E.table self.now position side) }
@@ -190,7 +206,7 @@ impl<E: RingElection> Circle<E> {
         self.node(position).sent(to)
     }
 
-    /// Marks in a set whether something stands on a link that isn't cut. No other link's mark changes.
+    /// Marks in a set whether a link that isn't cut has a packet. No other link's mark changes.
     pub fn mark(&self, ready: &mut LinkSet, position: usize, side: Side)
         requires inside { position < length self.now.charter.roster }
         requires uncut { is_cut self.now position side ≡ false }
@@ -200,15 +216,18 @@ impl<E: RingElection> Circle<E> {
         ready.put(place_of(position, side), here);
     }
 
-    /// How many packets the node at a position has sent to a side since it had sent so many before.
-    /// Where there are any, something stands on their link, and it is marked in a set unless it is cut;
-    /// where there are none no mark changes.
+    /// How many packets the node at a position has sent to a side since it had sent `before` there.
+    /// If there are any, their link has a packet, and it is marked in a set unless it is cut. If
+    /// there are none, no mark changes.
     pub fn mark_sent(&self, ready: &mut LinkSet, position: usize, to: Side, before: usize) -> usize
         requires inside { position < length self.now.charter.roster }
         requires grown { before ≤ length (sent_of E.table (node_at self.now position) to) }
-        requires waits { before < length (sent_of E.table (node_at self.now position) to) → 0 < length (on_link E.table self.now (neighbour (length self.now.charter.roster) position to) (other to)) }
+        requires waits { before < length (sent_of E.table (node_at self.now position) to)
+            → 0 < length (on_link E.table self.now
+            (neighbour (length self.now.charter.roster) position to) (other to)) }
         ensures more { before + result ≡ length (sent_of E.table (node_at self.now position) to) }
-        ensures marked { HasMarkedSent E.table self.now ready.old.words position to result ready.new.words }
+        ensures marked { HasMarkedSent E.table self.now
+            ready.old.words position to result ready.new.words }
     {
         let more = self.sent(position, to) - before;
         if more > 0 {

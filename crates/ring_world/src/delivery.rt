@@ -2,10 +2,11 @@ use ring_election::RingElection;
 use ring_id::Refusal;
 use ring_node::Report;
 
-/// What a delivery did.
+/// The outcome of a delivery.
 #[derive(Drop)]
 pub enum Delivery<E: RingElection> {
-    /// The front packet was taken; the receiver's report, where it now knows the leader first.
+    /// The first packet was taken. The receiver's report is there if it now knows the leader for
+    /// the first time.
     Moved(Option<Report<E>>),
     /// Nothing is in flight on this link, or it is cut.
     Idle,

@@ -7,9 +7,10 @@ use ring_id::Side;
 
 /// A set of links of one ring: 512 bits in eight words.
 ///
-/// A link's bit stands at twice its receiver's position, or one after it for the right side. So the
-/// order of places is the order of links: the least receiver first, left before right. One more bit for
-/// each word says whether it has any, so that the first link is found without a search.
+/// The place of a link's bit is twice its receiver's position, or one more for the right side. So
+/// the order of places is the order of links: the least receiver first, left before right. One more
+/// bit for each word says whether the word has any, so that the first link is found without a
+/// search.
 #[derive(Clone, Copy)]
 pub struct LinkSet {
     words: [u64; 8],
@@ -32,7 +33,8 @@ impl LinkSet {
     pub fn put(&mut self, place: usize, here: bool)
         requires { place < 512 }
         ensures here { bit_of self.new.words place ≡ cond here 1 0 }
-        ensures others { (other : ℕ) → other ≢ place → bit_of self.new.words other ≡ bit_of self.old.words other }
+        ensures others { (other : ℕ) → other ≢ place
+            → bit_of self.new.words other ≡ bit_of self.old.words other }
     {
         let index = place / 64;
         let word = with_bit(self.words[index], place % 64, here);
@@ -44,19 +46,22 @@ impl LinkSet {
     pub fn insert(&mut self, place: usize)
         requires { place < 512 }
         ensures here { bit_of self.new.words place ≡ 1 }
-        ensures others { (other : ℕ) → other ≢ place → bit_of self.new.words other ≡ bit_of self.old.words other }
+        ensures others { (other : ℕ) → other ≢ place
+            → bit_of self.new.words other ≡ bit_of self.old.words other }
     {
         let index = place / 64;
         self.words[index] = with_bit(self.words[index], place % 64, true);
         self.summary = with_bit(self.summary, index, true);
     }
 
-    /// Takes the link at a place out of the set, in which it is, where nothing is left there.
+    /// Takes the link at a place, which is in the set, out of it if the last packet has left the
+    /// link.
     pub fn leave(&mut self, place: usize, is_last: bool)
         requires within { place < 512 }
         requires there { bit_of self.old.words place ≡ 1 }
         ensures here { bit_of self.new.words place ≡ cond is_last 0 1 }
-        ensures others { (other : ℕ) → other ≢ place → bit_of self.new.words other ≡ bit_of self.old.words other }
+        ensures others { (other : ℕ) → other ≢ place
+            → bit_of self.new.words other ≡ bit_of self.old.words other }
     {
         if is_last {
             self.put(place, false);
@@ -88,7 +93,8 @@ impl LinkSet {
 fn with_bit(word: u64, place: usize, here: bool) -> u64
     requires { place < 64 }
     ensures here { bit_at result place ≡ cond here 1 0 }
-    ensures others { (other : ℕ) → other < 64 → other ≢ place → bit_at result other ≡ bit_at word other }
+    ensures others { (other : ℕ) → other < 64 → other ≢ place
+        → bit_at result other ≡ bit_at word other }
 {
     if here {
         word | 1u64 << place

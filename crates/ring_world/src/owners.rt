@@ -8,8 +8,8 @@ use std::sync::Arc;
 
 /// A shared charter, and at times one more owner of it for the next report.
 ///
-/// The one that is kept is given to a report, and found anew before the next delivery. So the owners are
-/// counted once for each report, and not once for each delivery.
+/// The spare owner goes to a report, and a new one is found before the next delivery. So the owners
+/// are counted once for each report, and not once for each delivery.
 #[derive(Drop)]
 pub struct Owners<E: RingElection> {
     pub charter: Arc<Charter<E>>,
@@ -18,7 +18,7 @@ pub struct Owners<E: RingElection> {
 }
 
 impl<E: RingElection> Owners<E> {
-    /// The owners of a charter, of whom there is one.
+    /// The owners of a charter: this one, and no spare one.
     pub fn of(charter: Arc<Charter<E>>) -> Owners<E>
         ensures { result.charter ≡ charter }
     {
@@ -28,7 +28,8 @@ impl<E: RingElection> Owners<E> {
         }
     }
 
-    /// Finds an owner to give away, where none is kept. Refused where a new one is.
+    /// Finds an owner to give away, if none is kept. Fails only if the charter can't have a new
+    /// owner.
     pub fn find(&mut self) -> Result<(), NoMemory>
         ensures same { self.new.charter ≡ self.old.charter }
         ensures found { OnOk result (IsSome self.new.spare) }

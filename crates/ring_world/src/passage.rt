@@ -1,9 +1,9 @@
 use ring_id::{NodeId, Refusal};
 
-/// What became of the front packet of a link.
+/// The outcome of a passage of the first packet of a link.
 #[derive(Clone, Copy, Debug, PartialEq, Eq)]
 pub enum Passage {
-    /// It was taken; the leader, where its receiver now knows one first.
+    /// It was taken. The leader is there if its receiver now knows it for the first time.
     Moved(Option<NodeId>),
     /// Nothing is in flight on this link, or it is cut.
     Idle,
@@ -11,24 +11,26 @@ pub enum Passage {
     Refused(Refusal),
 }
 
-/// What became of passages one after another, each on the first link with something in flight then.
+/// The outcome of passages one after another, each on the first link with something in flight at
+/// that moment.
 #[derive(Clone, Copy, Debug, PartialEq, Eq)]
 pub struct Passages {
     /// How many were made.
     pub done: u32,
-    /// What ended them.
+    /// The reason why there were no more.
     pub end: PassagesEnd,
 }
 
-/// What ended passages that were made one after another.
+/// The end of passages that were made one after another.
 #[derive(Clone, Copy, Debug, PartialEq, Eq)]
 pub enum PassagesEnd {
-    /// The last of them, and no other, told the node at this position that this is the leader.
+    /// By the last of them, and by no other, a node learnt the leader: its position, and the
+    /// leader.
     Told(usize, NodeId),
-    /// As many were made as were asked for, and none told a leader.
+    /// As many were made as were asked for, and no node learnt the leader.
     Made,
-    /// Nothing is in flight, and none told a leader.
+    /// Nothing is in flight, and no node learnt the leader.
     Quiet,
-    /// The next was refused memory and has changed nothing, and none told a leader.
+    /// An allocation failed at the next one, which has changed nothing. No node learnt the leader.
     Starved,
 }

@@ -24,15 +24,17 @@ pub enum Settlement {
 
 /// Whether a term has come to rest, by its nodes alone (Lynch, Distributed Algorithms, 3.1).
 ///
-/// Among these nodes it looks at those of this charter. `Settled` exactly where each position of the
-/// ring occurs once, and on each link the messages of the algorithm that were taken are those that
-/// were sent, in order, and likewise the announcements. Then each of these nodes knows the leader, and
-/// the node of each position reports it. Takes no memory; the time grows with the number of nodes, and
-/// with the ring's length and the journal of each node of the charter.
+/// Among these nodes it looks at those of this charter. The result is `Settled` exactly if each
+/// position of the ring occurs once, and on each link the messages of the algorithm that were taken
+/// are those that were sent, in order, and likewise the announcements. Then each of these nodes
+/// knows the leader, and the node of each position reports it. Does not allocate. The time grows
+/// with the number of nodes, and with the ring's length and the journal of each node of the
+/// charter.
 pub fn settle<E: RingElection>(charter: &Charter<E>, nodes: &[Node<E>]) -> Settlement
     ensures settled { (result ≡ Settlement.Settled) ↔ IsSettled E.table charter.now nodes.now }
     ensures knows { result ≡ Settlement.Settled → EachKnows E.table E.winner charter.now nodes.now }
-    ensures reports { result ≡ Settlement.Settled → EachReports E.table E.winner charter.now nodes.now }
+    ensures reports { result ≡ Settlement.Settled
+        → EachReports E.table E.winner charter.now nodes.now }
 {
     match Places::of(charter, nodes) {
         Some(places) if are_settled(charter, nodes, &places) => Settlement::Settled,
@@ -40,8 +42,8 @@ pub fn settle<E: RingElection>(charter: &Charter<E>, nodes: &[Node<E>]) -> Settl
     }
 }
 
-/// Whether at each position of the ring one of these nodes stands alone, and has taken all that was
-/// sent to it.
+/// Whether each position of the ring has exactly one of these nodes, and that node has taken all
+/// that was sent to it.
 fn are_settled<E: RingElection>(charter: &Charter<E>, nodes: &[Node<E>], places: &Places) -> bool
     requires { IsPlaced charter.now nodes.now (length nodes.now) places.now.at }
     ensures settled { IsTrue result ↔ IsSettled E.table charter.now nodes.now }
@@ -55,7 +57,8 @@ fn are_settled<E: RingElection>(charter: &Charter<E>, nodes: &[Node<E>], places:
     true
 }
 
-/// Whether one of these nodes alone stands at this position, and has taken all that was sent to it.
+/// Whether exactly one of these nodes is at this position, and it has taken all that was sent to
+/// it.
 fn is_settled_at<E: RingElection>(
     charter: &Charter<E>,
     nodes: &[Node<E>],
@@ -97,7 +100,8 @@ fn is_fed<E: RingElection>(
 /// Whether the packets of this sort that a node took from a side are those that its neighbour there
 /// has sent to it, in order.
 fn has_taken<E: RingElection>(node: &Node<E>, sender: &Node<E>, side: Side, sort: Sort) -> bool
-    ensures { IsTrue result ↔ (of_sort sort (taken_of node.now side) ≡ of_sort sort (sent_of E.table sender.now (other side))) }
+    ensures { IsTrue result ↔ (of_sort sort (taken_of node.now side)
+        ≡ of_sort sort (sent_of E.table sender.now (other side))) }
 {
     let mut next = 0;
     let receipts = node.receipts();

@@ -13,8 +13,8 @@ use std::alloc::Global;
 use std::marker::Model;
 use std::sync::Arc;
 
-/// All nodes of one term, with which links are cut, how many packets are in flight or stuck, and on
-/// which links something is in flight.
+/// All nodes of one term, the links that are cut, how many packets are in flight or stuck, and the
+/// links with something in flight.
 #[derive(Drop)]
 pub struct TalliedCircle<E: RingElection> {
     circle: Circle<E>,
@@ -37,7 +37,11 @@ impl<E: RingElection> Traffic<E> for TalliedCircle<E> {
     ghost running = { λ a. a };
 
     fn begin(alloc: Global, charter: Arc<Charter<E>>) -> Result<TalliedCircle<E>, NoMemory>
-        ensures started { IfOk result (λ made. made ≡ record { charter = charter.value; journals = replicate (length charter.value.roster) []; cut = no_cuts (length charter.value.roster) }) }
+        ensures started { IfOk result (λ made. made ≡ record {
+          charter = charter.value;
+          journals = replicate (length charter.value.roster) [];
+          cut = no_cuts (length charter.value.roster);
+        }) }
         ensures sound { IfOk result (λ made. IsSoundWorld E.table E.fits E.winner made) }
     {
         let Ok(circle) = Circle::begin(alloc, charter) else {
@@ -90,7 +94,7 @@ impl<E: RingElection> Traffic<E> for TalliedCircle<E> {
 
     #[inline(never)]
     fn pass_ready(&mut self, most: u32) -> Passages {
-        // what the type keeps holds before the first passage
+        // a read, so that the prover has the invariant before the first passage
         let _ = &self.circle;
         for done in 0..most {
             let Some((position, side)) = self.ready() else {
@@ -134,7 +138,7 @@ impl<E: RingElection> Traffic<E> for TalliedCircle<E> {
 }
 
 impl<E: RingElection> TalliedCircle<E> {
-    /// The node of each position, in order. Takes no memory, like the next two.
+    /// The node of each position, in order. Does not allocate, like the next two.
     pub fn nodes(&self) -> &[Node<E>]
         ensures { result.now ≡ nodes_of self.now }
     {
@@ -161,13 +165,14 @@ impl<E: RingElection> TalliedCircle<E> {
         delivered
     }
 
-    /// Passes the first packet in flight on a link, on which there is one, to its receiver: the leader,
-    /// exactly where this receipt is the first by which the receiver knows it.
+    /// Passes the first packet in flight on a link, on which there is one, to its receiver. Returns
+    /// the leader exactly if this receipt is the first by which the receiver knows it.
     #[inline(always)]
     fn pass_front(&mut self, position: usize, side: Side) -> Result<Option<NodeId>, NoMemory>
         requires inside { position < length self.old.charter.roster }
         requires waits { 0 < length (in_flight E.table self.old position side) }
-        ensures passed { IfOk result (λ leader. HasPassed E.table self.old position side leader self.new) }
+        ensures passed { IfOk result
+            (λ leader. HasPassed E.table self.old position side leader self.new) }
         ensures err { OnErr result (self.new ≡ self.old) }
         ensures sound { IsSoundWorld E.table E.fits E.winner self.new }
     {
@@ -177,9 +182,9 @@ impl<E: RingElection> TalliedCircle<E> {
         self.hand_over(position, side, packet, is_last)
     }
 
-    /// Gives the first packet in flight on a link, which may be the last there, to its receiver, and counts
-    /// and marks what is in flight or stuck then: the packet's link has one packet less, and on the links
-    /// from the receiver stands what it has sent because of it.
+    /// Gives the first packet in flight on a link, which may be the last there, to its receiver.
+    /// Then it counts and marks what is in flight or stuck: the packet's link has one packet less,
+    /// and the links from the receiver have the packets that it has sent because of it.
     #[inline(always)]
     fn hand_over(
         &mut self,
@@ -193,7 +198,8 @@ impl<E: RingElection> TalliedCircle<E> {
         requires last { is_last ≡ (length (on_link E.table self.old position side) == 1) }
         requires proper { IsComing E.fits E.winner (node_at self.old position) side packet }
         ensures journals { OnOk result (self.new ≡ after_receipt self.old position side packet) }
-        ensures news { IfOk result (λ leader. leader ≡ news_of E.table (node_at self.old position) (node_at self.new position)) }
+        ensures news { IfOk result (λ leader.
+            leader ≡ news_of E.table (node_at self.old position) (node_at self.new position)) }
         ensures err { OnErr result (self.new ≡ self.old) }
         ensures sound { IsSoundWorld E.table E.fits E.winner self.new }
     {
@@ -214,8 +220,8 @@ impl<E: RingElection> TalliedCircle<E> {
     }
 }
 
-/// How many packets of so many are in flight or stuck after one was taken, and so many were sent because of
-/// it. Mostly one is passed on, and the number stays.
+/// How many packets are in flight or stuck once one of `pending` was taken, and `left` and `right`
+/// were sent because of it. Mostly one is passed on, and the number stays.
 fn after_one(pending: u128, left: usize, right: usize) -> u128
     requires some { 0 < (pending + left) + right }
     requires few { (pending + left) + right < 2 ^ 128 }

@@ -10,43 +10,52 @@ use std::sync::Arc;
 
 /// The nodes of a term and the packets between them, however they are kept.
 ///
-/// It is seen as its charter, the journals of its nodes and which links are cut, which say what is in
-/// flight. A world tells of it by reports; here the leader alone is told.
+/// Contracts see its charter, the journals of its nodes and which links are cut, and these say what
+/// is in flight. A world makes reports of news; the calls here return the leader alone.
 pub trait Traffic<E: RingElection>: Sized + Drop {
     ghost use Rattle.ring_world.specs.Worlds.{Running};
 
     // its charter, the journals of its nodes, and which links are cut
     ghost running: { Self → Running E E.Msg };
 
-    /// The nodes of this charter, which have started, and no link is cut. Refused for want of memory alone.
+    /// The nodes of this charter, which have started, and no link is cut. Fails only if an
+    /// allocation fails.
     fn begin(alloc: Global, charter: Arc<Charter<E>>) -> Result<Self, NoMemory>
-        ensures started { IfOk result (λ made. running made ≡ record { charter = charter.value; journals = replicate (length charter.value.roster) []; cut = no_cuts (length charter.value.roster) }) }
+        ensures started { IfOk result (λ made. running made ≡ record {
+          charter = charter.value;
+          journals = replicate (length charter.value.roster) [];
+          cut = no_cuts (length charter.value.roster);
+        }) }
         ensures sound { IfOk result (λ made. IsSoundWorld E.table E.fits E.winner (running made)) };
 
-    /// Cuts the link into a position from a side. Refused `OneWay` where the algorithm sends nothing that
-    /// arrives from there; nothing has changed then. Takes no memory.
+    /// Cuts the link into a position from a side. Refused as `OneWay` if the algorithm sends
+    /// nothing that arrives from there; nothing has changed then. Does not allocate.
     fn cut(&mut self, position: usize, side: Side) -> Result<(), Refusal>
         requires { position < length (running self.old).charter.roster }
-        ensures cuts { Cuts (E.is_two_way (running self.old).charter.algorithm) (running self.old) position side result (running self.new) }
+        ensures cuts { Cuts (E.is_two_way (running self.old).charter.algorithm)
+            (running self.old) position side result (running self.new) }
         ensures sound { IsSoundWorld E.table E.fits E.winner (running self.new) };
 
-    /// Passes the front packet of the link into a position from a side to its receiver: the leader, exactly
-    /// where the receiver now knows it first. Refused `OneWay` where the algorithm sends nothing that
-    /// arrives from there; `Idle` where nothing is in flight on the link; refused `NoMemory` where a growth
-    /// was, or where news of a leader may not be told. Nothing has changed then.
+    /// Passes the first packet of the link into a position from a side to its receiver. Returns the
+    /// leader exactly if the receiver now knows it for the first time. Refused as `OneWay` if the
+    /// algorithm sends nothing that arrives from there. The result is `Idle` if nothing is in
+    /// flight on the link. Refused as `NoMemory` if an allocation fails, or if `may_tell` is false.
+    /// In these cases nothing has changed.
     fn pass(&mut self, position: usize, side: Side, may_tell: bool) -> Passage
         requires { position < length (running self.old).charter.roster }
-        ensures passes { Passes E.table (E.is_two_way (running self.old).charter.algorithm) may_tell (running self.old) position side result (running self.new) }
+        ensures passes { Passes E.table (E.is_two_way (running self.old).charter.algorithm) may_tell
+            (running self.old) position side result (running self.new) }
         ensures sound { IsSoundWorld E.table E.fits E.winner (running self.new) };
 
-    /// Passes front packets to their receivers, each on the first link with something in flight then, until one
-    /// tells a leader, so many are made, nothing is in flight, or memory is refused: how many were made, and
-    /// what ended them.
+    /// Passes first packets to their receivers, each on the first link with something in flight at
+    /// that moment. It ends when a node learns the leader, `most` are made, nothing is in flight,
+    /// or an allocation fails. Returns how many were made, and what ended them.
     fn pass_ready(&mut self, most: u32) -> Passages
-        ensures passes { PassesReady E.table E.fits E.winner most (running self.old) result (running self.new) }
+        ensures passes { PassesReady E.table E.fits E.winner most
+            (running self.old) result (running self.new) }
         ensures sound { IsSoundWorld E.table E.fits E.winner (running self.new) };
 
-    /// How many packets are in flight or stuck. Takes no memory, like the next.
+    /// How many packets are in flight or stuck. Does not allocate, like the next.
     fn pending(&self) -> u128
         ensures { result ≡ pending_of E.table (running self.now) };
 

@@ -1,4 +1,4 @@
--- What inner functions say of nodes that are settled.
+-- The promises of inner functions on nodes that are settled.
 use Rattle.std.specs.Prelude.{◌≡◌, ◌+◌, ℕ, List, [], ◌∷◌, drop, Option, Some, None, slice_get}
 use Rattle.ring_election.specs.Tables.{Table}
 use Rattle.ring_election.specs.Families.{Fitting}
@@ -8,7 +8,7 @@ use Rattle.ring_world.specs.declared.sort.Sort.{Sort}
 use Rattle.ring_world.specs.Sorts.{of_sort}
 
 module _ {E S M : Type 0} (t : E → Table S M) where
-  -- what the type of each of these nodes keeps
+  -- the invariant of each of these nodes
   pub record AllFaithful (fits : E → Fitting M) (winner : E → List ℕ → ℕ) (nodes : List (Seated E M)) : Type 0 where
     pub each : (k : ℕ) (node : Seated E M) → slice_get nodes k ≡ Some node → IsFaithful t fits winner node
 

@@ -1,4 +1,4 @@
--- What the type of a circle keeps.
+-- The invariants of a circle and of a world.
 use Rattle.std.specs.Prelude.{◌≡◌, ℕ, Bool, List, [], ◌∷◌}
 use Rattle.ring_id.specs.declared.side.Side.{Side}
 use Rattle.ring_election.specs.Tables.{Table}
@@ -14,12 +14,12 @@ journals_of [] = []
 journals_of (node ∷ nodes) = node.journal ∷ journals_of nodes
 
 module _ {E S M : Type 0} (t : E → Table S M) where
-  -- what the type of a world keeps of its nodes: they are the charter's, in order, in a sound world
+  -- the invariant of a circle: its nodes are the charter's, in order, in a sound world
   pub record IsWorld (fits : E → Fitting M) (winner : E → List ℕ → ℕ) (charter : Charter E) (nodes : List (Seated E M)) (cut : List Bool) : Type 0 where
     pub nodes_are : nodes ≡ nodes_from charter 0 (journals_of nodes)
     pub sound : IsSoundWorld t fits winner (record { charter = charter; journals = journals_of nodes; cut = cut })
 
--- what the type of a world keeps: it is sound, and of the charter whose owners tell of it
+-- the invariant of a world: it is sound, and of the charter whose owners go into its reports
 pub record IsTold {E S M : Type 0} (t : E → Table S M) (fits : E → Fitting M) (winner : E → List ℕ → ℕ) (charter : Charter E) (world : Running E M) : Type 0 where
   pub charter_is : charter ≡ world.charter
   pub sound : IsSoundWorld t fits winner world

@@ -3,7 +3,7 @@ use Rattle.std.proofs.Common.{◌≡◌, ℕ, cond, nat_lt, sym, ap, ◌∙◌, 
 use Rattle.ring_world.specs.private.LinkSets.{bit_of}
 use Rattle.ring_world.specs.Worlds.{is_cut, link_place, on_link}
 use Rattle.ring_world.proofs.Cuts.{mark_by_length}
-use Rattle.ring_world.proofs.Tallies.{one_marked}
+use Rattle.ring_world.proofs.Marks.{one_marked}
 use Rattle.ring_world.proofs.circle.Circle.mark.Goals as goal
 
 pub returns : goal.returns

@@ -2,7 +2,7 @@
 use Rattle.std.proofs.Common.{Bool, cond, ap, sym, ◌∙◌, inr, arith}
 use Rattle.std.specs.Prelude.{not}
 use Rattle.ring_world.specs.private.LinkSets.{bit_of}
-use Rattle.ring_world.proofs.Tallies.{one_put}
+use Rattle.ring_world.proofs.Marks.{one_put}
 use Rattle.ring_world.proofs.circle.Circle.mark_sent.Goals as goal
 
 pub sent-requires : goal.sent-requires

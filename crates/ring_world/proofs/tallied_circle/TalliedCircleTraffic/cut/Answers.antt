@@ -2,7 +2,7 @@
 use Rattle.std.proofs.Common.{◌≡◌, ap, refl, sym, ◌∙◌}
 use Rattle.ring_world.specs.private.LinkSets.{bit_of}
 use Rattle.ring_world.specs.Worlds.{link_place}
-use Rattle.ring_world.proofs.Tallies.{tally_cut}
+use Rattle.ring_world.proofs.Marks.{tally_cut}
 use Rattle.ring_world.proofs.tallied_circle.TalliedCircleTraffic.cut.Goals as goal
 
 pub cut-requires : goal.cut-requires

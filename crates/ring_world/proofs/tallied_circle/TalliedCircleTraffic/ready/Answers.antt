@@ -1,7 +1,7 @@
 -- The first bit is the first link's; where there is none nothing is in flight.
 use Rattle.std.proofs.Common.{ℕ, Some, sym, subst}
 use Rattle.ring_world.specs.private.LinkSets.{IsFirst}
-use Rattle.ring_world.proofs.Tallies.{first_link, no_link}
+use Rattle.ring_world.proofs.Marks.{first_link, no_link}
 use Rattle.ring_world.proofs.tallied_circle.TalliedCircleTraffic.ready.Goals as goal
 
 pub returns : goal.returns
