@@ -1,5 +1,5 @@
--- The traffic of one algorithm, seen as that of a sum: its charter names the kind, and each message is put
--- into the sum.
+-- The traffic of one algorithm, seen as that of a sum: its charter names the kind, and each message
+-- is put into the sum.
 use Rattle.std.specs.Prelude.{List, map}
 use Rattle.ring_id.specs.declared.side.Side.{Side}
 use Rattle.ring_node.specs.declared.charter.Charter.{Charter}

@@ -18,7 +18,7 @@ use std::sync::Arc;
 
 /// The nodes of a term of one of the four elections, and the packets between them.
 ///
-/// Contracts see it as traffic of the sum.
+/// Contracts see it as the traffic of the sum.
 #[derive(Drop)]
 pub struct AnyTraffic {
     kind: Kind,
@@ -49,7 +49,11 @@ impl Traffic<Any> for AnyTraffic {
     ghost running = { λ a. a };
 
     fn begin(alloc: Global, charter: Arc<Charter<Any>>) -> Result<AnyTraffic, NoMemory>
-        ensures started { IfOk result (λ made. made ≡ record { charter = charter.value; journals = replicate (length charter.value.roster) []; cut = no_cuts (length charter.value.roster) }) }
+        ensures started { IfOk result (λ made. made ≡ record {
+          charter = charter.value;
+          journals = replicate (length charter.value.roster) [];
+          cut = no_cuts (length charter.value.roster);
+        }) }
         ensures sound { IfOk result (λ made. IsSoundWorld any_table any_fits any_winner made) }
     {
         let kind = match charter.algorithm() {
@@ -107,13 +111,17 @@ impl Traffic<Any> for AnyTraffic {
     }
 }
 
-/// The circle of a term's nodes, which have started, as this algorithm keeps them.
+/// The circle of a term's nodes, which have started, with states and messages of this algorithm.
 fn circle_under<E: RingElection>(
     alloc: Global,
     charter: &Charter<Any>,
     algorithm: E,
 ) -> Result<TalliedCircle<E>, NoMemory>
-    ensures started { IfOk result (λ made. made ≡ record { charter = charter_under algorithm charter.now; journals = replicate (length charter.now.roster) []; cut = no_cuts (length charter.now.roster) }) }
+    ensures started { IfOk result (λ made. made ≡ record {
+      charter = charter_under algorithm charter.now;
+      journals = replicate (length charter.now.roster) [];
+      cut = no_cuts (length charter.now.roster);
+    }) }
     ensures sound { IfOk result (λ made. IsSoundWorld E.table E.fits E.winner made) }
 {
     let own = charter.under(alloc, algorithm)?;
