@@ -93,7 +93,8 @@ def head_of(lines, at):
     depth = 0
     for it in range(at, len(lines)):
         is_clause = lines[it].lstrip().startswith(("requires", "ensures", "ghost"))
-        if re.search(r"(^| )\{(\}| .*\})?$", lines[it]) and not is_clause:
+        # A clause that goes on over several lines may have braces on each.
+        if depth == 0 and not is_clause and re.search(r"(^| )\{(\}| .*\})?$", lines[it]):
             return it
         depth += lines[it].count("{") - lines[it].count("}")
         if depth == 0 and lines[it].endswith(";"):
