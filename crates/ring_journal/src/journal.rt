@@ -53,13 +53,15 @@ impl<D: Medium + Drop> Model for Journal<D> {
 }
 
 impl<D: Medium + Drop> Journal<D> {
-    /// Returns a journal of the lines that `medium` holds, all of them settled. Does not allocate.
+    /// Returns a journal of the lines that `medium` holds, all of them settled. The disk counts as one that
+    /// never failed. Does not allocate.
     pub fn new(alloc: Global, medium: D) -> Journal<D>
         requires lines { HasAll (D.moment medium).text }
         requires kept { (D.moment medium).kept ≡ length (D.moment medium).text }
         ensures lines { result.lines ≡ whole_lines_of (D.moment medium).text }
         ensures disk { result.disk ≡ D.moment medium }
         ensures pending { result.pending ≡ 0 }
+        ensures works { result.is_broken ≡ false }
         ensures any_moment { FindsFirst result result }
     {
         Journal {
