@@ -29,8 +29,8 @@ with_world name world worlds = set_value (bytes_eq name) worlds world
 abbrev pub begun_of : {E M : Type 0} → Charter E → Running E M
 begun_of charter = record { charter = charter; journals = replicate (length charter.roster) []; cut = no_cuts (length charter.roster) }
 
--- what a delivery files in the object: nothing if it makes no report, else its report, by which the
--- member that the report names becomes informed
+-- a delivery files nothing in the object if it makes no report; else it files its report, by which
+-- the member that the report names becomes informed
 abbrev pub Files : {E : Type 0} → (E → Bool) → Option (Told E) → Object E → Object E → Type 0
 Files greatest None old new = new ≡ old
 Files greatest (Some report) old new = Notes greatest report old Noted new
@@ -47,7 +47,7 @@ pub record HasCarried {E S M : Type 0} (t : E → Table S M) (greatest : E → B
   pub filed : Files greatest report old.object new.object
   pub object : (node : ℕ) → position_of node before.charter.roster ≡ Some i → InGroup name (MovesOf greatest node) old.object new.object
 
--- what a delivery on a link of a group's world does
+-- the effect of a delivery on a link of a group's world
 abbrev pub Carries : {E S M : Type 0} → (E → Table S M) → (E → Bool) → (E → Bool) → List ℕ → ℕ → Side → Running E M → Held E M → Carried → Held E M → Type 0
 Carries t two_way greatest name i side world old Moved new = (link_refusal (two_way world.charter.algorithm) side ≡ None) × HasCarried t greatest name i side old new
 Carries t two_way greatest name i side world old Idle new = (link_refusal (two_way world.charter.algorithm) side ≡ None) × (in_flight t world i side ≡ []) × (new ≡ old)

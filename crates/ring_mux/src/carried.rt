@@ -1,6 +1,6 @@
 use ring_id::Refusal;
 
-/// What a delivery in a group's running term did.
+/// The outcome of a delivery in a group's running term.
 #[derive(Clone, Copy)]
 pub enum Carried {
     /// The first packet of the link was taken, and the leader that it brought was filed.

@@ -1,4 +1,4 @@
--- What inner functions of a mux promise of one delivery and of many.
+-- The promises of inner functions of a mux on one delivery and on many.
 use Rattle.std.specs.Prelude.{◌≡◌, ℕ, Bool, List, Some, None}
 use Rattle.ring_id.specs.declared.side.Side.{Side}
 use Rattle.ring_election.specs.Tables.{Table}
