@@ -5,7 +5,7 @@ use Rattle.std.proofs.lemmas.List.Concat.{flat_map-append}
 use Rattle.std.proofs.lemmas.List.Elements.{All-append, All-cons, All-nil}
 use Rattle.ring_id.specs.declared.refusal.Refusal.{Refusal}
 use Rattle.ring_roster.specs.Ring.{has_number}
-use Rattle.ring_any.specs.Any.{any_greatest, any_two_way}
+use Rattle.ring_any.specs.Any.{any_greatest, any_two_way, any_winner}
 use Rattle.ring_any.specs.declared.any.Any.{Any}
 use Rattle.ring_events.specs.declared.event.Command.TheVariants.{Members, Start, Terms, Who}
 use Rattle.ring_events.specs.declared.reply.Reply.{Reply}
@@ -48,8 +48,8 @@ tells_step name node old new (reply.Pending left) step = tells_standing (reply.P
 tells_step name node old new (reply.Drained done left starved) step = tells_standing (reply.Drained done left starved) step.1.1.says.said step.1.1.says.reply_is
 
 -- and a call that was placed
-pub who_told : (name : List ℕ) (node : ℕ) (answer : Reply) → HasStep any_two_way any_greatest (Who name node) answer → IsTold answer
-who_told name node answer has = tells_step name node has.old has.new answer has.call.step
+pub who_told : (name : List ℕ) (node : ℕ) (answer : Reply) → HasStep any_winner any_two_way any_greatest (Who name node) answer → IsTold answer
+who_told name node answer has = tells_step name node has.step.old has.new answer has.step.call.step
 
 module _ (session : ℕ) (group : List ℕ) (number : ℕ) where
   -- ---- one question after another

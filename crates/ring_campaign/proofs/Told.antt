@@ -6,7 +6,7 @@ use Rattle.std.proofs.lemmas.List.Concat.{flat_map-append}
 use Rattle.std.proofs.lemmas.List.Elements.{All-nil}
 use Rattle.std.proofs.lemmas.List.Folds.{list_all-append}
 use Rattle.ring_id.specs.Identity.{number_of}
-use Rattle.ring_any.specs.Any.{any_greatest, any_two_way}
+use Rattle.ring_any.specs.Any.{any_greatest, any_two_way, any_winner}
 use Rattle.ring_any.specs.declared.any.Any.{Any}
 use Rattle.ring_events.specs.declared.event.Command.TheVariants.{Join, Start}
 use Rattle.ring_events.specs.declared.reply.Reply.{Reply}
@@ -183,7 +183,7 @@ module _ {V : Type 0} (writing : V → Writing → V → Type 0) where
 -- ---- the join
 
 -- a join that was done is the entry that was added
-pub joined : (session : ℕ) (group : List ℕ) (node : ℕ) (mine now : List (Entry Any)) (answer : Answer) → AnswersAtSeat any_two_way any_greatest session (Join group node) mine answer now → reply_of answer ≡ Done
+pub joined : (session : ℕ) (group : List ℕ) (node : ℕ) (mine now : List (Entry Any)) (answer : Answer) → AnswersAtSeat any_winner any_two_way any_greatest session (Join group node) mine answer now → reply_of answer ≡ Done
     → now ≡ mine ++ Call session (Join group node) Done ∷ []
 joined session group node mine now (Placed answer place) a done = subst (λ (r : Reply). now ≡ mine ++ Call session (Join group node) r ∷ []) done a.1
 joined session group node mine now (Unplaced refusal) a done = let never : Refused refusal ≡ Done = done in cc
@@ -235,7 +235,7 @@ module _ {S V : Type 0} (reading : S → Reading → S → Type 0) (writing : V 
 -- ---- what the seat gained
 
 -- a join that was not done adds its refusal, or nothing
-turned_gains : (session : ℕ) (group : List ℕ) (node : ℕ) (mine now : List (Entry Any)) (answer : Answer) → AnswersAtSeat any_two_way any_greatest session (Join group node) mine answer now → (reply_of answer ≡ Done → ⊥)
+turned_gains : (session : ℕ) (group : List ℕ) (node : ℕ) (mine now : List (Entry Any)) (answer : Answer) → AnswersAtSeat any_winner any_two_way any_greatest session (Join group node) mine answer now → (reply_of answer ≡ Done → ⊥)
     → GainsCampaign session mine now
 turned_gains session group node mine now (Placed answer place) a refused = inr (inl (record { group = group; node = node; answer = answer; refused = refused; gained = a.1 }))
 turned_gains session group node mine now (Unplaced refusal) a refused = inl a.1

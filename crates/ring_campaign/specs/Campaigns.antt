@@ -6,7 +6,7 @@ use Rattle.std.specs.List.{flat_map, list_all}
 use Rattle.ring_id.specs.Identity.{number_of}
 use Rattle.ring_id.specs.declared.refusal.Refusal.{Refusal}
 use Rattle.ring_id.specs.declared.refusal.Refusal.TheVariants.{BadLine}
-use Rattle.ring_any.specs.Any.{any_greatest, any_two_way}
+use Rattle.ring_any.specs.Any.{any_greatest, any_two_way, any_winner}
 use Rattle.ring_any.specs.declared.any.Any.{Any}
 use Rattle.ring_events.specs.declared.event.Command.TheVariants.{Join, Start, Who}
 use Rattle.ring_events.specs.declared.event.Event.TheVariants.{Client}
@@ -97,7 +97,7 @@ module _ {S V : Type 0} (reading : S → Reading → S → Type 0) (writing : V 
     -- The join was not done. Its reply is all that was told.
     pub record IsTurnedAway : Type 0 where
       pub answer : Answer
-      pub answered : AnswersAtSeat any_two_way any_greatest session (Join group node) mine answer now
+      pub answered : AnswersAtSeat any_winner any_two_way any_greatest session (Join group node) mine answer now
       pub refused : reply_of answer ≡ Done → ⊥
       pub unread : reader_now ≡ reader
       pub told : Given writing writer (reply_line (reply_of answer)) writer_now
