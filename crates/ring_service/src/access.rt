@@ -1,6 +1,6 @@
 //! A front as an access to its table, whose starts the workers are told of.
 ghost use Rattle.std.specs.Prelude.{◌≡◌, map};
-ghost use Rattle.ring_any.specs.Any.{any_greatest, any_two_way};
+ghost use Rattle.ring_any.specs.Any.{any_greatest, any_two_way, any_winner};
 ghost use Rattle.ring_table.specs.Accesses.{AnswersAtSeat, BeginsAtSeat, Reports};
 ghost use Rattle.ring_table.specs.Places.{HasPlaceBelow};
 
@@ -53,7 +53,8 @@ impl<A: Access<Any> + Drop> Access<Any> for Front<A> {
     ) -> Answer
         requires { A.has_seat self.now seat.old }
         ensures seat { A.has_seat self.now seat.new }
-        ensures entry { AnswersAtSeat any_two_way any_greatest session command (A.mine seat.old) result (A.mine seat.new) }
+        ensures entry { AnswersAtSeat any_winner any_two_way any_greatest session command
+            (A.mine seat.old) result (A.mine seat.new) }
         ensures place { HasPlaceBelow A.most result }
     {
         Front::answer(self, rt, seat, session, command)
@@ -69,7 +70,9 @@ impl<A: Access<Any> + Drop> Access<Any> for Front<A> {
     ) -> (Answer, Vec<Arc<Charter<Any>>>)
         requires { A.has_seat self.now seat.old }
         ensures seat { A.has_seat self.now seat.new }
-        ensures entry { BeginsAtSeat any_two_way any_greatest session group copies (A.mine seat.old) result.0 (map (λ charter. charter.value) result.1.items) (A.mine seat.new) }
+        ensures entry { BeginsAtSeat any_winner any_two_way any_greatest session group copies
+            (A.mine seat.old) result.0 (map (λ charter. charter.value) result.1.items)
+            (A.mine seat.new) }
         ensures place { HasPlaceBelow A.most result.0 }
     {
         self.access.begin(rt, seat, session, group, copies)
@@ -78,7 +81,7 @@ impl<A: Access<Any> + Drop> Access<Any> for Front<A> {
     fn report<R: Wait>(&self, rt: &R, seat: &mut A::Seat, report: &Report<Any>) -> Filed
         requires { A.has_seat self.now seat.old }
         ensures seat { A.has_seat self.now seat.new }
-        ensures entry { Reports any_greatest report.now (A.mine seat.old) result (A.mine seat.new) }
+        ensures entry { Reports any_winner any_greatest report.now (A.mine seat.old) result (A.mine seat.new) }
     {
         self.access.report(rt, seat, report)
     }
