@@ -200,7 +200,7 @@ impl<T: Tabled<Any> + Drop> Serving for Guest<'_, T> {
         self.seat.is_spent()
     }
 
-    fn serve<R: Wait>(&mut self, rt: &R, session: u32, stream: &TcpStream, places: bool)
+    fn serve<R: Wait + Clock>(&mut self, rt: &R, session: u32, stream: &TcpStream, places: bool)
         ensures served { HasServed (base_if places self.old.base.number) T.most session self.old.reads self.old.seat self.new.seat }
         ensures gained { GainsCalls session self.old.seat.mine self.new.seat.mine }
         ensures told { (self.new.seat ≡ self.old.seat) ⊎ Settled self.new.seat }
