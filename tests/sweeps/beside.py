@@ -15,7 +15,8 @@ from sweep import Bad, ROOT, run
 
 CHART, CTL = (ROOT / "crates" / name / "out" / name for name in ("ringchart", "ringctl"))
 SCHEDULE = (ROOT / "crates/ringchart/stdin").read_bytes() + b"cut a 1 left\nstart a => term 3\ncut a 2 left\ndrain a 9\n"
-REPLIES = {b"groups": b"groups a", b"members a": b"members 7/9", b"who a 7": b"leader 1 7/9", b"terms a": b"terms 1:7/9"}
+REPLIES = {b"groups": b"groups a", b"members a": b"members 7/9", b"who a 7": b"leader 1 7/9", b"terms a": b"terms 1:7/9",
+           b"join a 7/9": b"ok\nundecided 1\nleader 1 7/9\nno term-limit"}
 # How a run may end that was refused memory. A row of a schedule that says its reply is then answered otherwise.
 FAULTS = {CHART: {1: rb"ringchart: (no memory|line [0-9]+ got another reply: .*\bno-memory)\n"},
           CTL: {1: rb"ringctl: (no memory|cannot (read standard input|write standard output))\n",
@@ -53,13 +54,14 @@ def cases_of_chart():
 
 @contextlib.contextmanager
 def cases_of_ctl():
-    """A command, one that is refused, a session, one look of a watch, and a request for help."""
+    """A command, one that is refused, a session, one look of a watch, a campaign to its end, and a request for help."""
     with Service(("127.0.0.1", 0), Answers) as service:
         threading.Thread(target=service.serve_forever, daemon=True).start()
         address = ("--address", f"127.0.0.1:{service.server_address[1]}")
         yield [Case(CTL, *address, "groups"), Case(CTL, *address, "who", "a", "1"),
                Case(CTL, *address, given=b"groups\n\nhello\nterms a"),
-               Case(CTL, *address, "watch", "a", "--for", "0"), Case(CTL, "--help")]
+               Case(CTL, *address, "watch", "a", "--for", "0"), Case(CTL, *address, "campaign", "a", "7/9"),
+               Case(CTL, "--help")]
         service.shutdown()
 
 

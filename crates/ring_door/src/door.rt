@@ -126,6 +126,62 @@ where
     )
 }
 
+/// Where clients come in, and those that serve them: some from the start, and others in their place once their
+/// seats are spent.
+#[derive(Drop)]
+pub struct Entrance<L: Drop, G: Drop> {
+    /// Where clients come in.
+    pub door: Mutex<Door<L>>,
+    /// Those that take the place of others.
+    pub spare: Mutex<Vec<G>>,
+}
+
+/// Starts a thread for each guest of two entrances, and opens both doors once all are there.
+///
+/// Each guest serves one client after another, as those of `attend_all` do. If a thread cannot be started,
+/// neither door is opened.
+pub fn attend_both<R, L, G, H>(
+    rt: &R,
+    first: &Entrance<L, G>,
+    guests: Vec<G>,
+    second: &Entrance<L, H>,
+    others: Vec<H>,
+    limits: Limits,
+) -> Result<(), ProgramFault>
+where
+    R: Threads + Wait + Eprint + Clock + Sync,
+    L: OpenListener<Stream = TcpStream> + Send + Drop,
+    G: Serving + Send,
+    H: Serving + Send,
+    ensures { IfErr result (λ fault. fault ≡ ProgramFault.Thread) }
+{
+    let (door, spare) = (&first.door, &first.spare);
+    let (other, more) = (&second.door, &second.spare);
+    thread::scope(
+        thread::scope_env(),
+        rt,
+        move |scope| -> Result<(), ProgramFault>
+            ensures { IfErr result (λ fault. fault ≡ ProgramFault.Thread) }
+        {
+            let mut one = door.lock(rt);
+            let mut two = other.lock(rt);
+            for guest in guests {
+                let Ok(_) = scope.spawn(move || attend(rt, door, spare, guest, limits)) else {
+                    return Err(ProgramFault::Thread);
+                };
+            }
+            for guest in others {
+                let Ok(_) = scope.spawn(move || attend(rt, other, more, guest, limits)) else {
+                    return Err(ProgramFault::Thread);
+                };
+            }
+            one.is_open = true;
+            two.is_open = true;
+            Ok(())
+        },
+    )
+}
+
 // Serves one client after another by this guest's seat, as long as the door lets them in.
 fn attend<R, L, G>(rt: &R, door: &Mutex<Door<L>>, spare: &Mutex<Vec<G>>, guest: G, limits: Limits)
 where

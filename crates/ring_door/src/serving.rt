@@ -8,7 +8,7 @@ use std::net::{OpenListener, TcpStream};
 use std::sync::Wait;
 use std::thread;
 use std::thread::Threads;
-use std::time::Duration;
+use std::time::{Clock, Duration};
 
 /// What serves one client after another.
 pub trait Serving: Drop {
@@ -21,7 +21,7 @@ pub trait Serving: Drop {
     /// It ends when the client has sent all, when reading or writing fails, and when memory is refused
     /// before its first line. Every reply goes out at once. The session's number stands in the history with
     /// each of its commands; no reply tells it.
-    fn serve<R: Wait>(&mut self, rt: &R, session: u32, stream: &TcpStream, places: bool);
+    fn serve<R: Wait + Clock>(&mut self, rt: &R, session: u32, stream: &TcpStream, places: bool);
 }
 
 /// Accepts a connection for each guest, and waits for their sessions. The answer is how many were accepted,
@@ -31,7 +31,7 @@ pub trait Serving: Drop {
 /// accept fails or a thread cannot be started, no further connection is accepted.
 pub fn accept_all<R, L, G>(rt: &R, listener: L, guests: Vec<G>) -> Result<usize, ProgramFault>
 where
-    R: Threads + Wait + Sync,
+    R: Threads + Wait + Clock + Sync,
     L: OpenListener<Stream = TcpStream> + Drop,
     G: Serving + Send,
     ensures { MatchResult result (λ accepted. accepted ≡ vec_len guests) IsOfConnections }

@@ -70,8 +70,9 @@ fn serve_names_a_file_and_a_number(rt: HostRuntime) {
 }
 
 // Whether a command line has clients served by the file `x`, so many at a time, each for so many silent seconds, and
-// with places if these are told. The journal is the file `kept`, and there is none if that is empty.
-fn runs(alloc: Global, line: &str, at_a_time: u32, seconds: u32, tells: bool, kept: &str) -> bool {
+// with places if these are told, and campaigns at this port, if it isn't 0. The journal is the file `kept`, and there
+// is none if that is empty.
+fn runs(alloc: Global, line: &str, numbers: [u32; 3], tells: bool, kept: &str) -> bool {
     let order = read_again(alloc, line);
     let runs = match &order {
         Ok(
@@ -81,11 +82,11 @@ fn runs(alloc: Global, line: &str, at_a_time: u32, seconds: u32, tells: bool, ke
                 idle,
                 places,
                 journal,
+                campaign,
             },
         ) => {
             path.as_str() == "x"
-                && *sessions == at_a_time
-                && *idle == seconds
+                && [*sessions, *idle, *campaign] == numbers
                 && *places == tells
                 && is_kept(journal, kept)
         }
@@ -105,24 +106,32 @@ fn is_kept(journal: &Option<String>, kept: &str) -> bool {
 
 #[test]
 fn run_has_its_usual_numbers(rt: HostRuntime) {
-    for (line, at_a_time, seconds, tells, kept) in [
-        ("ringd run x", 16, 0, false, ""),
-        ("ringd run --sessions 64 x", 64, 0, false, ""),
+    for (line, numbers, tells, kept) in [
+        ("ringd run x", [16, 0, 0], false, ""),
+        ("ringd run --sessions 64 x", [64, 0, 0], false, ""),
         (
             "ringd run x --idle=30 --places --sessions 1",
-            1,
-            30,
+            [1, 30, 0],
             true,
             "",
         ),
-        ("ringd run x --idle 86400", 16, 86400, false, ""),
-        ("ringd run x --journal y", 16, 0, false, "y"),
-        ("ringd run --journal=y/z x --places", 16, 0, true, "y/z"),
+        ("ringd run x --idle 86400", [16, 86400, 0], false, ""),
+        ("ringd run x --journal y", [16, 0, 0], false, "y"),
+        (
+            "ringd run --journal=y/z x --places",
+            [16, 0, 0],
+            true,
+            "y/z",
+        ),
+        ("ringd run x --campaign 7401", [16, 0, 7401], false, ""),
+        (
+            "ringd run x --campaign=65535 --idle 5",
+            [16, 5, 65535],
+            false,
+            "",
+        ),
     ] {
-        assert!(rt;
-            runs(rt.alloc(), line, at_a_time, seconds, tells, kept),
-            "{line}"
-        );
+        assert!(rt; runs(rt.alloc(), line, numbers, tells, kept), "{line}");
     }
 }
 
@@ -194,6 +203,10 @@ fn numbers_out_of_range_and_missing_words_are_refused(rt: HostRuntime) {
         "ringd run x --journal",
         "ringd run x --journal y --journal z",
         "ringd run --journal y",
+        "ringd run x --campaign 0",
+        "ringd run x --campaign 65536",
+        "ringd run x --campaign",
+        "ringd serve x --connections 2 --campaign 7401",
         "ringd serve x --connections 2 --journal y",
         "ringd replay --journal y",
         "ringd journal",

@@ -1,6 +1,7 @@
 //! The recorder that writes changes to a journal.
-ghost use Rattle.std.specs.Prelude.{◌≡◌, ◌↔◌, ◌<◌, ◌≤◌, ◌^◌, ◌++◌, ◌∷◌, [], length, All, IsTrue, None, OnOk};
+ghost use Rattle.std.specs.Prelude.{◌≡◌, ◌↔◌, ◌<◌, ◌≤◌, ◌^◌, ◌++◌, ◌∷◌, [], length, All, Err, IsTrue, None, OnOk};
 ghost use Rattle.ring_journal.specs.Journals.{Adds, settled};
+ghost use Rattle.ring_journal.specs.declared.medium.Fault.TheVariants as fault;
 ghost use Rattle.ring_table.specs.Accesses.{filing};
 ghost use Rattle.ring_table.specs.declared.entry.Entry.TheVariants as entry;
 ghost use Rattle.ring_change.specs.Changes.{change_by};
@@ -155,11 +156,13 @@ impl<D: Medium + Drop> Written<D> {
 
     /// Has all entries kept for good. If lines are pending, they are written and synced.
     ///
-    /// After `Failed` no entry is kept for good any more.
+    /// Returns `Failed` if and only if the disk has failed, in this call or an earlier one. After that no
+    /// entry is kept for good any more.
     pub fn try_settle(&mut self) -> Result<(), Fault>
         ensures items { self.new.items ≡ self.old.items }
         ensures sure { self.old.sure ≤ self.new.sure }
         ensures ok { OnOk result (self.new.sure ≡ length self.new.items) }
+        ensures failed { (result ≡ Err fault.Failed) ↔ IsTrue self.new.journal.is_broken }
         ensures life { self.new.life ≡ self.old.life }
         ensures any_moment { LeavesFirst self.old self.new }
     {

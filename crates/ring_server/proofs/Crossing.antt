@@ -13,6 +13,7 @@ use Rattle.ring_any.specs.contracts.any.AnyRingElection.TheImpl as election
 use Rattle.ring_any.specs.contracts.any.AnyPartialEq.TheImpl as same
 use Rattle.ring_any.specs.contracts.any.AnyMsgPartialEq.TheImpl as same_message
 use Rattle.ring_table.specs.declared.tabled.Tabled as tabled
+use Rattle.ring_server.specs.contracts.hosting.Host as host
 use Rattle.ring_server.specs.contracts.sessions.Guest as guest
 use Rattle.ring_turn.specs.contracts.seat.Seat as seat
 use Rattle.ring_turn.specs.contracts.lock.TurnLock as lock
@@ -40,5 +41,14 @@ module _ (T : RattleType) (shows : tabled.Ghosts T.Denot any.the_row.Denot messa
       let fronts = front_sync send in
       let seats = seat_send send in
       let D : Declared = guest.the_type a T shows in
+      let fields : AllSend (shape D).fields = search (crosses, sendable, fronts, seats) depth 20 in
+      recorded_send (Struct (shape D)) D.D D.to D.to_one (struct_send (shape D) fields)
+
+  -- and so may a host
+  pub host_send : (a : NamedLft) → IsSend T → IsSend (host.the_row a T shows)
+  host_send a send =
+      let fronts = front_sync send in
+      let seats = seat_send send in
+      let D : Declared = host.the_type a T shows in
       let fields : AllSend (shape D).fields = search (crosses, sendable, fronts, seats) depth 20 in
       recorded_send (Struct (shape D)) D.D D.to D.to_one (struct_send (shape D) fields)

@@ -7,14 +7,18 @@
 #![tactic(auto)]
 
 mod base;
+mod crowd;
 mod handshake;
+mod hosting;
 mod listening;
+mod patient;
 mod resumed;
 mod resuming;
 mod running;
 mod server;
 mod sessions;
 
+pub use hosting::{Host, hosts};
 pub use listening::accept_loop;
 pub use resumed::Resumed;
 pub use resuming::resume_loop;

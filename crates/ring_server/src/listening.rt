@@ -70,7 +70,7 @@ fn serve_all<R, L, O>(
     out: &mut O,
 ) -> Result<usize, ProgramFault>
 where
-    R: Threads + Wait + AllocGlobal + Sync,
+    R: Threads + Wait + Clock + AllocGlobal + Sync,
     L: OpenListener<Stream = TcpStream> + Drop,
     O: Outlet,
     requires { All (λ seat. seat.lock ≡ front.now.id) seats.items }

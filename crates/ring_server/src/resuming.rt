@@ -35,6 +35,7 @@ use std::time::Clock;
 pub fn resume_loop<R, L, D, O>(
     rt: &R,
     listener: L,
+    campaigns: Option<L>,
     config: &Config,
     limits: Limits,
     resumed: Resumed<D>,
@@ -61,6 +62,7 @@ where
     } = resumed;
     let server = Server {
         listener,
+        campaigns,
         config: *config,
         limits,
         table,

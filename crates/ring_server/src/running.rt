@@ -4,11 +4,15 @@ ghost use Rattle.ring_lines.specs.Ends.{Wrote};
 ghost use Rattle.ring_door.specs.Telling.{listening_line};
 ghost use Rattle.ring_server.specs.Running.{FirstOrNone};
 
+use crate::crowd::{gather, seats_for};
+use crate::hosting::Host;
 use crate::sessions;
-use crate::sessions::{Front, Guest, Seat, Service, guests};
+use crate::sessions::{Front, Guest, Seat, Service};
 use ring_any::Any;
 use ring_config::Config;
-use ring_door::{Door, Limits, ProgramFault, attend_all, say_listening, tell};
+use ring_door::{
+    Door, Entrance, Limits, ProgramFault, attend_all, attend_both, say_listening, tell,
+};
 use ring_lines::Outlet;
 use ring_table::{Recorded, Tabled, Unkept};
 use std::net::{OpenListener, TcpStream};
@@ -19,9 +23,6 @@ use std::time::Clock;
 // The table: its history is not kept, so that questions take no memory for good.
 type Forgetful = Recorded<Any, Unkept<Any>>;
 
-// How many seats there are for each session that may run.
-pub(crate) const SEATS_EACH: u32 = 16;
-
 /// Makes the service, says that it listens, and serves clients until the process is ended.
 ///
 /// As many threads as there may be sessions accept one client after another, so a further client waits until
@@ -29,11 +30,13 @@ pub(crate) const SEATS_EACH: u32 = 16;
 /// seat is spent gets one of those that are kept for that. Sessions are numbered from 1 in the order of their
 /// accepts, and from 1 again after 4294967295. A session's fault ends that session alone. A failed accept, as
 /// for want of descriptors or memory, is told on standard error the first time, and is tried again after
-/// 100 ms. So it returns only where it could not begin: where memory was refused, a write failed or a thread
+/// 100 ms. If there is a listener for campaigns, as many threads accept those there, with seats of their own.
+/// So it returns only where it could not begin: where memory was refused, a write failed or a thread
 /// could not be started.
 pub fn run_loop<R, L, O>(
     rt: &R,
     listener: L,
+    campaigns: Option<L>,
     config: &Config,
     limits: Limits,
     out: &mut O,
@@ -48,13 +51,14 @@ where
 {
     let alloc = rt.alloc();
     let listening = say_listening(alloc, config.port)?;
-    let seats = limits.sessions.saturating_mul(SEATS_EACH);
+    let seats = seats_for(limits.sessions, campaigns.is_some());
     let table = Recorded::new(alloc, Unkept::new(alloc));
     let (service, seats) = sessions::open(rt, config, seats, table)?;
     let begun = begin(
         rt,
         front_of(&service),
         listener,
+        campaigns,
         listening.as_str(),
         seats,
         limits,
@@ -76,6 +80,7 @@ fn begin<R, L, O>(
     rt: &R,
     front: &Front<Forgetful>,
     listener: L,
+    campaigns: Option<L>,
     listening: &str,
     seats: Vec<Seat<Forgetful>>,
     limits: Limits,
@@ -90,12 +95,16 @@ where
         (λ _. Wrote O.write_gives out.old listening.now out.new)
         (λ fault. FirstOrNone O.write_gives out.old listening.now fault out.new) }
 {
-    let mut guests = guests(rt.alloc(), front, seats, 0)?;
-    let spare = guests.split_off(guests.len() / SEATS_EACH as usize)?;
+    let crowd = gather(
+        rt.alloc(),
+        front,
+        seats,
+        0,
+        limits.idle,
+        campaigns.is_some(),
+    )?;
     tell(out, listening)?;
-    let door = Mutex::new(Door::new(listener));
-    let spare = Mutex::new(spare);
-    seat_all(rt, &door, &spare, guests, limits)
+    crowd.serve(rt, listener, campaigns, limits)
 }
 
 /// Has guests of a table serve.
@@ -113,4 +122,22 @@ where
     ensures { IfErr result (λ fault. fault ≡ ProgramFault.Thread) }
 {
     attend_all(rt, door, spare, guests, limits)
+}
+
+/// Has guests of a table and its hosts serve, each at an entrance of their own.
+pub(crate) fn seat_both<'a, R, L, T>(
+    rt: &R,
+    first: &Entrance<L, Guest<'a, T>>,
+    second: &Entrance<L, Host<'a, T>>,
+    guests: Vec<Guest<'a, T>>,
+    others: Vec<Host<'a, T>>,
+    limits: Limits,
+) -> Result<(), ProgramFault>
+where
+    R: Threads + Wait + Eprint + Clock + Sync,
+    L: OpenListener<Stream = TcpStream> + Send + Drop,
+    T: Tabled<Any> + Send + Sync + Drop,
+    ensures { IfErr result (λ fault. fault ≡ ProgramFault.Thread) }
+{
+    attend_both(rt, first, guests, second, others, limits)
 }

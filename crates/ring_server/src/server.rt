@@ -2,18 +2,18 @@
 ghost use Rattle.std.specs.Prelude.{◌≡◌, ◌≤◌, ◌+◌, ◌^◌, All, IfErr, IfOk};
 ghost use Rattle.ring_server.specs.Faults.{IsOfStart};
 
+use crate::crowd::{gather, seats_for};
 use crate::handshake::Handshake;
-use crate::running::{SEATS_EACH, seat_all};
 use crate::sessions;
-use crate::sessions::{Front, Seat, Service, guests};
+use crate::sessions::{Front, Seat, Service};
 use ring_any::Any;
 use ring_config::Config;
-use ring_door::{Door, Limits, ProgramFault};
+use ring_door::{Limits, ProgramFault};
 use ring_node::Charter;
 use ring_recovery::{Alarm, Ending};
 use ring_table::Tabled;
 use std::net::{OpenListener, TcpStream};
-use std::sync::{Arc, Mutex, Wait};
+use std::sync::{Arc, Wait};
 use std::thread::Threads;
 use std::time::Clock;
 
@@ -21,6 +21,8 @@ use std::time::Clock;
 #[derive(Drop)]
 pub(crate) struct Server<L: Drop, T: Tabled<Any> + Drop> {
     pub(crate) listener: L,
+    // where campaigns come in, if they may
+    pub(crate) campaigns: Option<L>,
     pub(crate) config: Config,
     pub(crate) limits: Limits,
     pub(crate) table: T,
@@ -46,6 +48,7 @@ where
     {
         let Server {
             listener,
+            campaigns,
             config,
             limits,
             table,
@@ -54,16 +57,19 @@ where
             handshake,
             bell,
         } = self;
-        let sessions = limits.sessions.saturating_mul(SEATS_EACH);
-        let served = match open(rt, &config, sessions, table, charters) {
+        let seats = seats_for(limits.sessions, campaigns.is_some());
+        let served = match open(rt, &config, seats, table, charters) {
             Ok((service, seats)) => {
                 let front = sessions::front(&service);
-                let served = serve(rt, front, listener, seats, base, limits, &handshake);
+                let served = serve(
+                    rt, front, listener, campaigns, seats, base, limits, &handshake,
+                );
                 let _ = sessions::close(rt, service);
                 served
             }
             Err(fault) => {
                 drop(listener);
+                drop(campaigns);
                 Err(fault)
             }
         };
@@ -104,6 +110,7 @@ fn serve<R, L, T>(
     rt: &R,
     front: &Front<T>,
     listener: L,
+    campaigns: Option<L>,
     seats: Vec<Seat<T>>,
     base: usize,
     limits: Limits,
@@ -117,12 +124,16 @@ where
     requires base { base + T.most ≤ 2 ^ 64 }
     ensures fault { IfErr result IsOfStart }
 {
-    let mut guests = guests(rt.alloc(), front, seats, base)?;
-    let spare = guests.split_off(guests.len() / SEATS_EACH as usize)?;
+    let crowd = gather(
+        rt.alloc(),
+        front,
+        seats,
+        base,
+        limits.idle,
+        campaigns.is_some(),
+    )?;
     if !handshake.open(rt) {
         return Ok(());
     }
-    let door = Mutex::new(Door::new(listener));
-    let spare = Mutex::new(spare);
-    seat_all(rt, &door, &spare, guests, limits)
+    crowd.serve(rt, listener, campaigns, limits)
 }

@@ -153,6 +153,7 @@ pub fn guests<T: Tabled<Any> + Drop>(
     requires seats { All (λ seat. seat.lock ≡ front.now.id) seats.items }
     ensures guests { IfOk result (λ guests. vec_len guests ≡ vec_len seats) }
     ensures reads { IfOk result (λ guests. All (λ guest. guest.reads ≡ 4294967295) guests.items) }
+    ensures base { IfOk result (λ guests. All (λ guest. guest.base.number ≡ base) guests.items) }
     ensures fault { IfErr result (λ fault. fault ≡ NoMemory) }
 {
     limited_guests(alloc, front, seats, base, READS)
@@ -171,6 +172,7 @@ pub fn limited_guests<T: Tabled<Any> + Drop>(
     requires seats { All (λ seat. seat.lock ≡ front.now.id) seats.items }
     ensures guests { IfOk result (λ guests. vec_len guests ≡ vec_len seats) }
     ensures reads { IfOk result (λ guests. All (λ guest. guest.reads ≡ reads) guests.items) }
+    ensures base { IfOk result (λ guests. All (λ guest. guest.base.number ≡ base) guests.items) }
     ensures fault { IfErr result (λ fault. fault ≡ NoMemory) }
 {
     let mut rest = seats;
@@ -198,7 +200,7 @@ impl<T: Tabled<Any> + Drop> Serving for Guest<'_, T> {
         self.seat.is_spent()
     }
 
-    fn serve<R: Wait>(&mut self, rt: &R, session: u32, stream: &TcpStream, places: bool)
+    fn serve<R: Wait + Clock>(&mut self, rt: &R, session: u32, stream: &TcpStream, places: bool)
         ensures served { HasServed (base_if places self.old.base.number) T.most session self.old.reads self.old.seat self.new.seat }
         ensures gained { GainsCalls session self.old.seat.mine self.new.seat.mine }
         ensures told { (self.new.seat ≡ self.old.seat) ⊎ Settled self.new.seat }

@@ -71,7 +71,7 @@ impl Serving for Counter<'_> {
         false
     }
 
-    fn serve<R: Wait>(&mut self, rt: &R, session: u32, stream: &TcpStream, places: bool) {
+    fn serve<R: Wait + Clock>(&mut self, rt: &R, session: u32, stream: &TcpStream, places: bool) {
         if is_numbered(session, stream) && !places {
             let mut count = self.count.lock(rt);
             *count = count.saturating_add(1);
@@ -91,7 +91,12 @@ fn counters(alloc: Global, count: &Mutex<u32>) -> Option<Vec<Counter<'_>>> {
 // Three clients, one after another: how many sessions have the number of their client.
 fn numbered<R>(rt: &R) -> Option<u32>
 where
-    R: AllocGlobal + Threads + Wait + Sync + Net<Stream = TcpStream, Listener = TcpListener>,
+    R: AllocGlobal
+        + Threads
+        + Wait
+        + Clock
+        + Sync
+        + Net<Stream = TcpStream, Listener = TcpListener>,
 {
     let (listener, address) = listener(rt).ok()?;
     let clients = clients(rt, address, 3).ok()?;

@@ -92,7 +92,7 @@ where
     };
     let mut out = out_failing_at(rt.alloc(), fault_at).ok()?;
     let resumed = unsynced(rt.alloc())?;
-    let ran = resume_loop(rt, listener, &CONFIG, limits, resumed, &mut out);
+    let ran = resume_loop(rt, listener, None, &CONFIG, limits, resumed, &mut out);
     let ends = ran == wanted && out.taken() == told;
     drop(out);
     Some(ends)

@@ -35,9 +35,9 @@ where
     let Ok(mut out) = out_failing_at(rt.alloc(), fault_at) else {
         return false;
     };
-    let mut ran = run_loop(rt, NoClients, &config, nobody, &mut out);
+    let mut ran = run_loop(rt, NoClients, None, &config, nobody, &mut out);
     if ran == Err(ProgramFault::NoMemory) {
-        ran = run_loop(rt, NoClients, &config, nobody, &mut out);
+        ran = run_loop(rt, NoClients, None, &config, nobody, &mut out);
     }
     let ends = ran == wanted && out.taken() == told;
     drop(out);
@@ -111,7 +111,7 @@ impl Serving for Idler<'_> {
         self.left == 0
     }
 
-    fn serve<R: Wait>(&mut self, rt: &R, session: u32, stream: &TcpStream, places: bool) {
+    fn serve<R: Wait + Clock>(&mut self, rt: &R, session: u32, stream: &TcpStream, places: bool) {
         self.left = self.left.saturating_sub(1);
         let is_right = places && is_numbered(session, stream);
         let digit = if is_right { self.number } else { 9 };
@@ -197,7 +197,7 @@ where
             port: 80,
         };
         if let Ok(mut out) = out_failing_at(inner.alloc(), 0) {
-            let _ = run_loop(&inner, listener, &config, TWO_SESSIONS, &mut out);
+            let _ = run_loop(&inner, listener, None, &config, TWO_SESSIONS, &mut out);
             drop(out);
         }
     };

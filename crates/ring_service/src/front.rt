@@ -25,7 +25,7 @@ use std::sync::{Arc, Mutex, Wait};
 #[derive(Drop)]
 pub struct Front<A: Drop> {
     alloc: Global,
-    access: Arc<A>,
+    pub(crate) access: Arc<A>,
     posts: Mutex<Posts>,
     // whether a begin may wait
     waits: AtomicBool,

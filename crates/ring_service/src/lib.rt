@@ -5,6 +5,7 @@
 //! their nodes come to know.
 #![tactic(auto)]
 
+mod access;
 mod crew;
 mod front;
 mod mesh;

@@ -49,6 +49,9 @@ run_places = unwrap_or (slice_get run_below.rules 3) config_rule
 abbrev run_journal : Rule
 run_journal = unwrap_or (slice_get run_below.rules 4) config_rule
 
+abbrev run_campaign : Rule
+run_campaign = unwrap_or (slice_get run_below.rules 5) config_rule
+
 -- the argument of `journal`
 abbrev journal_file : Rule
 journal_file = unwrap_or (slice_get journal_below.rules 0) config_rule
@@ -135,8 +138,11 @@ run_keeps_config = (
         (
           set_keeps false run_config run_journal (other_use run_config run_journal refl) refl,
           (
-            help_keeps (IsRead run_config),
-            tt,
+            set_keeps false run_config run_campaign (other_use run_config run_campaign refl) refl,
+            (
+              help_keeps (IsRead run_config),
+              tt,
+            ),
           ),
         ),
       ),
@@ -156,8 +162,11 @@ run_keeps_sessions = (
         (
           set_keeps false run_sessions run_journal (other_use run_sessions run_journal refl) refl,
           (
-            help_keeps (IsRead run_sessions),
-            tt,
+            set_keeps false run_sessions run_campaign (other_use run_sessions run_campaign refl) refl,
+            (
+              help_keeps (IsRead run_sessions),
+              tt,
+            ),
           ),
         ),
       ),
@@ -177,8 +186,35 @@ run_keeps_idle = (
         (
           set_keeps false run_idle run_journal (other_use run_idle run_journal refl) refl,
           (
-            help_keeps (IsRead run_idle),
-            tt,
+            set_keeps false run_idle run_campaign (other_use run_idle run_campaign refl) refl,
+            (
+              help_keeps (IsRead run_idle),
+              tt,
+            ),
+          ),
+        ),
+      ),
+    ),
+  ),
+)
+
+run_keeps_campaign : EachKeeps run_below (IsRead run_campaign) run_below.rules
+run_keeps_campaign = (
+  set_keeps false run_campaign run_config (other_use run_campaign run_config refl) refl,
+  (
+    set_keeps false run_campaign run_sessions (other_use run_campaign run_sessions refl) refl,
+    (
+      set_keeps false run_campaign run_idle (other_use run_campaign run_idle refl) refl,
+      (
+        flag_keeps false run_campaign run_places refl refl,
+        (
+          set_keeps false run_campaign run_journal (other_use run_campaign run_journal refl) refl,
+          (
+            set_keeps false run_campaign run_campaign (own_use run_campaign) refl,
+            (
+              help_keeps (IsRead run_campaign),
+              tt,
+            ),
           ),
         ),
       ),
@@ -199,8 +235,11 @@ run_defaults wanted other = (
         (
           no_default (IsRead wanted) run_journal refl,
           (
-            no_default (IsRead wanted) help_flag refl,
-            tt,
+            no_default (IsRead wanted) run_campaign refl,
+            (
+              no_default (IsRead wanted) help_flag refl,
+              tt,
+            ),
           ),
         ),
       ),
@@ -231,7 +270,7 @@ serve_gives rows level =
       connections = has_number serve_connections (codes "connections") 1 64 there row.0 refl refl connections_read row.1;
     })
 
--- the level of `run` gives a file, and may give two numbers
+-- the level of `run` gives a file, and may give three numbers
 run_gives : (rows : List Row) → IsLevel run_below rows → IsRun rows
 run_gives rows level =
     let there = rows_after run_below.rules [] level.given in
@@ -239,10 +278,12 @@ run_gives rows level =
     let config_read = level_reads run_below (IsRead run_config) run_keeps_config (run_defaults run_config refl) level.given level.fine in
     let sessions_read = level_reads run_below (IsRead run_sessions) run_keeps_sessions (run_defaults run_sessions refl) level.given level.fine in
     let idle_read = level_reads run_below (IsRead run_idle) run_keeps_idle (run_defaults run_idle refl) level.given level.fine in
+    let campaign_read = level_reads run_below (IsRead run_campaign) run_keeps_campaign (run_defaults run_campaign refl) level.given level.fine in
     subst IsRun (sym level.is) (record {
       file = has_file run_config (codes "config") there refl config_read given;
       sessions = may_have_number run_sessions (codes "sessions") 1 64 there refl refl sessions_read;
       idle = may_have_number run_idle (codes "idle") 0 86400 there refl refl idle_read;
+      campaign = may_have_number run_campaign (codes "campaign") 1 65535 there refl refl campaign_read;
     })
 
 -- the level of `journal` gives a file
@@ -271,7 +312,7 @@ named_journal words rows names = journal_gives rows ((names_one words (codes "jo
 pub serves_as_given : (words : List Text) (rows : List Row) (r : Result Order WordsFault) → Names words (codes "serve") rows → IfOk r (IsServeOf rows) → IfOk r (IsGiven words)
 serves_as_given words rows (Ok Replay) names told = absurd told
 serves_as_given words rows (Ok (Serve path connections)) names told = (rows, names, told)
-serves_as_given words rows (Ok (Run path sessions idle places journal)) names told = absurd told
+serves_as_given words rows (Ok (Run path sessions idle places journal campaign)) names told = absurd told
 serves_as_given words rows (Ok (Journal path)) names told = absurd told
 serves_as_given words rows (Err fault) names told = tt
 
@@ -279,7 +320,7 @@ serves_as_given words rows (Err fault) names told = tt
 pub runs_as_given : (words : List Text) (rows : List Row) (r : Result Order WordsFault) → Names words (codes "run") rows → IfOk r (IsRunOf rows) → IfOk r (IsGiven words)
 runs_as_given words rows (Ok Replay) names told = absurd told
 runs_as_given words rows (Ok (Serve path connections)) names told = absurd told
-runs_as_given words rows (Ok (Run path sessions idle places journal)) names told = (rows, names, told)
+runs_as_given words rows (Ok (Run path sessions idle places journal campaign)) names told = (rows, names, told)
 runs_as_given words rows (Ok (Journal path)) names told = absurd told
 runs_as_given words rows (Err fault) names told = tt
 
@@ -287,6 +328,6 @@ runs_as_given words rows (Err fault) names told = tt
 pub journal_as_given : (words : List Text) (rows : List Row) (r : Result Order WordsFault) → Names words (codes "journal") rows → IfOk r (IsJournalOf rows) → IfOk r (IsGiven words)
 journal_as_given words rows (Ok Replay) names told = absurd told
 journal_as_given words rows (Ok (Serve path connections)) names told = absurd told
-journal_as_given words rows (Ok (Run path sessions idle places journal)) names told = absurd told
+journal_as_given words rows (Ok (Run path sessions idle places journal campaign)) names told = absurd told
 journal_as_given words rows (Ok (Journal path)) names told = (rows, names, told)
 journal_as_given words rows (Err fault) names told = tt

@@ -2,7 +2,7 @@
 ghost use Rattle.std.specs.Prelude.{◌≡◌, ◌↔◌, ◌∷◌, [], ℕ, List, IfErr, IfOk, IsOkUnless, IsTrue, Some, codes, false, map, option_map, string_bytes, true};
 ghost use Rattle.clap.specs.Words.{App, Rule, app_of, found_of, kind_of, new_rule, rows_of, rule_of, takes, with_rule, with_subcommand, Text};
 ghost use Rattle.clap.specs.declared.error.kind.ErrorKind.TheVariants.{DisplayVersion, ValueValidation};
-ghost use Rattle.ring_words.specs.Words.{HasCause, IsFaultOf, IsGiven, config_rule, connections_rule, file_rule, idle_rule, journal_app, kept_rule, places_rule, ringd_app, run_app, serve_app, sessions_rule};
+ghost use Rattle.ring_words.specs.Words.{HasCause, IsFaultOf, IsGiven, campaign_rule, config_rule, connections_rule, file_rule, idle_rule, journal_app, kept_rule, places_rule, ringd_app, run_app, serve_app, sessions_rule};
 ghost use Rattle.ring_words.specs.private.Words.{HasFile, IsJournalOf, IsLocal, IsRun, IsRunOf, IsServeOf, IsServed};
 
 use clap::error::ErrorKind;
@@ -51,6 +51,8 @@ pub enum Order {
         places: bool,
         /// The file that keeps the groups, if one is given.
         journal: Option<String>,
+        /// The port for campaigns; 0 if none is given.
+        campaign: u32,
     },
     /// `ringd journal FILE`: print the content of a journal.
     Journal {
@@ -135,7 +137,8 @@ fn run_command<'a>(alloc: Global) -> Result<Command<'a>, AllocError>
     let command = with_arg(command, sessions_arg(alloc));
     let command = with_arg(command, idle_arg(alloc));
     let command = with_arg(command, places_arg(alloc));
-    with_arg(command, kept_arg(alloc))
+    let command = with_arg(command, kept_arg(alloc));
+    with_arg(command, campaign_arg(alloc))
 }
 
 // The subcommand `journal`.
@@ -267,6 +270,18 @@ fn kept_arg<'a>(alloc: Global) -> Arg<'a>
     )
 }
 
+// An option of `run`: the port for campaigns.
+fn campaign_arg<'a>(alloc: Global) -> Arg<'a>
+    ensures rule { rule_of result ≡ campaign_rule }
+    ensures own { result.global ≡ false }
+{
+    option_arg(alloc, "campaign", "PORT")
+        .value_parser(clap::value_parser!(u32).range(1..=65535))
+        .help(
+            "Serve campaigns on PORT of 127.0.0.1: a client is a member for as long as it is connected",
+        )
+}
+
 // The argument of `journal`: its file.
 fn file_arg<'a>(alloc: Global) -> Arg<'a>
     ensures rule { rule_of result ≡ file_rule }
@@ -354,12 +369,14 @@ fn run_order(alloc: Global, given: &ArgMatches<'_>) -> Result<Order, WordsFault>
     let idle = given.get_one::<u32>("idle").unwrap_or(0);
     let places = given.get_flag("places");
     let journal = copy_of(alloc, given.get_str("journal"))?;
+    let campaign = given.get_one::<u32>("campaign").unwrap_or(0);
     Ok(Order::Run {
         path: String::from_str(alloc, path)?,
         sessions,
         idle,
         places,
         journal,
+        campaign,
     })
 }
 

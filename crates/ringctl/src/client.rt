@@ -2,7 +2,7 @@
 use crate::fault::Fault;
 use crate::reply::{Reply, read_reply};
 use std::alloc::Global;
-use std::io::{self, BufRead, BufReader, Read, Write};
+use std::io::{self, BufRead, BufReader, ErrorKind, Read, Write};
 use std::net::{Net, TcpStream, ToSocketAddrs};
 use std::time::Duration;
 
@@ -43,6 +43,16 @@ impl Client<TcpStream> {
         }
         Err(Fault::NoService)
     }
+
+    /// Sets how long `hear` waits for a reply, in milliseconds. Fails with `NoService` if the
+    /// system refuses it.
+    pub fn wait_for(&mut self, pace: u64) -> Result<(), Fault> {
+        let pace = Some(Duration::from_millis(pace));
+        match self.reader.get_ref().set_read_timeout(pace) {
+            Ok(()) => Ok(()),
+            Err(_) => Err(Fault::NoService),
+        }
+    }
 }
 
 impl<S: Read + Write + Drop> Client<S> {
@@ -79,8 +89,26 @@ impl<S: Read + Write + Drop> Client<S> {
         }
     }
 
-    // Sends a line by one write.
-    fn send(&mut self, word: &str, others: &str) -> Result<(), Fault> {
+    /// Returns the next reply, or `None` if it has not come within the time limit of a read. The
+    /// part of a line that has come is kept for the next call.
+    pub fn hear(&mut self) -> Result<Option<Reply<'_>>, Fault> {
+        if self.reply.ends_with('\n') {
+            self.reply.clear();
+        }
+        if let Err(error) = read_bounded(&mut self.reader, &mut self.reply) {
+            return match error.kind() {
+                ErrorKind::WouldBlock => Ok(None),
+                _ => Err(Fault::NoService),
+            };
+        }
+        match self.reply.as_str().strip_suffix('\n').and_then(read_reply) {
+            Some(reply) => Ok(Some(reply)),
+            None => Err(Fault::NoService),
+        }
+    }
+
+    /// Sends a line by one write, given in two parts and without its LF.
+    pub fn send(&mut self, word: &str, others: &str) -> Result<(), Fault> {
         self.request.clear();
         self.request.push_str(word)?;
         self.request.push_str(others)?;

@@ -2,7 +2,8 @@
 //!
 //! `ringctl COMMAND WORD..` sends one line and prints its reply. `ringctl` alone sends each line of
 //! standard input, with a prompt at a terminal. `ringctl watch G` prints a line when a term of the
-//! group starts, and when its leader becomes known.
+//! group starts, and when its leader becomes known. `ringctl campaign G N` keeps a member in its
+//! group for as long as it runs, and prints what the member knows.
 //!
 //! Its exit status is 0 if all was done. It is 1 if the command was refused, with the word of the
 //! refusal on standard error, or if its own input, output or memory failed. It is 2 if the command
@@ -14,6 +15,7 @@ ghost use Rattle.std.specs.Prelude.{◌≡◌, MatchResult};
 ghost use Rattle.std.specs.Process.{exit_status};
 ghost use Rattle.ringctl.specs.Faults.{status_of};
 
+mod campaign;
 mod client;
 mod fault;
 mod reply;
@@ -52,6 +54,7 @@ where
     let done = match &asked.order {
         Order::Session => session::hold(rt, &mut client, at_terminal),
         Order::Ask(line) => session::ask_once(rt, &mut client, line.as_str()),
+        Order::Campaign(line) => campaign::run(rt, &mut client, line.as_str()),
         Order::Watch { group, seconds } => watch::watch(rt, &mut client, group.as_str(), *seconds),
     };
     drop(client);

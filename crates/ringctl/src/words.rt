@@ -1,15 +1,19 @@
 //! The words of the command line, and what they ask for.
 ghost use Rattle.std.specs.Prelude.{◌≡◌, ℕ, IfNone, IfSome, string_bytes};
-ghost use Rattle.ringctl.specs.private.Words.{IsAsk, SpellsNoCommand};
+ghost use Rattle.ringctl.specs.private.Words.{IsAsk, IsCampaign, SpellsNoCommand, SpellsNoJoin, joins};
 
 use clap::error::ErrorKind;
 use clap::{Arg, ArgMatches, Command};
-use ring_grammar::parse_command;
+use ring_any::Any;
+use ring_events::Command as Asking;
+use ring_grammar::{one_spelling, parse_command};
 use ring_id::GroupName;
 use std::alloc::{AllocError, Global};
 
-// The address of the service without `--address`.
-const ADDRESS: &str = "127.0.0.1:7400";
+// The address of the service without `--address`: of its sessions, and of its campaigns.
+const SESSIONS: &str = "127.0.0.1:7400";
+
+const CAMPAIGNS: &str = "127.0.0.1:7401";
 
 // The end of the help.
 const COMMANDS: &str = "Commands, for a group G and a member N:
@@ -23,6 +27,8 @@ const COMMANDS: &str = "Commands, for a group G and a member N:
   terms G         print each term with its leader, or with - if no leader is known
   groups          print the groups, in the order in which they were created
   watch G         print a line when a term starts, and when its leader becomes known
+  campaign G N    join as 'join G N' or 'join G N/V' does, and print what N knows of the
+                  leader, each time that it changes; the end of ringctl removes the member
 
 The greatest member leads: the one with the greatest weight, and of these the greatest
 number. Under peterson another may lead.
@@ -32,12 +38,14 @@ Without a command, ringctl sends each line of standard input and prints its repl
 A watch asks a member once a second what it knows. When the answer has changed, it asks for
 the terms. 'ringd run' keeps nothing of these questions; 'ringd serve' keeps each until it ends.
 
+A campaign needs the port of 'ringd run --campaign PORT'. It sends a sign of life twice a second.
+
 Exit status:
   0   The command was done.
   1   The command was refused, and standard error has the word of the refusal.
       Or reading, writing or an allocation failed.
   2   The command line is wrong, or asks for help.
-  3   No service answered at the address within ten seconds.";
+  3   No service answered at the address within ten seconds, or a campaign lost its service.";
 
 /// The order that the words give, and the service that it is for.
 #[derive(Drop)]
@@ -53,6 +61,8 @@ pub enum Order {
     Session,
     /// Send one line, given without its LF.
     Ask(String),
+    /// Send a line that spells a join, given without its LF, to the port of the campaigns.
+    Campaign(String),
     /// Print the terms of a group for `seconds` seconds; if there is none, until the process is
     /// ended.
     Watch { group: String, seconds: Option<u32> },
@@ -98,8 +108,7 @@ fn address_arg<'a>(alloc: Global) -> Arg<'a> {
     Arg::new(alloc, "address")
         .long("address")
         .value_name("HOST:PORT")
-        .default_value(ADDRESS)
-        .help("The address of the service")
+        .help("The address of the service [default: 127.0.0.1:7400; for campaign 127.0.0.1:7401]")
 }
 
 // The option with the length of a watch.
@@ -150,17 +159,25 @@ fn asked_of(
     alloc: Global,
     matches: &ArgMatches<'_>,
 ) -> Result<Result<Asked, &'static str>, AllocError> {
-    let address = matches.get_str("address").unwrap_or(ADDRESS);
+    let given = matches.get_strs("words").unwrap_or(&[]);
+    let address = matches.get_str("address").unwrap_or(usual_address(given));
     if !is_address(address) {
         return Ok(Err("the address must be HOST:PORT, with a port of 1 to 65535"));
     }
-    let given = matches.get_strs("words").unwrap_or(&[]);
     match order_of(alloc, given, matches.get_one::<u32>("for"))? {
         Some(order) => Ok(Ok(Asked {
             address: String::from_str(alloc, address)?,
             order,
         })),
         None => Ok(Err("this is no command; ringctl --help lists the commands")),
+    }
+}
+
+// Returns the address of the service that these words are for, if none is given.
+fn usual_address(words: &[&str]) -> &'static str {
+    match words {
+        ["campaign", ..] => CAMPAIGNS,
+        _ => SESSIONS,
     }
 }
 
@@ -185,6 +202,9 @@ fn order_of(
     match (words, seconds) {
         ([], None) => Ok(Some(Order::Session)),
         (["watch", group], _) => watch_order(alloc, group, seconds),
+        (["campaign", group, member], None) => {
+            Ok(campaign_order(line_of(alloc, &["join", group, member])?))
+        }
         (_, None) => Ok(ask_order(line_of(alloc, words)?)),
         _ => Ok(None),
     }
@@ -214,6 +234,27 @@ fn ask_order(line: String) -> Option<Order>
         return None;
     }
     Some(Order::Ask(line))
+}
+
+// Returns the order to campaign by this line, or `None` exactly if it spells no join.
+fn campaign_order(line: String) -> Option<Order>
+    ensures some { IfSome result (IsCampaign (string_bytes line)) }
+    ensures none { IfNone result (SpellsNoJoin (string_bytes line)) }
+{
+    one_spelling();
+    let command = parse_command(line.as_bytes())?;
+    if is_join(&command) {
+        Some(Order::Campaign(line))
+    } else {
+        None
+    }
+}
+
+// Returns whether a command is a join.
+fn is_join(command: &Asking<Any>) -> bool
+    ensures { result ≡ joins command.now }
+{
+    matches!(command, Asking::Join(_, _))
 }
 
 // Returns the words with one space between two of them.

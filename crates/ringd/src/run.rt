@@ -1,5 +1,5 @@
 //! What the program does with the world: its standard streams, its file and its port.
-ghost use Rattle.std.specs.Prelude.{◌≡◌, ◌≤◌, ◌++◌, ◌⊎◌, ℕ, List, IfErr, IfOk, IfSome, MatchResult, Ok, Err, length};
+ghost use Rattle.std.specs.Prelude.{◌≡◌, ◌<◌, ◌≤◌, ◌++◌, ◌⊎◌, ℕ, List, IfErr, IfOk, IfSome, MatchOption, MatchResult, Ok, Err, length};
 ghost use Rattle.ring_lines.specs.Ends.{Wrote, WroteFront};
 ghost use Rattle.ring_config.specs.Reading.{Spells};
 ghost use Rattle.ring_config.specs.declared.config.Config.{Config};
@@ -97,12 +97,19 @@ where
     accept_loop(rt, listener, &config, connections, out)
 }
 
-/// Serves clients on 127.0.0.1 until the process is ended, at the port of the configuration in this file.
+/// Serves clients on 127.0.0.1 until the process is ended, at the port of the configuration in this file, and
+/// campaigns at a port of their own, if there is one.
 ///
 /// Its faults, in this order: the file can't be read, is too long or spells no configuration; the port
 /// can't be listened on; and those of `run_loop`.
 #[tactic(auto, using(crate::proofs::Causes::ran_unloaded))]
-pub fn run<R, O>(rt: &R, path: &str, limits: Limits, out: &mut O) -> Result<(), ProgramFault>
+pub fn run<R, O>(
+    rt: &R,
+    path: &str,
+    limits: Limits,
+    campaigns: Option<u16>,
+    out: &mut O,
+) -> Result<(), ProgramFault>
 where
     R: Files
         + Eprint
@@ -123,7 +130,8 @@ where
 {
     let config = load(rt, path)?;
     let listener = listen(rt, config.port)?;
-    run_loop(rt, listener, &config, limits, out)
+    let campaigns = listen_if(rt, campaigns)?;
+    run_loop(rt, listener, campaigns, &config, limits, out)
 }
 
 /// Serves clients as `run` does, by the table that a journal keeps, until the journal fails or the process is ended.
@@ -136,6 +144,7 @@ pub fn run_kept<R, O>(
     path: &str,
     file: &str,
     limits: Limits,
+    campaigns: Option<u16>,
     out: &mut O,
 ) -> Result<(), ProgramFault>
 where
@@ -160,7 +169,28 @@ where
     let config = load(rt, path)?;
     let resumed = journal::take_up(rt, file)?;
     let listener = listen(rt, config.port)?;
-    resume_loop(rt, listener, &config, limits, resumed, out)
+    let campaigns = listen_if(rt, campaigns)?;
+    resume_loop(rt, listener, campaigns, &config, limits, resumed, out)
+}
+
+/// The port that a number says, and none at 0 or above 65535.
+pub fn port_of(number: u32) -> Option<u16>
+    ensures { MatchOption result ((number ≡ 0) ⊎ (65535 < number)) (λ port. (port ≡ number) × (1 ≤ port)) }
+{
+    if number == 0 || number > 65535 {
+        return None;
+    }
+    Some(number as u16)
+}
+
+// Listens on a port, if there is one.
+fn listen_if<R: Net>(rt: &R, port: Option<u16>) -> Result<Option<R::Listener>, ProgramFault>
+    ensures { IfErr result (λ fault. fault ≡ ProgramFault.Listen) }
+{
+    match port {
+        Some(port) => Ok(Some(listen(rt, port)?)),
+        None => Ok(None),
+    }
 }
 
 // Listens on this machine alone.

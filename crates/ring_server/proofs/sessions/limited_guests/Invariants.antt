@@ -2,10 +2,11 @@ use Rattle.std.proofs.Common.{◌≡◌, ◌+◌, ◌≤◌, All, vec_len, vec_c
 use Rattle.ring_server.proofs.sessions.limited_guests.Given as goal
 
 -- the seats that are left are of the lock, there is room for them, and each guest so far grants what was asked for
+-- and has the base that was asked for
 abbrev pub invariant-loop-seat : goal.invariant-loop-seat
 invariant-loop-seat g l =
     All (λ seat. seat.lock ≡ l.fn.front.id) l.rest.items × (vec_len l.guests + vec_len l.rest ≡ vec_len l.fn.seats) × (vec_len l.fn.seats ≤ vec_capacity l.guests)
-    × All (λ guest. guest.reads ≡ l.fn.reads) l.guests.items
+    × All (λ guest. guest.reads ≡ l.fn.reads) l.guests.items × All (λ guest. guest.base.number ≡ l.fn.base) l.guests.items
 
 abbrev pub decreases-loop-seat : goal.decreases-loop-seat
 decreases-loop-seat g l = goal.left-loop-seat g l

@@ -1,0 +1,94 @@
+-- What a campaign adds to the entries of its seat: its join, then questions about its group, and last its leave. Here
+-- they are those of a session, for a group and for the number of its member.
+use Rattle.std.specs.Prelude.{◌≡◌, ◌⊎◌, ◌==◌, ℕ, Bool, true, false, List, [], ◌∷◌, ◌++◌, Option, Some, All}
+use Rattle.std.specs.List.{list_any}
+use Rattle.ring_id.specs.Identity.{number_of}
+use Rattle.ring_roster.specs.Ring.{has_number}
+use Rattle.ring_any.specs.declared.any.Any.{Any}
+use Rattle.ring_events.specs.declared.event.Command.TheVariants.{Join, Leave, Members, Start, Terms, Who}
+use Rattle.ring_events.specs.declared.reply.Reply.{Reply}
+use Rattle.ring_events.specs.declared.reply.Reply.TheVariants.{Leader, Undecided}
+use Rattle.ring_events.specs.declared.reply.Reply.TheVariants as reply
+use Rattle.ring_table.specs.declared.entry.Entry.{Entry}
+use Rattle.ring_table.specs.declared.entry.Entry.TheVariants.{Call}
+
+-- whether this member has to be followed once it has gone: it leads the last term, or has not heard who does
+abbrev pub may_lead : ℕ → Reply → Bool
+may_lead number (Leader term leader) = number_of leader == number
+may_lead number (Undecided term) = true
+may_lead number _ = false
+
+module _ (session : ℕ) (group : List ℕ) (number : ℕ) where
+  -- a question about this group, or about this member
+  abbrev pub IsQuestion : Entry Any → Type 0
+  IsQuestion (Call caller (Who name node) answer) = (caller ≡ session) × (name ≡ group) × (node ≡ number)
+  IsQuestion (Call caller (Members name) answer) = (caller ≡ session) × (name ≡ group)
+  IsQuestion (Call caller (Terms name) answer) = (caller ≡ session) × (name ≡ group)
+  IsQuestion _ = ⊥
+
+  -- The last answers say that the leader of the last term is no member any more.
+  pub record HasLostLeader (asked : List (Entry Any)) : Type 0 where
+    pub earlier : List (Entry Any)
+    pub leaders : List (Option ℕ)
+    pub leader : ℕ
+    pub members : List ℕ
+    pub whole : asked ≡ earlier ++ Call session (Terms group) (reply.Terms (leaders ++ Some leader ∷ [])) ∷ Call session (Members group) (reply.Members members) ∷ []
+    pub gone : list_any (has_number leader) members ≡ false
+
+  -- The last answer says that no term has begun.
+  pub record HasNoTerm (asked : List (Entry Any)) : Type 0 where
+    pub earlier : List (Entry Any)
+    pub whole : asked ≡ earlier ++ Call session (Terms group) (reply.Terms []) ∷ []
+
+  -- questions, the last of which say that there is no leader to follow
+  abbrev pub FindNobody : List (Entry Any) → Type 0
+  FindNobody asked = All IsQuestion asked × (HasNoTerm asked ⊎ HasLostLeader asked)
+
+  -- One start, behind questions that found nobody. Questions follow it.
+  pub record StartsOnce (entries : List (Entry Any)) : Type 0 where
+    pub asked : List (Entry Any)
+    pub answer : Reply
+    pub later : List (Entry Any)
+    pub whole : entries ≡ asked ++ Call session (Start group) answer ∷ later
+    pub nobody : FindNobody asked
+    pub questions : All IsQuestion later
+
+  -- between the join and the leave: questions, and at most one start
+  abbrev pub Looks : List (Entry Any) → Type 0
+  Looks entries = All IsQuestion entries ⊎ StartsOnce entries
+
+  -- a start exactly if there may be a leader to follow no more
+  abbrev pub StartsIf : Bool → List (Entry Any) → Type 0
+  StartsIf true entries = (answer : Reply) × (entries ≡ Call session (Start group) answer ∷ [])
+  StartsIf false entries = entries ≡ []
+
+  -- The member is taken out. Then a term is started exactly if the member may lead the last one.
+  pub record Leaves (entries : List (Entry Any)) : Type 0 where
+    pub left : Reply
+    pub told : Reply
+    pub again : List (Entry Any)
+    pub whole : entries ≡ Call session (Leave group number) left ∷ Call session (Who group number) told ∷ again
+    pub starts : StartsIf (may_lead number told) again
+
+module _ (session : ℕ) (mine now : List (Entry Any)) where
+  -- A join was placed and not done.
+  pub record GainsRefusal : Type 0 where
+    pub group : List ℕ
+    pub node : ℕ
+    pub answer : Reply
+    pub refused : answer ≡ reply.Done → ⊥
+    pub gained : now ≡ mine ++ Call session (Join group node) answer ∷ []
+
+  -- A join was done, and the member left at last.
+  pub record GainsMember : Type 0 where
+    pub group : List ℕ
+    pub node : ℕ
+    pub during : List (Entry Any)
+    pub ending : List (Entry Any)
+    pub gained : now ≡ mine ++ Call session (Join group node) reply.Done ∷ (during ++ ending)
+    pub looks : Looks session group (number_of node) during
+    pub leaves : Leaves session group (number_of node) ending
+
+  -- what a campaign adds to the entries of its seat
+  abbrev pub GainsCampaign : Type 0
+  GainsCampaign = (now ≡ mine) ⊎ GainsRefusal ⊎ GainsMember

@@ -1,0 +1,3 @@
+pub mod Campaigns
+pub mod Entries
+pub mod private

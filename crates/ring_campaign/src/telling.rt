@@ -1,0 +1,78 @@
+//! What a candidate tells its client.
+ghost use Rattle.std.specs.Prelude.{◌≡◌, ◌∷◌, [], OnErr, OnOk, false, true};
+ghost use Rattle.ring_grammar.specs.Spelling.{reply_line};
+ghost use Rattle.ring_campaign.specs.private.Looking.{IsTold};
+ghost use Rattle.ring_campaign.specs.private.Telling.{Tells};
+ghost use Rattle.ring_lines.specs.Ends.{Wrote, WroteFront};
+
+use crate::candidate::Candidate;
+use crate::replies::is_same;
+use ring_any::Any;
+use ring_events::Reply;
+use ring_lines::{Outlet, WriteFailed, print_reply, put};
+use ring_table::Access;
+use std::sync::Wait;
+use std::thread;
+use std::time::{Clock, Duration};
+
+// How many milliseconds it waits for memory.
+const PAUSE: u64 = 10;
+
+impl<A: Access<Any> + Drop, R: Wait + Clock> Candidate<'_, A, R> {
+    /// Tells a reply, if it is another one than the last, which it is then. All that it was given from is kept
+    /// for good before that.
+    pub(crate) fn tell<O: Outlet>(
+        &self,
+        seat: &mut A::Seat,
+        last: &mut Reply,
+        reply: Reply,
+        text: &mut Vec<u8>,
+        writer: &mut O,
+    ) -> Result<(), WriteFailed>
+        requires seat { A.has_seat self.now.access.now seat.old }
+        requires told { IsTold reply }
+        ensures seat { A.has_seat self.now.access.now seat.new }
+        ensures entries { A.mine seat.new ≡ A.mine seat.old }
+        ensures ok { OnOk result (Tells O.write_gives last.old writer.old (reply ∷ []) true last.new writer.new) }
+        ensures err { OnErr result (Tells O.write_gives last.old writer.old (reply ∷ []) false last.new writer.new) }
+    {
+        if is_same(last, &reply) {
+            drop(reply);
+            return Ok(());
+        }
+        self.access.settle(self.rt, seat);
+        let put = self.put(seat, &reply, text, writer);
+        *last = reply;
+        put
+    }
+
+    /// Writes the line of a reply. All that the seat's answers were given from is kept for good.
+    pub(crate) fn put<O: Outlet>(
+        &self,
+        seat: &A::Seat,
+        reply: &Reply,
+        text: &mut Vec<u8>,
+        writer: &mut O,
+    ) -> Result<(), WriteFailed>
+        requires { A.is_settled seat.now }
+        ensures ok { OnOk result (Wrote O.write_gives writer.old (reply_line reply.now) writer.new) }
+        ensures err { OnErr result (WroteFront O.write_gives writer.old (reply_line reply.now) writer.new) }
+    {
+        spell(self.rt, reply, text);
+        put(writer, text)
+    }
+}
+
+/// Spells the line of a reply. It waits while memory is refused.
+pub(crate) fn spell<R: Wait + Clock>(rt: &R, reply: &Reply, text: &mut Vec<u8>)
+    ensures { text.new.items ≡ reply_line reply.now }
+{
+    for _ in rt.forever() {
+        text.clear();
+        if print_reply(reply, text).is_ok() {
+            return;
+        }
+        thread::sleep(rt, Duration::from_millis(PAUSE));
+    }
+    unreachable!()
+}

@@ -1,0 +1,8 @@
+-- The seats of each part are of the lock.
+use Rattle.ring_server.proofs.crowd.gather.Goals as goal
+
+pub guests-requires-clause-seats : goal.guests-requires-clause-seats
+guests-requires-clause-seats g c = c.in-Ok.ensures.ours _ c.requires.seats
+
+pub hosts-requires : goal.hosts-requires
+hosts-requires g c = c.in-Ok.ensures.theirs _ c.requires.seats

@@ -1,0 +1,93 @@
+//! Campaigns over sockets.
+ghost use Rattle.std.specs.Prelude.{◌≡◌, ◌⊎◌, ◌+◌, ◌≤◌, ◌↔◌, All, IfErr, IfOk, IsTrue, vec_capacity, vec_len};
+ghost use Rattle.ring_campaign.specs.Entries.{GainsCampaign};
+ghost use Rattle.ring_door.specs.declared.fault.ProgramFault.TheVariants.{NoMemory};
+ghost use Rattle.ring_turn.specs.Seats.{Settled};
+
+use crate::patient::Patient;
+use crate::sessions::{Front, Seat};
+use ring_any::Any;
+use ring_campaign::campaign;
+use ring_door::{ProgramFault, Serving};
+use ring_lines::{Intake, Outlet, ToWrite};
+use ring_table::{Table, Tabled};
+use std::alloc::Global;
+use std::net::TcpStream;
+use std::sync::Wait;
+use std::time::Clock;
+
+/// A seat of the table, for one campaign after another.
+#[derive(Drop)]
+pub struct Host<'a, T: Tabled<Any> + Drop = Table<Any>> {
+    alloc: Global,
+    front: &'a Front<T>,
+    seat: Seat<T>,
+    idle: u32,
+    ghost of_front: { seat.lock ≡ front.now.id },
+}
+
+/// A host for each seat, whose clients may be silent for `idle` seconds; for as long as they like at 0. Fails
+/// only if an allocation fails.
+pub fn hosts<T: Tabled<Any> + Drop>(
+    alloc: Global,
+    front: &Front<T>,
+    seats: Vec<Seat<T>>,
+    idle: u32,
+) -> Result<Vec<Host<'_, T>>, ProgramFault>
+    requires { All (λ seat. seat.lock ≡ front.now.id) seats.items }
+    ensures hosts { IfOk result (λ hosts. vec_len hosts ≡ vec_len seats) }
+    ensures fault { IfErr result (λ fault. fault ≡ NoMemory) }
+{
+    let mut rest = seats;
+    let Ok(mut hosts) = Vec::with_capacity(alloc, rest.len()) else {
+        return Err(ProgramFault::NoMemory);
+    };
+    while let Some(seat) = rest.pop() {
+        hosts.push_reserved(Host {
+            alloc,
+            front,
+            seat,
+            idle,
+        });
+    }
+    Ok(hosts)
+}
+
+impl<T: Tabled<Any> + Drop> Serving for Host<'_, T> {
+    fn is_spent(&self) -> bool
+        ensures { IsTrue result ↔ (self.now.seat.left ≡ 0) }
+    {
+        self.seat.is_spent()
+    }
+
+    fn serve<R: Wait + Clock>(&mut self, rt: &R, session: u32, stream: &TcpStream, _places: bool)
+        ensures gained { GainsCampaign session self.old.seat.mine self.new.seat.mine }
+        ensures told { (self.new.seat ≡ self.old.seat) ⊎ Settled self.new.seat }
+    {
+        let _ = stream.set_nodelay(true);
+        let Some(mut reader) = Patient::new(rt, stream, self.idle) else {
+            return;
+        };
+        let mut writer = ToWrite(stream);
+        let (alloc, front, seat) = (self.alloc, self.front, &mut self.seat);
+        run_campaign(rt, alloc, front, seat, session, &mut reader, &mut writer);
+    }
+}
+
+// One campaign by a seat.
+fn run_campaign<R: Wait + Clock, I: Intake, O: Outlet, T: Tabled<Any> + Drop>(
+    rt: &R,
+    alloc: Global,
+    front: &Front<T>,
+    seat: &mut Seat<T>,
+    session: u32,
+    reader: &mut I,
+    writer: &mut O,
+)
+    requires { seat.old.lock ≡ front.now.id }
+    ensures seat { seat.new.lock ≡ front.now.id }
+    ensures gained { GainsCampaign session seat.old.mine seat.new.mine }
+    ensures told { (seat.new ≡ seat.old) ⊎ Settled seat.new }
+{
+    campaign(rt, alloc, front, seat, session, reader, writer);
+}
