@@ -3,6 +3,7 @@ use Rattle.std.proofs.Common.{◌≡◌, ◌⊎◌, ℕ, Bool, true, false, List
 use Rattle.std.specs.List.{flat_map, list_any}
 use Rattle.std.proofs.lemmas.List.Concat.{flat_map-append}
 use Rattle.std.proofs.lemmas.List.Elements.{All-append, All-cons, All-nil}
+use Rattle.ring_id.specs.Identity.{number_of}
 use Rattle.ring_id.specs.declared.refusal.Refusal.{Refusal}
 use Rattle.ring_roster.specs.Ring.{has_number}
 use Rattle.ring_any.specs.Any.{any_greatest, any_two_way, any_winner}
@@ -18,7 +19,7 @@ use Rattle.ring_table.specs.Accesses.{HasStep}
 use Rattle.ring_table.specs.declared.entry.Entry.{Entry}
 use Rattle.ring_table.specs.declared.entry.Entry.TheVariants.{Call}
 use Rattle.ring_campaign.specs.Campaigns.{told_of}
-use Rattle.ring_campaign.specs.Entries.{FindNobody, HasLostLeader, HasNoTerm, IsQuestion, Looks}
+use Rattle.ring_campaign.specs.Entries.{FindNobody, HasNobody, IsQuestion, Looks}
 use Rattle.ring_campaign.specs.declared.candidate.Look.{Look}
 use Rattle.ring_campaign.specs.declared.candidate.Look.TheVariants as look
 use Rattle.ring_campaign.specs.declared.finding.Found.{Found}
@@ -91,22 +92,34 @@ module _ (session : ℕ) (group : List ℕ) (number : ℕ) where
 
   -- ---- whether there is a leader to follow
 
-  -- no term has begun: what a start becomes
-  pub finds_no_term : (mine mid now : List (Entry Any)) (result : Found) → mid ≡ mine ++ Call session (Terms group) (reply.Terms []) ∷ [] → Starts session group number mid result now → Finds session group number mine result now
-  finds_no_term mine mid now result asked starts = go result starts
+  -- what a start becomes, where the leaders that were asked for say that there is nobody to follow
+  finds_nobody : (mine mid now : List (Entry Any)) (result : Found) (told : Reply) → HasNobody session group number (Call session (Terms group) told ∷ [])
+      → mid ≡ mine ++ Call session (Terms group) told ∷ [] → Starts session group number mid result now → Finds session group number mine result now
+  finds_nobody mine mid now result told nobody asked starts = go result starts
     where
       behind : (answer : Reply) → now ≡ mid ++ Call session (Start group) answer ∷ [] → AddsStart session group number mine answer now
       behind answer gained = record {
-        asked = Call session (Terms group) (reply.Terms []) ∷ [];
-        gained = gained ∙ ap (λ (l : List (Entry Any)). l ++ Call session (Start group) answer ∷ []) asked ∙ append_assoc mine (Call session (Terms group) (reply.Terms []) ∷ []) (Call session (Start group) answer ∷ []);
-        nobody = (one_question (Call session (Terms group) (reply.Terms [])) (refl, refl), inl (record { earlier = []; whole = refl }));
+        asked = Call session (Terms group) told ∷ [];
+        gained = gained ∙ ap (λ (l : List (Entry Any)). l ++ Call session (Start group) answer ∷ []) asked ∙ append_assoc mine (Call session (Terms group) told ∷ []) (Call session (Start group) answer ∷ []);
+        nobody = (one_question (Call session (Terms group) told) (refl, refl), nobody);
         silent = refl;
       }
 
       go : (f : Found) → Starts session group number mid f now → Finds session group number mine f now
-      go found.Unknown same = adds_terms mine now (reply.Terms []) (same ∙ asked)
+      go found.Unknown same = adds_terms mine now told (same ∙ asked)
       go found.Follows s = inr (s.0, behind s.0 s.1, s.2)
       go (found.Refused refusal) gained = behind (reply.Refused refusal) gained
+
+  -- no term has begun
+  pub finds_no_term : (mine mid now : List (Entry Any)) (result : Found) → mid ≡ mine ++ Call session (Terms group) (reply.Terms []) ∷ [] → Starts session group number mid result now → Finds session group number mine result now
+  finds_no_term mine mid now result asked starts = finds_nobody mine mid now result (reply.Terms []) (inl (record { earlier = []; whole = refl })) asked starts
+
+  -- the number itself leads the last term
+  pub finds_old_term : (mine mid now : List (Entry Any)) (result : Found) (leaders : List (Option ℕ)) (leader : ℕ) → number_of leader ≡ number
+      → mid ≡ mine ++ Call session (Terms group) (reply.Terms (leaders ++ Some leader ∷ [])) ∷ [] → Starts session group number mid result now → Finds session group number mine result now
+  finds_old_term mine mid now result leaders leader own asked starts =
+      finds_nobody mine mid now result (reply.Terms (leaders ++ Some leader ∷ []))
+      (inr (inr (record { earlier = []; leaders = leaders; leader = leader; whole = refl; own = own }))) asked starts
 
   -- what is known of a leader
   pub finds_leader : (mine mid now : List (Entry Any)) (result : Found) (leaders : List (Option ℕ)) (leader : ℕ) → mid ≡ mine ++ Call session (Terms group) (reply.Terms (leaders ++ Some leader ∷ [])) ∷ []
@@ -130,7 +143,7 @@ module _ (session : ℕ) (group : List ℕ) (number : ℕ) where
                 ∙ append_assoc mine (Call session (Terms group) terms ∷ []) (Call session (Members group) members ∷ Call session (Start group) answer ∷ []);
             nobody = (
               All-cons (IsQuestion session group number) (Call session (Terms group) terms) (Call session (Members group) members ∷ []) (refl, refl) (one_question (Call session (Members group) members) (refl, refl)),
-              inr (record { earlier = []; leaders = leaders; leader = leader; members = on.members; whole = refl; gone = on.gone }),
+              inr (inl (record { earlier = []; leaders = leaders; leader = leader; members = on.members; whole = refl; gone = on.gone })),
             );
             silent = refl;
           }
@@ -182,11 +195,12 @@ module _ (session : ℕ) (group : List ℕ) (number : ℕ) where
   more_nobody : (during asked : List (Entry Any)) → All (IsQuestion session group number) during → FindNobody session group number asked → FindNobody session group number (during ++ asked)
   more_nobody during asked all nobody = (All-append (IsQuestion session group number) during asked all nobody.0, go nobody.1)
     where
-      go : HasNoTerm session group number asked ⊎ HasLostLeader session group number asked → HasNoTerm session group number (during ++ asked) ⊎ HasLostLeader session group number (during ++ asked)
+      go : HasNobody session group number asked → HasNobody session group number (during ++ asked)
       go (inl none) =
           inl (record { earlier = during ++ none.earlier; whole = ap (λ (l : List (Entry Any)). during ++ l) none.whole ∙ sym (append_assoc during none.earlier (Call session (Terms group) (reply.Terms []) ∷ [])) })
-      go (inr lost) =
+      go (inr (inl lost)) =
           inr
+          (inl
           (record {
             earlier = during ++ lost.earlier;
             leaders = lost.leaders;
@@ -194,7 +208,17 @@ module _ (session : ℕ) (group : List ℕ) (number : ℕ) where
             members = lost.members;
             whole = ap (λ (l : List (Entry Any)). during ++ l) lost.whole ∙ sym (append_assoc during lost.earlier (Call session (Terms group) (reply.Terms (lost.leaders ++ Some lost.leader ∷ [])) ∷ Call session (Members group) (reply.Members lost.members) ∷ []));
             gone = lost.gone;
-          })
+          }))
+      go (inr (inr old)) =
+          inr
+          (inr
+          (record {
+            earlier = during ++ old.earlier;
+            leaders = old.leaders;
+            leader = old.leader;
+            whole = ap (λ (l : List (Entry Any)). during ++ l) old.whole ∙ sym (append_assoc during old.earlier (Call session (Terms group) (reply.Terms (old.leaders ++ Some old.leader ∷ [])) ∷ []));
+            own = old.own;
+          }))
 
   -- a start behind questions that found nobody
   start_behind : (during asked : List (Entry Any)) (answer : Reply) → FindNobody session group number asked → All (IsQuestion session group number) during → Looks session group number (during ++ (asked ++ Call session (Start group) answer ∷ []))
@@ -255,9 +279,14 @@ module _ (session : ℕ) (group : List ℕ) (number : ℕ) where
   looks_then old mid new mine between now (look.Last refusal) added gained silent at asks same = absurd asks
 
   -- nothing is known of a leader
-  pub looks_unknown : (mine between now : List (Entry Any)) (result : Look) → Finds session group number mine found.Unknown between → AddsWho session group number between result now → AddsLook session group number false mine result false now
-  looks_unknown mine between now result finds asks =
-      looks_then false false false mine between now result finds.added finds.gained finds.silent (λ during is. more_questions false during finds.added finds.questions is) asks refl
+  pub looks_unknown : (mine now : List (Entry Any)) → Finds session group number mine found.Unknown now → AddsLook session group number false mine look.Nothing false now
+  looks_unknown mine now finds = record {
+    added = finds.added;
+    gained = finds.gained;
+    at = λ during is. more_questions false during finds.added finds.questions is;
+    told = finds.silent;
+    is = tt;
+  }
 
   -- there is a leader to follow, or a term was started
   pub looks_followed : (mine between now : List (Entry Any)) (result : Look) → Finds session group number mine found.Follows between → AddsWho session group number between result now → AddsLook session group number false mine result true now

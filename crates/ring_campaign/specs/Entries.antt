@@ -40,9 +40,21 @@ module _ (session : ℕ) (group : List ℕ) (number : ℕ) where
     pub earlier : List (Entry Any)
     pub whole : asked ≡ earlier ++ Call session (Terms group) (reply.Terms []) ∷ []
 
+  -- The last answer says that this number leads the last term, in which another connection had it.
+  pub record HasOldTerm (asked : List (Entry Any)) : Type 0 where
+    pub earlier : List (Entry Any)
+    pub leaders : List (Option ℕ)
+    pub leader : ℕ
+    pub whole : asked ≡ earlier ++ Call session (Terms group) (reply.Terms (leaders ++ Some leader ∷ [])) ∷ []
+    pub own : number_of leader ≡ number
+
+  -- there is no leader to follow
+  abbrev pub HasNobody : List (Entry Any) → Type 0
+  HasNobody asked = HasNoTerm asked ⊎ HasLostLeader asked ⊎ HasOldTerm asked
+
   -- questions, the last of which say that there is no leader to follow
   abbrev pub FindNobody : List (Entry Any) → Type 0
-  FindNobody asked = All IsQuestion asked × (HasNoTerm asked ⊎ HasLostLeader asked)
+  FindNobody asked = All IsQuestion asked × HasNobody asked
 
   -- One start, behind questions that found nobody. Questions follow it.
   pub record StartsOnce (entries : List (Entry Any)) : Type 0 where

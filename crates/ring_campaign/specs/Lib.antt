@@ -1,3 +1,4 @@
 pub mod Campaigns
+pub mod Clearing
 pub mod Entries
 pub mod private

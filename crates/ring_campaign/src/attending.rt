@@ -31,14 +31,14 @@ impl<A: Access<Any> + Drop, R: Wait + Clock> Candidate<'_, A, R> {
         writer: &mut O,
         text: &mut Vec<u8>,
     )
-        requires { A.has_seat self.now.access.now seat.old }
-        ensures seat { A.has_seat self.now.access.now seat.new }
-        ensures attends { Attends I.read_gives O.write_gives self.now.session self.now.group self.now.number (A.mine seat.old) reader.old writer.old (A.mine seat.new) reader.new writer.new }
+        requires { A.has_seat self.now.caller.access.now seat.old }
+        ensures seat { A.has_seat self.now.caller.access.now seat.new }
+        ensures attends { Attends I.read_gives O.write_gives self.now.caller.session self.now.group self.now.number (A.mine seat.old) reader.old writer.old (A.mine seat.new) reader.new writer.new }
     {
         let mut last = Reply::Done;
         let mut follows = false;
         let mut bytes = [0; 4096];
-        for _ in self.rt.forever() {
+        for _ in self.caller.rt.forever() {
             match self.turn(seat, &mut follows, &mut last, text, writer) {
                 Turn::On => {}
                 Turn::Over | Turn::Failed => return,
@@ -59,9 +59,9 @@ impl<A: Access<Any> + Drop, R: Wait + Clock> Candidate<'_, A, R> {
         text: &mut Vec<u8>,
         writer: &mut O,
     ) -> Turn
-        requires { A.has_seat self.now.access.now seat.old }
-        ensures seat { A.has_seat self.now.access.now seat.new }
-        ensures turns { Turns O.write_gives self.now.session self.now.group self.now.number follows.old last.old (A.mine seat.old) writer.old result follows.new last.new (A.mine seat.new) writer.new }
+        requires { A.has_seat self.now.caller.access.now seat.old }
+        ensures seat { A.has_seat self.now.caller.access.now seat.new }
+        ensures turns { Turns O.write_gives self.now.caller.session self.now.group self.now.number follows.old last.old (A.mine seat.old) writer.old result follows.new last.new (A.mine seat.new) writer.new }
     {
         match self.look(seat, follows) {
             Look::Nothing => Turn::On,

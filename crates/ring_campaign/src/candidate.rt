@@ -1,6 +1,7 @@
 //! A candidate, and what it asks.
-ghost use Rattle.ring_campaign.specs.private.Looking.{AddsLook, AddsWho, Asks};
+ghost use Rattle.ring_campaign.specs.private.Looking.{AddsLook, AddsWho};
 
+use crate::caller::Caller;
 use crate::finding::Found;
 use ring_any::Any;
 use ring_events::{Command, Reply};
@@ -18,40 +19,28 @@ pub(crate) enum Look {
     Last(Refusal),
 }
 
-/// A member that campaigns, and the session that asks for it.
+/// A member that campaigns, and who gives commands for it.
 #[derive(Drop)]
 pub(crate) struct Candidate<'a, A: Drop, R> {
-    pub(crate) rt: &'a R,
-    pub(crate) access: &'a A,
-    pub(crate) session: u32,
+    pub(crate) caller: Caller<'a, A, R>,
     pub(crate) group: GroupName,
     pub(crate) number: NodeNo,
 }
 
 impl<A: Access<Any> + Drop, R: Wait> Candidate<'_, A, R> {
-    /// The reply to a command, if it is placed.
-    pub(crate) fn ask(&self, seat: &mut A::Seat, command: &Command<Any>) -> Option<Reply>
-        requires { A.has_seat self.now.access.now seat.old }
-        ensures seat { A.has_seat self.now.access.now seat.new }
-        ensures asks { Asks self.now.session command.now (A.mine seat.old) result (A.mine seat.new) }
-    {
-        match self.access.call(self.rt, seat, self.session, *command) {
-            Answer::Placed { reply, place: _ } => Some(reply),
-            Answer::Unplaced(_) => None,
-        }
-    }
-
-    /// Looks for a leader to follow, until one was found, and asks what the member knows of its leader.
+    /// Looks for a leader to follow until one was found. From then on it asks what the member knows of its
+    /// leader.
     pub(crate) fn look(&self, seat: &mut A::Seat, follows: &mut bool) -> Look
-        requires { A.has_seat self.now.access.now seat.old }
-        ensures seat { A.has_seat self.now.access.now seat.new }
-        ensures looks { AddsLook self.now.session self.now.group self.now.number follows.old (A.mine seat.old) result follows.new (A.mine seat.new) }
+        requires { A.has_seat self.now.caller.access.now seat.old }
+        ensures seat { A.has_seat self.now.caller.access.now seat.new }
+        ensures looks { AddsLook self.now.caller.session self.now.group self.now.number follows.old (A.mine seat.old) result follows.new (A.mine seat.new) }
     {
         if *follows {
             return self.look_up(seat);
         }
         match self.find(seat) {
-            Found::Unknown => self.look_up(seat),
+            // the last term may be one that its number leads and that began before its join
+            Found::Unknown => Look::Nothing,
             Found::Follows => {
                 *follows = true;
                 self.look_up(seat)
@@ -65,12 +54,17 @@ impl<A: Access<Any> + Drop, R: Wait> Candidate<'_, A, R> {
 
     // Asks what the member knows of its leader.
     fn look_up(&self, seat: &mut A::Seat) -> Look
-        requires { A.has_seat self.now.access.now seat.old }
-        ensures seat { A.has_seat self.now.access.now seat.new }
-        ensures asks { AddsWho self.now.session self.now.group self.now.number (A.mine seat.old) result (A.mine seat.new) }
+        requires { A.has_seat self.now.caller.access.now seat.old }
+        ensures seat { A.has_seat self.now.caller.access.now seat.new }
+        ensures asks { AddsWho self.now.caller.session self.now.group self.now.number (A.mine seat.old) result (A.mine seat.new) }
     {
         let who = Command::Who(self.group, self.number);
-        match self.access.call(self.rt, seat, self.session, who) {
+        let Caller {
+            rt,
+            access,
+            session,
+        } = self.caller;
+        match access.call(rt, seat, session, who) {
             Answer::Placed { reply, place: _ } => Look::Tell(reply),
             Answer::Unplaced(_) => Look::Nothing,
         }

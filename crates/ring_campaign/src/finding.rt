@@ -33,25 +33,25 @@ impl<A: Access<Any> + Drop, R: Wait> Candidate<'_, A, R> {
     /// Looks for a leader to follow. If there is none, a term is started. All is asked in one turn of the
     /// seat, if it has turns that do so.
     pub(crate) fn find(&self, seat: &mut A::Seat) -> Found
-        requires { A.has_seat self.now.access.now seat.old }
-        ensures seat { A.has_seat self.now.access.now seat.new }
-        ensures finds { Finds self.now.session self.now.group self.now.number (A.mine seat.old) result (A.mine seat.new) }
+        requires { A.has_seat self.now.caller.access.now seat.old }
+        ensures seat { A.has_seat self.now.caller.access.now seat.new }
+        ensures finds { Finds self.now.caller.session self.now.group self.now.number (A.mine seat.old) result (A.mine seat.new) }
     {
-        let queued = self.access.queue(self.rt);
-        self.access.keep(seat);
+        let queued = self.caller.access.queue(self.caller.rt);
+        self.caller.access.keep(seat);
         let found = self.find_now(seat);
-        self.access.rest(seat);
+        self.caller.access.rest(seat);
         drop(queued);
         found
     }
 
     // Looks for a leader to follow, and starts a term if there is none.
     fn find_now(&self, seat: &mut A::Seat) -> Found
-        requires { A.has_seat self.now.access.now seat.old }
-        ensures seat { A.has_seat self.now.access.now seat.new }
-        ensures finds { Finds self.now.session self.now.group self.now.number (A.mine seat.old) result (A.mine seat.new) }
+        requires { A.has_seat self.now.caller.access.now seat.old }
+        ensures seat { A.has_seat self.now.caller.access.now seat.new }
+        ensures finds { Finds self.now.caller.session self.now.group self.now.number (A.mine seat.old) result (A.mine seat.new) }
     {
-        let Some(terms) = self.ask(seat, &Command::Terms(self.group)) else {
+        let Some(terms) = self.caller.ask(seat, &Command::Terms(self.group)) else {
             return Found::Unknown;
         };
         let last = last_in(&terms);
@@ -59,17 +59,24 @@ impl<A: Access<Any> + Drop, R: Wait> Candidate<'_, A, R> {
         match last {
             Last::Unknown => Found::Unknown,
             Last::NoTerm => self.start(seat),
-            Last::Leader(leader) => self.find_leader(seat, leader),
+            Last::Leader(leader) => {
+                // That was another connection: no two of them are to lead one term.
+                if leader.number() == self.number {
+                    self.start(seat)
+                } else {
+                    self.find_leader(seat, leader)
+                }
+            }
         }
     }
 
     // Looks whether this leader is a member, and starts a term if it is none.
     fn find_leader(&self, seat: &mut A::Seat, leader: NodeId) -> Found
-        requires { A.has_seat self.now.access.now seat.old }
-        ensures seat { A.has_seat self.now.access.now seat.new }
-        ensures seeks { Seeks self.now.session self.now.group self.now.number leader (A.mine seat.old) result (A.mine seat.new) }
+        requires { A.has_seat self.now.caller.access.now seat.old }
+        ensures seat { A.has_seat self.now.caller.access.now seat.new }
+        ensures seeks { Seeks self.now.caller.session self.now.group self.now.number leader (A.mine seat.old) result (A.mine seat.new) }
     {
-        let Some(members) = self.ask(seat, &Command::Members(self.group)) else {
+        let Some(members) = self.caller.ask(seat, &Command::Members(self.group)) else {
             return Found::Unknown;
         };
         let there = member_in(leader, &members);
@@ -83,11 +90,11 @@ impl<A: Access<Any> + Drop, R: Wait> Candidate<'_, A, R> {
 
     // Starts a term.
     fn start(&self, seat: &mut A::Seat) -> Found
-        requires { A.has_seat self.now.access.now seat.old }
-        ensures seat { A.has_seat self.now.access.now seat.new }
-        ensures starts { Starts self.now.session self.now.group self.now.number (A.mine seat.old) result (A.mine seat.new) }
+        requires { A.has_seat self.now.caller.access.now seat.old }
+        ensures seat { A.has_seat self.now.caller.access.now seat.new }
+        ensures starts { Starts self.now.caller.session self.now.group self.now.number (A.mine seat.old) result (A.mine seat.new) }
     {
-        let Some(reply) = self.ask(seat, &Command::Start(self.group)) else {
+        let Some(reply) = self.caller.ask(seat, &Command::Start(self.group)) else {
             return Found::Unknown;
         };
         match reply {

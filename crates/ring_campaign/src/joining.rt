@@ -24,18 +24,18 @@ impl<A: Access<Any> + Drop, R: Wait + Clock> Candidate<'_, A, R> {
         writer: &mut O,
         text: &mut Vec<u8>,
     )
-        requires seat { A.has_seat self.now.access.now seat.old }
+        requires seat { A.has_seat self.now.caller.access.now seat.old }
         requires number { self.now.number ≡ number_of node }
-        ensures seat { A.has_seat self.now.access.now seat.new }
-        ensures joins { Joins I.read_gives O.write_gives self.now.session self.now.group node (A.mine seat.old) reader.old writer.old (A.mine seat.new) reader.new writer.new }
+        ensures seat { A.has_seat self.now.caller.access.now seat.new }
+        ensures joins { Joins I.read_gives O.write_gives self.now.caller.session self.now.group node (A.mine seat.old) reader.old writer.old (A.mine seat.new) reader.new writer.new }
         ensures settled { A.is_settled seat.new }
     {
         let command = Command::Join(self.group, node);
         let reply = self
             .access
-            .call(self.rt, seat, self.session, command)
+            .call(self.caller.rt, seat, self.caller.session, command)
             .into_reply();
-        self.access.settle(self.rt, seat);
+        self.caller.access.settle(self.caller.rt, seat);
         let put = self.put(seat, &reply, text, writer);
         if !is_done(&reply) {
             return;
@@ -52,12 +52,12 @@ impl<A: Access<Any> + Drop, R: Wait + Clock> Candidate<'_, A, R> {
 
     // Leaves, and has all entries kept.
     fn part(&self, seat: &mut A::Seat)
-        requires { A.has_seat self.now.access.now seat.old }
-        ensures seat { A.has_seat self.now.access.now seat.new }
-        ensures leaves { AddsLeave self.now.session self.now.group self.now.number (A.mine seat.old) (A.mine seat.new) }
+        requires { A.has_seat self.now.caller.access.now seat.old }
+        ensures seat { A.has_seat self.now.caller.access.now seat.new }
+        ensures leaves { AddsLeave self.now.caller.session self.now.group self.now.number (A.mine seat.old) (A.mine seat.new) }
         ensures settled { A.is_settled seat.new }
     {
         self.leave(seat);
-        self.access.settle(self.rt, seat);
+        self.caller.access.settle(self.caller.rt, seat);
     }
 }

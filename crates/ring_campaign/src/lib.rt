@@ -6,7 +6,9 @@
 #![tactic(auto)]
 
 mod attending;
+mod caller;
 mod candidate;
+mod clearing;
 mod finding;
 mod joining;
 mod leaving;
@@ -14,4 +16,5 @@ mod opening;
 mod replies;
 mod telling;
 
+pub use clearing::clear;
 pub use opening::campaign;

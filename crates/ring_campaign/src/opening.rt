@@ -7,6 +7,7 @@ ghost use Rattle.ring_campaign.specs.Campaigns.{Campaigns, no_line_yet};
 ghost use Rattle.ring_campaign.specs.Entries.{GainsCampaign};
 ghost use Rattle.ring_campaign.specs.private.Telling.{Asked, IsWish, Wishes};
 
+use crate::caller::Caller;
 use crate::candidate::Candidate;
 use crate::telling::spell;
 use ring_any::Any;
@@ -108,10 +109,13 @@ where
             let _ = put(writer, &text);
         }
         First::Join(wish) => {
-            let candidate = Candidate {
+            let caller = Caller {
                 rt,
                 access,
                 session,
+            };
+            let candidate = Candidate {
+                caller,
                 group: wish.group,
                 number: wish.node.number(),
             };

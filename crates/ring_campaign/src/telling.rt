@@ -29,9 +29,9 @@ impl<A: Access<Any> + Drop, R: Wait + Clock> Candidate<'_, A, R> {
         text: &mut Vec<u8>,
         writer: &mut O,
     ) -> Result<(), WriteFailed>
-        requires seat { A.has_seat self.now.access.now seat.old }
+        requires seat { A.has_seat self.now.caller.access.now seat.old }
         requires told { IsTold reply }
-        ensures seat { A.has_seat self.now.access.now seat.new }
+        ensures seat { A.has_seat self.now.caller.access.now seat.new }
         ensures entries { A.mine seat.new ≡ A.mine seat.old }
         ensures ok { OnOk result (Tells O.write_gives last.old writer.old (reply ∷ []) true last.new writer.new) }
         ensures err { OnErr result (Tells O.write_gives last.old writer.old (reply ∷ []) false last.new writer.new) }
@@ -40,7 +40,7 @@ impl<A: Access<Any> + Drop, R: Wait + Clock> Candidate<'_, A, R> {
             drop(reply);
             return Ok(());
         }
-        self.access.settle(self.rt, seat);
+        self.caller.access.settle(self.caller.rt, seat);
         let put = self.put(seat, &reply, text, writer);
         *last = reply;
         put
@@ -58,7 +58,7 @@ impl<A: Access<Any> + Drop, R: Wait + Clock> Candidate<'_, A, R> {
         ensures ok { OnOk result (Wrote O.write_gives writer.old (reply_line reply.now) writer.new) }
         ensures err { OnErr result (WroteFront O.write_gives writer.old (reply_line reply.now) writer.new) }
     {
-        spell(self.rt, reply, text);
+        spell(self.caller.rt, reply, text);
         put(writer, text)
     }
 }

@@ -29,6 +29,9 @@ use std::time::Clock;
 /// Makes the service over a table that was recovered, begins its running terms again, says that it
 /// listens, and serves clients as `run_loop` does, until the process is ended or the journal fails.
 ///
+/// If there is a listener for campaigns, all members of the life before are taken out first, since none of
+/// their connections is left.
+///
 /// If the journal fails, no reply goes out any more, and the fault is returned at once. The threads are
 /// not joined then, and end with the process. If the service could not begin, the fault is that of
 /// `run_loop`.

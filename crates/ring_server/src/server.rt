@@ -1,5 +1,7 @@
 //! What the thread that serves has, and what it does.
 ghost use Rattle.std.specs.Prelude.{◌≡◌, ◌≤◌, ◌+◌, ◌^◌, All, IfErr, IfOk};
+ghost use Rattle.ring_campaign.specs.Clearing.{Clears};
+ghost use Rattle.ring_turn.specs.Seats.{Settled};
 ghost use Rattle.ring_server.specs.Faults.{IsOfStart};
 
 use crate::crowd::{gather, seats_for};
@@ -7,6 +9,7 @@ use crate::handshake::Handshake;
 use crate::sessions;
 use crate::sessions::{Front, Seat, Service};
 use ring_any::Any;
+use ring_campaign::clear;
 use ring_config::Config;
 use ring_door::{Limits, ProgramFault};
 use ring_node::Charter;
@@ -57,7 +60,8 @@ where
             handshake,
             bell,
         } = self;
-        let seats = seats_for(limits.sessions, campaigns.is_some());
+        // one more than serve, by which the members of an earlier life leave
+        let seats = seats_for(limits.sessions, campaigns.is_some()).saturating_add(1);
         let served = match open(rt, &config, seats, table, charters) {
             Ok((service, seats)) => {
                 let front = sessions::front(&service);
@@ -124,6 +128,8 @@ where
     requires base { base + T.most ≤ 2 ^ 64 }
     ensures fault { IfErr result IsOfStart }
 {
+    let mut seats = seats;
+    let own = seats.pop();
     let crowd = gather(
         rt.alloc(),
         front,
@@ -135,5 +141,26 @@ where
     if !handshake.open(rt) {
         return Ok(());
     }
+    if campaigns.is_some()
+        && let Some(seat) = own
+    {
+        drop(clear_by(rt, front, seat));
+    }
     crowd.serve(rt, listener, campaigns, limits)
+}
+
+// Takes out the members of an earlier life, for the service itself, which is session 0. Returns the seat by
+// which it was done.
+fn clear_by<R: Wait + Clock, T: Tabled<Any> + Drop>(
+    rt: &R,
+    front: &Front<T>,
+    seat: Seat<T>,
+) -> Seat<T>
+    requires { seat.lock ≡ front.now.id }
+    ensures clears { Clears 0 seat.mine result.mine }
+    ensures settled { Settled result }
+{
+    let mut seat = seat;
+    clear(rt, front, &mut seat, 0);
+    seat
 }

@@ -6,7 +6,7 @@ pub returns-then-follows-clause-looks : goal.returns-then-follows-clause-looks
 returns-then-follows-clause-looks g c = looks_up _ _ _ _ _ _ _ c.look_up.ensures.asks
 
 pub returns-in-Unknown-clause-looks : goal.returns-in-Unknown-clause-looks
-returns-in-Unknown-clause-looks g c = rw c.if-follows.false (looks_unknown _ _ _ _ _ _ _ c.in-Unknown.ensures.finds c.look_up-in-Unknown.ensures.asks)
+returns-in-Unknown-clause-looks g c = rw c.if-follows.false (looks_unknown _ _ _ _ _ c.in-Unknown.ensures.finds)
 
 pub returns-in-Follows-clause-looks : goal.returns-in-Follows-clause-looks
 returns-in-Follows-clause-looks g c = rw c.if-follows.false (looks_followed _ _ _ _ _ _ _ c.in-Follows.ensures.finds c.look_up-in-Follows.ensures.asks)

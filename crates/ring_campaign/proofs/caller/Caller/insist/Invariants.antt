@@ -1,5 +1,5 @@
 use Rattle.std.proofs.Common.{◌≡◌}
-use Rattle.ring_campaign.proofs.candidate.Candidate.insist.Given as goal
+use Rattle.ring_campaign.proofs.caller.Caller.insist.Given as goal
 
 -- a command that was not placed changes nothing
 abbrev pub invariant-loop : goal.invariant-loop
