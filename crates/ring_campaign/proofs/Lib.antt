@@ -1,3 +1,3 @@
-pub mod Clearing
+pub mod Cleared
 pub mod Looking
 pub mod Told

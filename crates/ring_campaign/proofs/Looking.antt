@@ -1,5 +1,5 @@
 -- What a candidate's questions add up to.
-use Rattle.std.proofs.Common.{◌≡◌, ◌⊎◌, ℕ, Bool, true, false, List, [], ◌∷◌, ◌++◌, Option, Some, All, refl, ap, sym, ◌∙◌, subst, append_assoc, append-nil, inl, inr}
+use Rattle.std.proofs.Common.{◌≡◌, ℕ, Bool, true, false, List, [], ◌∷◌, ◌++◌, Option, Some, All, refl, ap, sym, ◌∙◌, subst, append_assoc, append-nil, inl, inr}
 use Rattle.std.specs.List.{flat_map, list_any}
 use Rattle.std.proofs.lemmas.List.Concat.{flat_map-append}
 use Rattle.std.proofs.lemmas.List.Elements.{All-append, All-cons, All-nil}
@@ -19,12 +19,12 @@ use Rattle.ring_table.specs.Accesses.{HasStep}
 use Rattle.ring_table.specs.declared.entry.Entry.{Entry}
 use Rattle.ring_table.specs.declared.entry.Entry.TheVariants.{Call}
 use Rattle.ring_campaign.specs.Campaigns.{told_of}
-use Rattle.ring_campaign.specs.Entries.{FindNobody, HasNobody, IsQuestion, Looks}
+use Rattle.ring_campaign.specs.Entries.{FindNobody, HasLeader, HasNobody, IsQuestion, IsQuiet}
 use Rattle.ring_campaign.specs.declared.candidate.Look.{Look}
 use Rattle.ring_campaign.specs.declared.candidate.Look.TheVariants as look
 use Rattle.ring_campaign.specs.declared.finding.Found.{Found}
 use Rattle.ring_campaign.specs.declared.finding.Found.TheVariants as found
-use Rattle.ring_campaign.specs.private.Looking.{AddsLook, AddsQuestions, AddsStart, AddsWho, Finds, IsAt, IsTold, Seeks, SeeksOn, Starts}
+use Rattle.ring_campaign.specs.private.Looking.{AddsLeader, AddsLook, AddsMembers, AddsQuestions, AddsStart, AddsWho, Finds, IsAt, IsTold, Seeks, SeeksOn, Starts}
 
 -- ---- what `who` answers
 
@@ -56,19 +56,19 @@ module _ (session : ℕ) (group : List ℕ) (number : ℕ) where
   -- ---- one question after another
 
   -- one question
-  one_question : (entry : Entry Any) → IsQuestion session group number entry → All (IsQuestion session group number) (entry ∷ [])
-  one_question entry is = All-cons (IsQuestion session group number) entry [] is (All-nil (IsQuestion session group number))
+  one_quiet : (entry : Entry Any) → IsQuiet session group number entry → All (IsQuiet session group number) (entry ∷ [])
+  one_quiet entry is = All-cons (IsQuiet session group number) entry [] is (All-nil (IsQuiet session group number))
 
   -- none was added
   pub adds_none : (mine now : List (Entry Any)) → now ≡ mine → AddsQuestions session group number mine now
-  adds_none mine now same = record { added = []; gained = same ∙ sym (append-nil mine); questions = All-nil (IsQuestion session group number); silent = refl }
+  adds_none mine now same = record { added = []; gained = same ∙ sym (append-nil mine); quiet = All-nil (IsQuiet session group number); silent = refl }
 
   -- the leaders were asked for
   pub adds_terms : (mine now : List (Entry Any)) (answer : Reply) → now ≡ mine ++ Call session (Terms group) answer ∷ [] → AddsQuestions session group number mine now
   adds_terms mine now answer gained = record {
     added = Call session (Terms group) answer ∷ [];
     gained = gained;
-    questions = one_question (Call session (Terms group) answer) (refl, refl);
+    quiet = one_quiet (Call session (Terms group) answer) (refl, refl);
     silent = refl;
   }
 
@@ -77,16 +77,20 @@ module _ (session : ℕ) (group : List ℕ) (number : ℕ) where
   adds_members mine now answer gained = record {
     added = Call session (Members group) answer ∷ [];
     gained = gained;
-    questions = one_question (Call session (Members group) answer) (refl, refl);
+    quiet = one_quiet (Call session (Members group) answer) (refl, refl);
     silent = refl;
   }
+
+  -- both were
+  both_quiet : (terms members : Reply) → All (IsQuiet session group number) (Call session (Terms group) terms ∷ Call session (Members group) members ∷ [])
+  both_quiet terms members = All-cons (IsQuiet session group number) (Call session (Terms group) terms) (Call session (Members group) members ∷ []) (refl, refl) (one_quiet (Call session (Members group) members) (refl, refl))
 
   -- questions and then others
   pub adds_more : (mine mid now : List (Entry Any)) → AddsQuestions session group number mine mid → AddsQuestions session group number mid now → AddsQuestions session group number mine now
   adds_more mine mid now a b = record {
     added = a.added ++ b.added;
     gained = b.gained ∙ ap (λ (l : List (Entry Any)). l ++ b.added) a.gained ∙ append_assoc mine a.added b.added;
-    questions = All-append (IsQuestion session group number) a.added b.added a.questions b.questions;
+    quiet = All-append (IsQuiet session group number) a.added b.added a.quiet b.quiet;
     silent = flat_map-append told_of a.added b.added ∙ rw (a.silent, b.silent) refl;
   }
 
@@ -101,7 +105,7 @@ module _ (session : ℕ) (group : List ℕ) (number : ℕ) where
       behind answer gained = record {
         asked = Call session (Terms group) told ∷ [];
         gained = gained ∙ ap (λ (l : List (Entry Any)). l ++ Call session (Start group) answer ∷ []) asked ∙ append_assoc mine (Call session (Terms group) told ∷ []) (Call session (Start group) answer ∷ []);
-        nobody = (one_question (Call session (Terms group) told) (refl, refl), nobody);
+        nobody = (one_quiet (Call session (Terms group) told) (refl, refl), nobody);
         silent = refl;
       }
 
@@ -121,10 +125,11 @@ module _ (session : ℕ) (group : List ℕ) (number : ℕ) where
       finds_nobody mine mid now result (reply.Terms (leaders ++ Some leader ∷ []))
       (inr (inr (record { earlier = []; leaders = leaders; leader = leader; whole = refl; own = own }))) asked starts
 
-  -- what is known of a leader
-  pub finds_leader : (mine mid now : List (Entry Any)) (result : Found) (leaders : List (Option ℕ)) (leader : ℕ) → mid ≡ mine ++ Call session (Terms group) (reply.Terms (leaders ++ Some leader ∷ [])) ∷ []
-      → Seeks session group number leader mid result now → Finds session group number mine result now
-  finds_leader mine mid now result leaders leader asked seeks = go result seeks
+  -- what is known of another leader
+  pub finds_leader : (mine mid now : List (Entry Any)) (result : Found) (leaders : List (Option ℕ)) (leader : ℕ) → (number_of leader ≡ number → ⊥)
+      → mid ≡ mine ++ Call session (Terms group) (reply.Terms (leaders ++ Some leader ∷ [])) ∷ [] → Seeks session group number leader mid result now → Finds session group number mine result now
+  unfolding adds_more adds_terms adds_members
+  finds_leader mine mid now result leaders leader other asked seeks = go result seeks
     where
       terms : Reply
       terms = reply.Terms (leaders ++ Some leader ∷ [])
@@ -132,25 +137,36 @@ module _ (session : ℕ) (group : List ℕ) (number : ℕ) where
       both : AddsQuestions session group number mid now → AddsQuestions session group number mine now
       both later = adds_more mine mid now (adds_terms mine mid terms asked) later
 
+      has : (there : Bool) (members : List ℕ) → list_any (has_number leader) members ≡ there
+          → HasLeader session group number there (Call session (Terms group) terms ∷ Call session (Members group) (reply.Members members) ∷ [])
+      has there members is = record { earlier = []; leaders = leaders; leader = leader; members = members; whole = refl; is = is; other = other }
+
+      follows : AddsMembers session group number leader true mid now → AddsLeader session group number mine now
+      follows there = record {
+        asked = both (adds_members mid now (reply.Members there.members) there.gained);
+        leader = has true there.members there.is;
+      }
+
       behind : (answer : Reply) → SeeksOn session group number leader mid answer now → AddsStart session group number mine answer now
       behind answer on =
-          let members : Reply = reply.Members on.members in
+          let members : Reply = reply.Members on.asked.members in
+          let start : List (Entry Any) = Call session (Start group) answer ∷ [] in
+          let one : List (Entry Any) = Call session (Terms group) terms ∷ [] in
+          let two : List (Entry Any) = Call session (Members group) members ∷ [] in
           record {
             asked = Call session (Terms group) terms ∷ Call session (Members group) members ∷ [];
             gained =
                 on.gained
-                ∙ ap (λ (l : List (Entry Any)). l ++ Call session (Members group) members ∷ Call session (Start group) answer ∷ []) asked
-                ∙ append_assoc mine (Call session (Terms group) terms ∷ []) (Call session (Members group) members ∷ Call session (Start group) answer ∷ []);
-            nobody = (
-              All-cons (IsQuestion session group number) (Call session (Terms group) terms) (Call session (Members group) members ∷ []) (refl, refl) (one_question (Call session (Members group) members) (refl, refl)),
-              inr (inl (record { earlier = []; leaders = leaders; leader = leader; members = on.members; whole = refl; gone = on.gone })),
-            );
+                ∙ ap (λ (l : List (Entry Any)). l ++ start) (on.asked.gained ∙ ap (λ (l : List (Entry Any)). l ++ two) asked)
+                ∙ append_assoc (mine ++ one) two start
+                ∙ append_assoc mine one (two ++ start);
+            nobody = (both_quiet terms members, inr (inl (has false on.asked.members on.asked.is)));
             silent = refl;
           }
 
       go : (f : Found) → Seeks session group number leader mid f now → Finds session group number mine f now
       go found.Unknown later = both later
-      go found.Follows (inl later) = inl (both later)
+      go found.Follows (inl there) = inl (follows there)
       go found.Follows (inr s) = inr (s.0, behind s.0 s.1, s.2)
       go (found.Refused refusal) on = behind (reply.Refused refusal) on
 
@@ -160,14 +176,7 @@ module _ (session : ℕ) (group : List ℕ) (number : ℕ) where
   seeks_start mine mid now result leader members gone asked starts = go result starts
     where
       behind : (answer : Reply) → now ≡ mid ++ Call session (Start group) answer ∷ [] → SeeksOn session group number leader mine answer now
-      behind answer gained = record {
-        members = members;
-        gone = gone;
-        gained =
-            gained
-            ∙ ap (λ (l : List (Entry Any)). l ++ Call session (Start group) answer ∷ []) asked
-            ∙ append_assoc mine (Call session (Members group) (reply.Members members) ∷ []) (Call session (Start group) answer ∷ []);
-      }
+      behind answer gained = record { between = mid; asked = record { members = members; is = gone; gained = asked }; gained = gained }
 
       go : (f : Found) → Starts session group number mid f now → Seeks session group number leader mine f now
       go found.Unknown same = adds_members mine now (reply.Members members) (same ∙ asked)
@@ -176,11 +185,27 @@ module _ (session : ℕ) (group : List ℕ) (number : ℕ) where
 
   -- ---- looks
 
-  -- questions behind those since the join
-  more_questions : (at : Bool) (during added : List (Entry Any)) → All (IsQuestion session group number) added → IsAt session group number at during → IsAt session group number at (during ++ added)
-  more_questions false during added more all = All-append (IsQuestion session group number) during added all more
-  more_questions true during added more (inl all) = inl (All-append (IsQuestion session group number) during added all more)
-  more_questions true during added more (inr once) =
+  -- questions of which nothing is told, behind others
+  more_quiet : (during added : List (Entry Any)) → All (IsQuiet session group number) added → All (IsQuiet session group number) during → All (IsQuiet session group number) (during ++ added)
+  more_quiet during added more all = All-append (IsQuiet session group number) during added all more
+
+  -- the member's own question
+  one_question : (answer : Reply) → All (IsQuestion session group number) (Call session (Who group number) answer ∷ [])
+  one_question answer = All-cons (IsQuestion session group number) (Call session (Who group number) answer) [] (refl, refl, refl) (All-nil (IsQuestion session group number))
+
+  -- questions behind those that found a leader, or behind a start
+  more_questions : (during added : List (Entry Any)) → All (IsQuestion session group number) added → IsAt session group number true during → IsAt session group number true (during ++ added)
+  more_questions during added more (inl follows) =
+      inl
+      (record {
+        asked = follows.asked;
+        later = follows.later ++ added;
+        whole = ap (λ (l : List (Entry Any)). l ++ added) follows.whole ∙ append_assoc follows.asked follows.later added;
+        quiet = follows.quiet;
+        leader = follows.leader;
+        questions = All-append (IsQuestion session group number) follows.later added follows.questions more;
+      })
+  more_questions during added more (inr once) =
       inr
       (record {
         asked = once.asked;
@@ -191,37 +216,36 @@ module _ (session : ℕ) (group : List ℕ) (number : ℕ) where
         questions = All-append (IsQuestion session group number) once.later added once.questions more;
       })
 
-  -- questions that found nobody, behind others
-  more_nobody : (during asked : List (Entry Any)) → All (IsQuestion session group number) during → FindNobody session group number asked → FindNobody session group number (during ++ asked)
-  more_nobody during asked all nobody = (All-append (IsQuestion session group number) during asked all nobody.0, go nobody.1)
-    where
-      go : HasNobody session group number asked → HasNobody session group number (during ++ asked)
-      go (inl none) =
-          inl (record { earlier = during ++ none.earlier; whole = ap (λ (l : List (Entry Any)). during ++ l) none.whole ∙ sym (append_assoc during none.earlier (Call session (Terms group) (reply.Terms []) ∷ [])) })
-      go (inr (inl lost)) =
-          inr
-          (inl
-          (record {
-            earlier = during ++ lost.earlier;
-            leaders = lost.leaders;
-            leader = lost.leader;
-            members = lost.members;
-            whole = ap (λ (l : List (Entry Any)). during ++ l) lost.whole ∙ sym (append_assoc during lost.earlier (Call session (Terms group) (reply.Terms (lost.leaders ++ Some lost.leader ∷ [])) ∷ Call session (Members group) (reply.Members lost.members) ∷ []));
-            gone = lost.gone;
-          }))
-      go (inr (inr old)) =
-          inr
-          (inr
-          (record {
-            earlier = during ++ old.earlier;
-            leaders = old.leaders;
-            leader = old.leader;
-            whole = ap (λ (l : List (Entry Any)). during ++ l) old.whole ∙ sym (append_assoc during old.earlier (Call session (Terms group) (reply.Terms (old.leaders ++ Some old.leader ∷ [])) ∷ []));
-            own = old.own;
-          }))
+  -- what was found of a leader, behind earlier questions
+  more_leader : (there : Bool) (during asked : List (Entry Any)) → HasLeader session group number there asked → HasLeader session group number there (during ++ asked)
+  more_leader there during asked has = record {
+    earlier = during ++ has.earlier;
+    leaders = has.leaders;
+    leader = has.leader;
+    members = has.members;
+    whole = ap (λ (l : List (Entry Any)). during ++ l) has.whole ∙ sym (append_assoc during has.earlier (Call session (Terms group) (reply.Terms (has.leaders ++ Some has.leader ∷ [])) ∷ Call session (Members group) (reply.Members has.members) ∷ []));
+    is = has.is;
+    other = has.other;
+  }
+
+  -- and that there is nobody to follow
+  more_nobody : (during asked : List (Entry Any)) → HasNobody session group number asked → HasNobody session group number (during ++ asked)
+  more_nobody during asked (inl none) =
+      inl (record { earlier = during ++ none.earlier; whole = ap (λ (l : List (Entry Any)). during ++ l) none.whole ∙ sym (append_assoc during none.earlier (Call session (Terms group) (reply.Terms []) ∷ [])) })
+  more_nobody during asked (inr (inl lost)) = inr (inl (more_leader false during asked lost))
+  more_nobody during asked (inr (inr old)) =
+      inr
+      (inr
+      (record {
+        earlier = during ++ old.earlier;
+        leaders = old.leaders;
+        leader = old.leader;
+        whole = ap (λ (l : List (Entry Any)). during ++ l) old.whole ∙ sym (append_assoc during old.earlier (Call session (Terms group) (reply.Terms (old.leaders ++ Some old.leader ∷ [])) ∷ []));
+        own = old.own;
+      }))
 
   -- a start behind questions that found nobody
-  start_behind : (during asked : List (Entry Any)) (answer : Reply) → FindNobody session group number asked → All (IsQuestion session group number) during → Looks session group number (during ++ (asked ++ Call session (Start group) answer ∷ []))
+  start_behind : (during asked : List (Entry Any)) (answer : Reply) → FindNobody session group number asked → All (IsQuiet session group number) during → IsAt session group number true (during ++ (asked ++ Call session (Start group) answer ∷ []))
   start_behind during asked answer nobody all =
       inr
       (record {
@@ -229,61 +253,63 @@ module _ (session : ℕ) (group : List ℕ) (number : ℕ) where
         answer = answer;
         later = [];
         whole = sym (append_assoc during asked (Call session (Start group) answer ∷ []));
-        nobody = more_nobody during asked all nobody;
+        nobody = (more_quiet during asked nobody.0 all, more_nobody during asked nobody.1);
         questions = All-nil (IsQuestion session group number);
       })
 
-  -- the member's own question, at any time
-  pub looks_up : (at : Bool) (mine now : List (Entry Any)) (result : Look) → AddsWho session group number mine result now → AddsLook session group number at mine result at now
-  looks_up at mine now look.Nothing same = record {
+  -- a leader to follow behind questions
+  leader_behind : (during asked : List (Entry Any)) → All (IsQuiet session group number) asked → HasLeader session group number true asked → All (IsQuiet session group number) during → IsAt session group number true (during ++ asked)
+  leader_behind during asked quiet leader all =
+      inl
+      (record {
+        asked = during ++ asked;
+        later = [];
+        whole = sym (append-nil (during ++ asked));
+        quiet = more_quiet during asked quiet all;
+        leader = more_leader true during asked leader;
+        questions = All-nil (IsQuestion session group number);
+      })
+
+  -- the member's own question, once there is a leader to follow or a term was started
+  pub looks_up : (mine now : List (Entry Any)) (result : Look) → AddsWho session group number mine result now → AddsLook session group number true mine result true now
+  looks_up mine now look.Nothing same = record {
     added = [];
     gained = same ∙ sym (append-nil mine);
-    at = λ during is. more_questions at during [] (All-nil (IsQuestion session group number)) is;
+    at = λ during is. more_questions during [] (All-nil (IsQuestion session group number)) is;
     told = refl;
     is = tt;
   }
-  looks_up at mine now (look.Tell answer) asks = record {
+  looks_up mine now (look.Tell answer) asks = record {
     added = Call session (Who group number) answer ∷ [];
     gained = asks.0;
-    at = λ during is. more_questions at during (Call session (Who group number) answer ∷ []) (one_question (Call session (Who group number) answer) (refl, refl, refl)) is;
+    at = λ during is. more_questions during (Call session (Who group number) answer ∷ []) (one_question answer) is;
     told = refl;
     is = asks.1;
   }
-  looks_up at mine now (look.Last refusal) asks = absurd asks
+  looks_up mine now (look.Last refusal) asks = absurd asks
 
-  -- one look after a step that tells nothing
-  looks_then : (old mid new : Bool) (mine between now : List (Entry Any)) (result : Look) (added : List (Entry Any)) → between ≡ mine ++ added → flat_map told_of added ≡ []
-      → ((during : List (Entry Any)) → IsAt session group number old during → IsAt session group number mid (during ++ added)) → AddsWho session group number between result now → mid ≡ new
-      → AddsLook session group number old mine result new now
-  looks_then old mid new mine between now look.Nothing added gained silent at asks same = record {
-    added = added;
-    gained = asks ∙ gained;
-    at = subst (λ (b : Bool). (during : List (Entry Any)) → IsAt session group number old during → IsAt session group number b (during ++ added)) same at;
-    told = silent;
-    is = tt;
-  }
-  looks_then old mid new mine between now (look.Tell answer) added gained silent at asks same =
+  -- the same behind a step that tells nothing
+  looks_then : (mine between now : List (Entry Any)) (result : Look) (added : List (Entry Any)) → between ≡ mine ++ added → flat_map told_of added ≡ []
+      → ((during : List (Entry Any)) → All (IsQuiet session group number) during → IsAt session group number true (during ++ added)) → AddsWho session group number between result now
+      → AddsLook session group number false mine result true now
+  looks_then mine between now look.Nothing added gained silent at asks = record { added = added; gained = asks ∙ gained; at = at; told = silent; is = tt }
+  looks_then mine between now (look.Tell answer) added gained silent at asks =
       let who : List (Entry Any) = Call session (Who group number) answer ∷ [] in
       record {
         added = added ++ who;
         gained = asks.0 ∙ ap (λ (l : List (Entry Any)). l ++ who) gained ∙ append_assoc mine added who;
-        at = subst
-            (λ (b : Bool). (during : List (Entry Any)) → IsAt session group number old during → IsAt session group number b (during ++ (added ++ who)))
-            same
-            (λ during is.
-            subst (IsAt session group number mid) (append_assoc during added who)
-            (more_questions mid (during ++ added) who (one_question (Call session (Who group number) answer) (refl, refl, refl)) (at during is)));
+        at = λ during is. subst (IsAt session group number true) (append_assoc during added who) (more_questions (during ++ added) who (one_question answer) (at during is));
         told = flat_map-append told_of added who ∙ rw silent refl;
         is = asks.1;
       }
-  looks_then old mid new mine between now (look.Last refusal) added gained silent at asks same = absurd asks
+  looks_then mine between now (look.Last refusal) added gained silent at asks = absurd asks
 
   -- nothing is known of a leader
   pub looks_unknown : (mine now : List (Entry Any)) → Finds session group number mine found.Unknown now → AddsLook session group number false mine look.Nothing false now
   looks_unknown mine now finds = record {
     added = finds.added;
     gained = finds.gained;
-    at = λ during is. more_questions false during finds.added finds.questions is;
+    at = λ during is. more_quiet during finds.added finds.quiet is;
     told = finds.silent;
     is = tt;
   }
@@ -291,12 +317,12 @@ module _ (session : ℕ) (group : List ℕ) (number : ℕ) where
   -- there is a leader to follow, or a term was started
   pub looks_followed : (mine between now : List (Entry Any)) (result : Look) → Finds session group number mine found.Follows between → AddsWho session group number between result now → AddsLook session group number false mine result true now
   looks_followed mine between now result (inl finds) asks =
-      looks_then false true true mine between now result finds.added finds.gained finds.silent (λ during is. inl (more_questions false during finds.added finds.questions is)) asks refl
+      looks_then mine between now result finds.asked.added finds.asked.gained finds.asked.silent (λ during is. leader_behind during finds.asked.added finds.asked.quiet finds.leader is) asks
   looks_followed mine between now result (inr finds) asks =
       let start : List (Entry Any) = finds.1.asked ++ Call session (Start group) finds.0 ∷ [] in
-      looks_then false true true mine between now result start finds.1.gained
+      looks_then mine between now result start finds.1.gained
       (flat_map-append told_of finds.1.asked (Call session (Start group) finds.0 ∷ []) ∙ rw (finds.1.silent, finds.2) refl)
-      (λ during is. start_behind during finds.1.asked finds.0 finds.1.nobody is) asks refl
+      (λ during is. start_behind during finds.1.asked finds.0 finds.1.nobody is) asks
 
   -- a start was refused
   pub looks_refused : (mine now : List (Entry Any)) (refusal : Refusal) → Finds session group number mine (found.Refused refusal) now → AddsLook session group number false mine (look.Last refusal) true now

@@ -125,7 +125,7 @@ module _ {V : Type 0} (writing : V → Writing → V → Type 0) where
     -- before a term to follow was found, there are questions alone
     looks_at : (at : Bool) (during : List (Entry Any)) → IsAt session group number at during → Looks session group number during
     looks_at false during all = inl all
-    looks_at true during looks = looks
+    looks_at true during is = inr is
 
     module _ {S : Type 0} (reading : S → Reading → S → Type 0) (reader : S) where
       -- no read call may follow the last one

@@ -19,26 +19,28 @@ may_lead number (Undecided term) = true
 may_lead number _ = false
 
 module _ (session : ℕ) (group : List ℕ) (number : ℕ) where
-  -- a question about this group, or about this member
+  -- a question about this group, of whose answer nothing is told
+  abbrev pub IsQuiet : Entry Any → Type 0
+  IsQuiet (Call caller (Members name) answer) = (caller ≡ session) × (name ≡ group)
+  IsQuiet (Call caller (Terms name) answer) = (caller ≡ session) × (name ≡ group)
+  IsQuiet _ = ⊥
+
+  -- such a question, or one of who leads this member
   abbrev pub IsQuestion : Entry Any → Type 0
   IsQuestion (Call caller (Who name node) answer) = (caller ≡ session) × (name ≡ group) × (node ≡ number)
   IsQuestion (Call caller (Members name) answer) = (caller ≡ session) × (name ≡ group)
   IsQuestion (Call caller (Terms name) answer) = (caller ≡ session) × (name ≡ group)
   IsQuestion _ = ⊥
 
-  -- The last answers say that the leader of the last term is no member any more.
-  pub record HasLostLeader (asked : List (Entry Any)) : Type 0 where
+  -- The last answers say whether the leader of the last term is a member still.
+  pub record HasLeader (there : Bool) (asked : List (Entry Any)) : Type 0 where
     pub earlier : List (Entry Any)
     pub leaders : List (Option ℕ)
     pub leader : ℕ
     pub members : List ℕ
     pub whole : asked ≡ earlier ++ Call session (Terms group) (reply.Terms (leaders ++ Some leader ∷ [])) ∷ Call session (Members group) (reply.Members members) ∷ []
-    pub gone : list_any (has_number leader) members ≡ false
-
-  -- The last answer says that no term has begun.
-  pub record HasNoTerm (asked : List (Entry Any)) : Type 0 where
-    pub earlier : List (Entry Any)
-    pub whole : asked ≡ earlier ++ Call session (Terms group) (reply.Terms []) ∷ []
+    pub is : list_any (has_number leader) members ≡ there
+    pub other : number_of leader ≡ number → ⊥
 
   -- The last answer says that this number leads the last term, in which another connection had it.
   pub record HasOldTerm (asked : List (Entry Any)) : Type 0 where
@@ -48,13 +50,18 @@ module _ (session : ℕ) (group : List ℕ) (number : ℕ) where
     pub whole : asked ≡ earlier ++ Call session (Terms group) (reply.Terms (leaders ++ Some leader ∷ [])) ∷ []
     pub own : number_of leader ≡ number
 
+  -- The last answer says that no term has begun.
+  pub record HasNoTerm (asked : List (Entry Any)) : Type 0 where
+    pub earlier : List (Entry Any)
+    pub whole : asked ≡ earlier ++ Call session (Terms group) (reply.Terms []) ∷ []
+
   -- there is no leader to follow
   abbrev pub HasNobody : List (Entry Any) → Type 0
-  HasNobody asked = HasNoTerm asked ⊎ HasLostLeader asked ⊎ HasOldTerm asked
+  HasNobody asked = HasNoTerm asked ⊎ HasLeader false asked ⊎ HasOldTerm asked
 
   -- questions, the last of which say that there is no leader to follow
   abbrev pub FindNobody : List (Entry Any) → Type 0
-  FindNobody asked = All IsQuestion asked × HasNobody asked
+  FindNobody asked = All IsQuiet asked × HasNobody asked
 
   -- One start, behind questions that found nobody. Questions follow it.
   pub record StartsOnce (entries : List (Entry Any)) : Type 0 where
@@ -65,9 +72,19 @@ module _ (session : ℕ) (group : List ℕ) (number : ℕ) where
     pub nobody : FindNobody asked
     pub questions : All IsQuestion later
 
-  -- between the join and the leave: questions, and at most one start
+  -- No start, but questions that found another member which leads. Questions follow them.
+  pub record Follows (entries : List (Entry Any)) : Type 0 where
+    pub asked : List (Entry Any)
+    pub later : List (Entry Any)
+    pub whole : entries ≡ asked ++ later
+    pub quiet : All IsQuiet asked
+    pub leader : HasLeader true asked
+    pub questions : All IsQuestion later
+
+  -- Between the join and the leave: it is asked whether there is a leader to follow. Who leads this member is asked only
+  -- behind that, or behind a start.
   abbrev pub Looks : List (Entry Any) → Type 0
-  Looks entries = All IsQuestion entries ⊎ StartsOnce entries
+  Looks entries = All IsQuiet entries ⊎ Follows entries ⊎ StartsOnce entries
 
   -- a start exactly if there may be a leader to follow no more
   abbrev pub StartsIf : Bool → List (Entry Any) → Type 0

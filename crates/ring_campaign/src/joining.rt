@@ -32,6 +32,7 @@ impl<A: Access<Any> + Drop, R: Wait + Clock> Candidate<'_, A, R> {
     {
         let command = Command::Join(self.group, node);
         let reply = self
+            .caller
             .access
             .call(self.caller.rt, seat, self.caller.session, command)
             .into_reply();

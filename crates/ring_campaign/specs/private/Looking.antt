@@ -11,7 +11,7 @@ use Rattle.ring_events.specs.declared.reply.Reply.TheVariants as reply
 use Rattle.ring_table.specs.declared.entry.Entry.{Entry}
 use Rattle.ring_table.specs.declared.entry.Entry.TheVariants.{Call}
 use Rattle.ring_campaign.specs.Campaigns.{told_of}
-use Rattle.ring_campaign.specs.Entries.{FindNobody, IsQuestion, Looks}
+use Rattle.ring_campaign.specs.Entries.{FindNobody, Follows, HasLeader, IsQuiet, StartsOnce}
 use Rattle.ring_campaign.specs.declared.finding.Found.{Found}
 use Rattle.ring_campaign.specs.declared.finding.Found.TheVariants as found
 use Rattle.ring_campaign.specs.declared.finding.Last.{Last}
@@ -48,10 +48,15 @@ module _ (session : ℕ) (group : List ℕ) (number : ℕ) where
   pub record AddsQuestions (mine now : List (Entry Any)) : Type 0 where
     pub added : List (Entry Any)
     pub gained : now ≡ mine ++ added
-    pub questions : All (IsQuestion session group number) added
+    pub quiet : All (IsQuiet session group number) added
     pub silent : flat_map told_of added ≡ []
 
-  -- Questions that found nobody were added, and a start behind them.
+  -- Such questions found another member that leads.
+  pub record AddsLeader (mine now : List (Entry Any)) : Type 0 where
+    pub asked : AddsQuestions mine now
+    pub leader : HasLeader session group number true asked.added
+
+  -- Such questions found nobody, and a start is behind them.
   pub record AddsStart (mine : List (Entry Any)) (answer : Reply) (now : List (Entry Any)) : Type 0 where
     pub asked : List (Entry Any)
     pub gained : now ≡ mine ++ (asked ++ Call session (Start group) answer ∷ [])
@@ -61,19 +66,25 @@ module _ (session : ℕ) (group : List ℕ) (number : ℕ) where
   -- whether there is a leader to follow, or a term was started
   abbrev pub Finds : List (Entry Any) → Found → List (Entry Any) → Type 0
   Finds mine found.Unknown now = AddsQuestions mine now
-  Finds mine found.Follows now = AddsQuestions mine now ⊎ ((answer : Reply) × AddsStart mine answer now × (told_of (Call session (Start group) answer) ≡ []))
+  Finds mine found.Follows now = AddsLeader mine now ⊎ ((answer : Reply) × AddsStart mine answer now × (told_of (Call session (Start group) answer) ≡ []))
   Finds mine (found.Refused refusal) now = AddsStart mine (Refused refusal) now
+
+  -- The members were asked for, of which this leader is one or not.
+  pub record AddsMembers (leader : ℕ) (there : Bool) (mine now : List (Entry Any)) : Type 0 where
+    pub members : List ℕ
+    pub is : list_any (has_number leader) members ≡ there
+    pub gained : now ≡ mine ++ Call session (Members group) (reply.Members members) ∷ []
 
   -- This leader is no member any more, and a start was placed behind the question.
   pub record SeeksOn (leader : ℕ) (mine : List (Entry Any)) (answer : Reply) (now : List (Entry Any)) : Type 0 where
-    pub members : List ℕ
-    pub gone : list_any (has_number leader) members ≡ false
-    pub gained : now ≡ mine ++ Call session (Members group) (reply.Members members) ∷ Call session (Start group) answer ∷ []
+    pub between : List (Entry Any)
+    pub asked : AddsMembers leader false mine between
+    pub gained : now ≡ between ++ Call session (Start group) answer ∷ []
 
   -- whether this leader is a member, or a term was started
   abbrev pub Seeks : ℕ → List (Entry Any) → Found → List (Entry Any) → Type 0
   Seeks leader mine found.Unknown now = AddsQuestions mine now
-  Seeks leader mine found.Follows now = AddsQuestions mine now ⊎ ((answer : Reply) × SeeksOn leader mine answer now × (told_of (Call session (Start group) answer) ≡ []))
+  Seeks leader mine found.Follows now = AddsMembers leader true mine now ⊎ ((answer : Reply) × SeeksOn leader mine answer now × (told_of (Call session (Start group) answer) ≡ []))
   Seeks leader mine (found.Refused refusal) now = SeeksOn leader mine (Refused refusal) now
 
   -- a start, given the entries before it
@@ -84,8 +95,8 @@ module _ (session : ℕ) (group : List ℕ) (number : ℕ) where
 
   -- the entries since the join, before a term to follow was found and after that
   abbrev pub IsAt : Bool → List (Entry Any) → Type 0
-  IsAt false entries = All (IsQuestion session group number) entries
-  IsAt true entries = Looks session group number entries
+  IsAt false entries = All (IsQuiet session group number) entries
+  IsAt true entries = Follows session group number entries ⊎ StartsOnce session group number entries
 
   -- what is told after a look
   abbrev pub tells : Look → List Reply

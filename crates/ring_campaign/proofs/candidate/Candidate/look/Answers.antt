@@ -3,7 +3,7 @@ use Rattle.ring_campaign.proofs.Looking.{looks_followed, looks_refused, looks_un
 use Rattle.ring_campaign.proofs.candidate.Candidate.look.Goals as goal
 
 pub returns-then-follows-clause-looks : goal.returns-then-follows-clause-looks
-returns-then-follows-clause-looks g c = looks_up _ _ _ _ _ _ _ c.look_up.ensures.asks
+returns-then-follows-clause-looks g c = rw c.if-follows.true (looks_up _ _ _ _ _ _ c.look_up.ensures.asks)
 
 pub returns-in-Unknown-clause-looks : goal.returns-in-Unknown-clause-looks
 returns-in-Unknown-clause-looks g c = rw c.if-follows.false (looks_unknown _ _ _ _ _ c.in-Unknown.ensures.finds)
