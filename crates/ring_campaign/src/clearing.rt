@@ -1,7 +1,12 @@
 //! Members whose connections ended with an earlier life of the service.
 ghost use Rattle.std.specs.Prelude.{◌≡◌};
 ghost use Rattle.ring_campaign.specs.Clearing.{
-    Clears, ClearsGroup, ClearsGroups, LetsGo, groups_in, members_in
+  Clears,
+  ClearsGroup,
+  ClearsGroups,
+  LetsGo,
+  groups_in,
+  members_in,
 };
 ghost use Rattle.ring_campaign.specs.private.Clearing.{Adds};
 

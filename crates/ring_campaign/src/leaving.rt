@@ -17,10 +17,14 @@ impl<A: Access<Any> + Drop, R: Wait + Clock> Candidate<'_, A, R> {
         ensures seat { A.has_seat self.now.caller.access.now seat.new }
         ensures leaves { AddsLeave self.now.caller.session self.now.group self.now.number (A.mine seat.old) (A.mine seat.new) }
     {
-        let left = self.caller.insist(seat, &Command::Leave(self.group, self.number));
+        let left = self
+            .caller
+            .insist(seat, &Command::Leave(self.group, self.number));
         drop(left);
         // asked after the leave, so that no later term has this member in its ring
-        let told = self.caller.insist(seat, &Command::Who(self.group, self.number));
+        let told = self
+            .caller
+            .insist(seat, &Command::Who(self.group, self.number));
         if may_lead(self.number, &told) {
             let started = self.caller.insist(seat, &Command::Start(self.group));
             drop(started);

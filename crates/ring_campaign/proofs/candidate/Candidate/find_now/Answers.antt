@@ -9,7 +9,7 @@ pub returns-else-eq-clause-finds : goal.returns-else-eq-clause-finds
 returns-else-eq-clause-finds g c =
     let says = c.in-Leader.ensures in
     let other : number_of c.in-Leader.leader ≡ c.args.self.now.number → ⊥ =
-        λ own. true≢false (sym (eq-eqb _ _ (c.number.ensures.value ∙ own)) ∙ sym c.if-eq.ensures)
+    λ own. true≢false (sym (eq-eqb _ _ (c.number.ensures.value ∙ own)) ∙ sym c.if-eq.ensures)
     in
     finds_leader _ _ _ _ _ _ _ says.0 _ other (rw says.1 at c.in-Some.ensures.asks) c.find_leader.ensures.seeks
 
