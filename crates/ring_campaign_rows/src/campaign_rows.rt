@@ -71,3 +71,40 @@ fn a_leader_that_is_gone_is_not_followed(rt: HostRuntime) {
     assert!(rt; field.tells(&rt, rt.alloc(), b"join a 3\n", [0, 0], b"ok\nundecided 2\n"));
     assert!(rt; field.says(&rt, rt.alloc(), b"members a", b"members\n"));
 }
+
+#[test]
+fn nobody_leads_a_term_of_an_earlier_connection(rt: HostRuntime) {
+    let mut field = Field::new(&rt, rt.alloc(), &[b"create a chang", b"join a 5"]);
+    field.elect(&rt, rt.alloc());
+    assert!(rt; field.says(&rt, rt.alloc(), b"leave a 5", b"ok\n"));
+    assert!(rt; field.tells(&rt, rt.alloc(), b"join a 5\n", [0, 0], b"ok\nundecided 2\n"));
+    assert!(rt; field.says(&rt, rt.alloc(), b"members a", b"members\n"));
+}
+
+#[test]
+fn nothing_is_told_while_the_last_term_is_undecided(rt: HostRuntime) {
+    let lines: &[&[u8]] = &[b"create a chang", b"join a 5"];
+    let mut field = Field::new(&rt, rt.alloc(), lines);
+    assert!(rt; field.says(&rt, rt.alloc(), b"start a", b"term 1\n"));
+    assert!(rt; field.tells(&rt, rt.alloc(), b"join a 3\n\n", [0, 0], b"ok\n"));
+    assert!(rt; field.says(&rt, rt.alloc(), b"members a", b"members 5\n"));
+    assert!(rt; field.says(&rt, rt.alloc(), b"terms a", b"terms 1:-\n"));
+}
+
+#[test]
+fn all_members_are_taken_out_of_all_groups(rt: HostRuntime) {
+    let lines: &[&[u8]] = &[
+        b"create a chang",
+        b"join a 5",
+        b"join a 3/9",
+        b"create b lelann",
+        b"create c peterson",
+        b"join c 4",
+    ];
+    let mut field = Field::new(&rt, rt.alloc(), lines);
+    field.clear(&rt);
+    for group in [b"members a".as_slice(), b"members b", b"members c"] {
+        assert!(rt; field.says(&rt, rt.alloc(), group, b"members\n"));
+    }
+    assert!(rt; field.says(&rt, rt.alloc(), b"terms a", b"terms\n"));
+}

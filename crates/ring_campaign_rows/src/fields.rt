@@ -1,6 +1,6 @@
 //! A table that campaigns and a caller share, and what the rows ask of it.
 use ring_any::Any;
-use ring_campaign::campaign;
+use ring_campaign::{campaign, clear};
 use ring_id::{GroupName, NoMemory, Side};
 use ring_lines::{DripIn, DripOut, Spell, parse_command};
 use ring_node::{Charter, Node, Report, TakeFault};
@@ -102,6 +102,11 @@ impl Field {
         let is_told = out.taken() == told;
         drop(out);
         is_told
+    }
+
+    /// Takes all members out of all groups.
+    pub fn clear<R: Abort + Wait + Clock>(&mut self, rt: &R) {
+        clear(rt, &self.table, &mut self.seat, 0);
     }
 
     /// Starts a term of the group `a`, whose one member learns that it leads.
