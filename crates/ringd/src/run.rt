@@ -129,8 +129,7 @@ where
         (λ fault. (port : ℕ) × RanAt O.write_gives out.old (listening_line port) fault out.new) }
 {
     let config = load(rt, path)?;
-    let listener = listen(rt, config.port)?;
-    let campaigns = listen_if(rt, campaigns)?;
+    let (listener, campaigns) = listen_both(rt, config.port, campaigns)?;
     run_loop(rt, listener, campaigns, &config, limits, out)
 }
 
@@ -168,8 +167,7 @@ where
 {
     let config = load(rt, path)?;
     let resumed = journal::take_up(rt, file)?;
-    let listener = listen(rt, config.port)?;
-    let campaigns = listen_if(rt, campaigns)?;
+    let (listener, campaigns) = listen_both(rt, config.port, campaigns)?;
     resume_loop(rt, listener, campaigns, &config, limits, resumed, out)
 }
 
@@ -181,6 +179,19 @@ pub fn port_of(number: u32) -> Option<u16>
         return None;
     }
     Some(number as u16)
+}
+
+// Listens on a port, and on another one for campaigns, if there is one.
+fn listen_both<R: Net>(
+    rt: &R,
+    port: u16,
+    campaigns: Option<u16>,
+) -> Result<(R::Listener, Option<R::Listener>), ProgramFault>
+    ensures { IfErr result (λ fault. fault ≡ ProgramFault.Listen) }
+{
+    let listener = listen(rt, port)?;
+    let campaigns = listen_if(rt, campaigns)?;
+    Ok((listener, campaigns))
 }
 
 // Listens on a port, if there is one.
