@@ -59,7 +59,7 @@ fn new_gate<R: Copy>(rt: &R, alloc: Global) -> Option<Arc<LastItem<R>>> {
 // What a client is told that sends these lines to a guest.
 fn replies<R>(rt: &R, guest: &mut Guest<'_>, lines: &[u8]) -> io::Result<Vec<u8>>
 where
-    R: Wait + AllocGlobal + Net<Stream = TcpStream, Listener = TcpListener>,
+    R: Wait + Clock + AllocGlobal + Net<Stream = TcpStream, Listener = TcpListener>,
 {
     let (listener, address) = listener(rt)?;
     let mut client = client(rt, address, lines)?;
@@ -78,7 +78,7 @@ where
 // Whether a client is told this that sends these lines to a guest.
 fn is_told<R>(rt: &R, guest: &mut Guest<'_>, lines: &[u8], told: &[u8]) -> bool
 where
-    R: Wait + AllocGlobal + Net<Stream = TcpStream, Listener = TcpListener>,
+    R: Wait + Clock + AllocGlobal + Net<Stream = TcpStream, Listener = TcpListener>,
 {
     match replies(rt, guest, lines) {
         Ok(replies) => {
