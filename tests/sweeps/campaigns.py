@@ -5,11 +5,14 @@ leaders go, one after another and each in another way, until nobody is there. Be
 members and the terms. In the end the group has no members, and the program is there; or it ended before it served anybody,
 with its one line and status 1.
 
+With a journal, the program ends if it can't be synced. Then a restart has what any client was told.
+
 Some of the growths are those of worker threads, which leave a term without a leader. Then candidates must be told that this
 term is undecided, and be followed when they go.
 """
 
 from candidates import Gone, Group
+from journal import ENDED, FAILED
 from serving import serving
 from sweep import Bad, FAULTS, NO_MEMORY
 
@@ -21,6 +24,7 @@ HOWS = {"read": ("fail", "interrupt", "byte"), "write": ("fail", "interrupt", "b
         "setsockopt": ("fail",)}
 # The calls that each run makes the same number of, and before which one of the others the last run is made.
 CERTAIN, MOST = ("accept", "setsockopt"), 400
+SYNCS, MOST_SYNCS = ("fail", "exit", "done"), 40
 AGAIN = b"ringd: accept failed, trying again\n"
 UNTHREADED = b"ringd: thread failed\n"
 # What the program says if a call goes wrong before it listens.
@@ -69,6 +73,33 @@ def lacks_thread(library, program, number):
     if was_told != (True if number <= THREADS else None):
         raise Bad(f"campaigns, thread {number} is {'one' if was_told else 'none'} of the program's")
     return was_told
+
+
+def lacks_sync(library, program, number, how):
+    """One run with a journal in which that sync fails, or the process ends before or after it, and a restart: whether there
+    was such a sync, or `None`."""
+    kind = KINDS[number % len(KINDS)]
+    wrong = {"fdatasync": number, "how": how}
+    what = f"campaigns with a journal, {kind.decode()}, {wrong}"
+    with serving(library, program, WORDS, what, workers=WORKERS, journal=b"", campaigns=True, **wrong) as server:
+        group = Group(server, "fdatasync", how, kind)
+        try:
+            if not server.listens():
+                raise Gone
+            group.campaign(number)
+            expect_there(server, "fdatasync")
+            return None
+        except Gone:
+            group.hear_out()
+        status, out, error = server.ends()
+        wanted = (1, FAILED) if how == "fail" else (ENDED, b"")
+        if (status, error) != wanted or not server.listening().startswith(out) or not server.told():
+            raise Bad(f"status {status}, {out!r}, {error!r}")
+        server.start_anew()
+        if not server.listens():
+            raise Bad(f"a restart ends: {server.ends()}")
+        group.compare_restart()
+        return True
 
 
 def growths_before(library, program):

@@ -21,6 +21,8 @@ WAYS = ("close", "reset", "half")
 # How long a leader is waited for if a worker may have starved, and the end of a program that ends connections.
 STARVED, SOON = 0.15, 2
 LOOK = 0.02
+# The calls by which a connection may end, or a command be refused, if they fail.
+LETTING_GO = ("growth", "read", "write", "setsockopt")
 REFUSED, NO_TERM, NOT_IN_TERM = b"no no-memory", b"no no-term", b"no not-in-term"
 OF_TERM = rb"undecided [1-9][0-9]*|leader [1-9][0-9]* [1-9][0-9/]*"
 
@@ -39,14 +41,14 @@ class Candidate:
     """One client after another of the same number. `last` is the last line of the present one, and `term` its term."""
 
     def __init__(self, group, number):
-        self.group, self.number, self.name = group, number, NAMES[number]
-        self.client, self.last, self.term, self.came = None, None, 0, 0
+        self.group, self.name = group, NAMES[number]
+        self.client, self.last, self.term, self.came, self.has_joined = None, None, 0, 0, False
 
     def come(self):
         """Connects, and asks to be a member. The first term that it is told of is a later one than all before, if it was
         never a member."""
         self.client = self.group.connect(self.group.server.second)
-        self.last, self.term = None, self.group.newest - (1 if self.came else 0)
+        self.last, self.term, self.has_joined = None, self.group.newest - (1 if self.came else 0), False
         self.came += 1
         with contextlib.suppress(ConnectionError):
             self.client.socket.sendall(b"join a %s\n" % self.name)
@@ -81,6 +83,7 @@ class Candidate:
         if not is_right:
             raise Bad(f"{self.name!r} is told {line!r} after {before!r}; others know {self.group.leaders}")
         self.group.lines += 1
+        self.has_joined = line != REFUSED
         if line == REFUSED:
             self.group.fail(f"the join of {self.name!r} is refused memory")
 
@@ -112,6 +115,7 @@ class Candidate:
         elif way == "reset":
             client.socket.setsockopt(socket.SOL_SOCKET, socket.SO_LINGER, struct.pack("ii", 1, 0))
         client.socket.close()
+        self.has_joined = False
 
 
 class Group:
@@ -119,7 +123,7 @@ class Group:
 
     def __init__(self, server, call, how, kind):
         self.server, self.kind, self.leaders, self.newest = server, kind, {}, 0
-        self.may_fail, self.may_starve = how == "fail" and call != "accept", call == "growth"
+        self.may_fail, self.may_starve = how == "fail" and call in LETTING_GO, call == "growth"
         self.failed = self.lines = 0
         self.candidates, self.session = [Candidate(self, number) for number in NAMES], None
 
@@ -220,14 +224,20 @@ class Group:
         if not self.watch(self.is_settled):
             self.insist("a leader that has gone is not followed", self.is_led)
         self.compare_members()
-        self.compare_terms()
+        last = self.compare_terms()
+        self.insist(f"a member is not told of term {last}",
+                    lambda: all(it.term >= last for it in self.there() if it.knows()))
+
+    def members(self):
+        """The members, as the session has them."""
+        return self.ask(b"members a", rb"members( [1-9][0-9/]*)*").split(b" ")[1:]
 
     def compare_members(self):
         """Sees that exactly those that are there are members. Who has just gone may be one for a moment."""
         until = time.monotonic() + PATIENCE
         while True:
-            joined = [(it, it.client) for it in self.there() if it.last not in (None, REFUSED)]
-            listed = self.ask(b"members a", rb"members( [1-9][0-9/]*)*").split(b" ")[1:]
+            joined = [(it, it.client) for it in self.there() if it.has_joined]
+            listed = self.members()
             behind = set(listed) - {it.name for it in self.there()}
             if not behind:
                 break
@@ -238,17 +248,33 @@ class Group:
         self.insist("a client that is no member is kept", lambda: all(it.client is not client for it, client in lost))
 
     def compare_terms(self):
-        """Sees that the terms have the leaders that candidates were told, and that these were told of the last term."""
+        """Sees that the terms have the leaders that candidates were told. The answer is how many terms there were."""
         terms = self.ask(b"terms a", rb"terms( [1-9][0-9]*:(-|[1-9][0-9/]*))*").split(b" ")[1:]
         listed = dict(enumerate((term.split(b":")[1] for term in terms), 1))
-        for term, leader in self.leaders.items():
-            if listed.get(term) != leader:
-                raise Bad(f"{leader!r} was told to lead term {term}, and the terms are {terms}")
-        if not set(listed.values()) <= {b"-", *NAMES.values()}:
-            raise Bad(f"the terms are {terms}")
+        told = all(listed.get(term) == leader for term, leader in self.leaders.items())
+        if not told or len(terms) < self.newest or not set(listed.values()) <= {b"-", *NAMES.values()}:
+            raise Bad(f"{self.leaders} were told to lead, {self.newest} is the last term told, and the terms are {terms}")
         self.leaders.update((term, leader) for term, leader in listed.items() if leader != b"-")
-        self.insist(f"a member is not told of term {len(terms)}",
-                    lambda: all(it.term >= len(terms) for it in self.there() if it.knows()))
+        return len(terms)
+
+    def compare_restart(self):
+        """Sees that a restart has what candidates were told. Each that was let go by the end of the program is a member."""
+        self.session = None
+        if not self.lines:
+            return
+        listed = self.members()
+        joined = [it.name for it in self.candidates if it.has_joined]
+        if not set(joined) <= set(listed) <= set(NAMES.values()):
+            raise Bad(f"{joined} had joined, and a restart has the members {listed}")
+        self.compare_terms()
+
+    def hear_out(self):
+        """Reads what candidates were told before the program ended."""
+        for it in self.there():
+            while it.client.more():
+                pass
+            it.look_at_all(it.client)
+            it.client.socket.close()
 
     def campaign(self, first_way):
         """All that the clients do. The first leader goes in the way of this number, and each other one in the next."""
