@@ -19,9 +19,10 @@ from sweep import Bad, FAULTS, NO_MEMORY
 WORDS = ["run", "--sessions", "3", "--idle", "60"]
 WORKERS, THREADS = 2, 8
 KINDS = (b"chang", b"lelann", b"hirschberg", b"peterson")
-# The calls, and how each goes wrong.
-HOWS = {"read": ("fail", "interrupt", "byte"), "write": ("fail", "interrupt", "byte"), "accept": ("fail", "interrupt"),
-        "setsockopt": ("fail",)}
+# The calls, and how each goes wrong: a word, and how many in a row.
+MOVING = (("fail", 1), ("interrupt", 1), ("byte", 1))
+HOWS = {"read": MOVING, "write": MOVING, "accept": (("fail", 1), ("fail", 3), ("interrupt", 1)),
+        "setsockopt": (("fail", 1),)}
 # The calls that each run makes the same number of, and before which one of the others the last run is made.
 CERTAIN, MOST = ("accept", "setsockopt"), 400
 SYNCS, MOST_SYNCS = ("fail", "exit", "done"), 40
@@ -41,11 +42,12 @@ def expect_end(server, call, listens, lines):
         raise Bad(f"status {status}, {out!r}, {error!r}, and {lines} lines were told")
 
 
-def expect_there(server, call):
-    """The program is there, and said nothing but that an accept failed: once for each port at most."""
+def expect_there(server, call, how):
+    """The program is there, and said nothing but that accepts failed: once for each of its two ports at most."""
     was_there, out, error = server.is_ended_by_us()
-    told = server.told() if call == "accept" else 0
-    if not was_there or out != server.listening() or error not in [AGAIN * it for it in range(min(told, 2) + 1)]:
+    failed = min(server.told(), 2) if (call, how) == ("accept", "fail") else 0
+    said = [AGAIN * count for count in range(1, failed + 1)] or [b""]
+    if not was_there or out != server.listening() or error not in said:
         raise Bad(f"it ended, or said {out!r}, {error!r}")
 
 
@@ -61,7 +63,7 @@ def goes_wrong(library, program, call, number, how="fail", **more):
             if not listens:
                 raise Gone
             group.campaign(number)
-            expect_there(server, call)
+            expect_there(server, call, how)
         except Gone:
             expect_end(server, call, listens, group.lines)
         return True if server.told() else None
@@ -87,7 +89,7 @@ def lacks_sync(library, program, number, how):
             if not server.listens():
                 raise Gone
             group.campaign(number)
-            expect_there(server, "fdatasync")
+            expect_there(server, "fdatasync", how)
             return None
         except Gone:
             group.hear_out()

@@ -18,9 +18,8 @@ from sweep import Bad
 # The members by their numbers, as lines name them. The first comes alone.
 NAMES = {3: b"3", 1: b"1/9", 2: b"2"}
 WAYS = ("close", "reset", "half")
-# How long a leader is waited for if a worker may have starved, and the end of a program that ends connections.
-STARVED, SOON = 0.15, 2
-LOOK = 0.02
+# How long a leader is waited for if a worker may have starved, and how long lines are at a time.
+STARVED, LOOK = 0.15, 0.02
 # The calls by which a connection may end, or a command be refused, if they fail.
 LETTING_GO = ("growth", "read", "write", "setsockopt")
 REFUSED, NO_TERM, NOT_IN_TERM = b"no no-memory", b"no no-term", b"no not-in-term"
@@ -140,7 +139,7 @@ class Group:
         self.failed += 1
         if self.failed > self.wrong():
             try:
-                self.server.run.wait(timeout=SOON)
+                self.server.run.wait(timeout=PATIENCE)
             except subprocess.TimeoutExpired:
                 raise Bad(f"{what}: that is failure {self.failed}, and {self.wrong()} calls went wrong") from None
             raise Gone
