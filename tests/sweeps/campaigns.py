@@ -1,14 +1,14 @@
-"""Calls that go wrong in turn in `ringd run --campaign`: each client is told right lines, and who has gone is no member.
+"""Calls that go wrong in turn in `ringd run --campaign`: clients are told right lines, and who has gone is no member.
 
-A session on the first port makes a group. One client campaigns in it and leads; two others come at once and follow it. Then
-leaders go, one after another and each in another way, until nobody is there. Between two steps the session asks for the
-members and the terms. In the end the group has no members, and the program is there; or it ended before it served anybody,
-with its one line and status 1.
+A session on the first port makes a group. One client campaigns in it and leads; two others come at once and follow it.
+Then leaders go, one after another and each in another way, until nobody is there. Between two steps the session asks
+for the members and the terms. In the end the group has no members, and the program is there; or it ended before it
+served anybody, with its one line and status 1.
+
+Some of the growths are those of worker threads, which leave a term without a leader. Then candidates must be told that
+this term is undecided, and be followed when they go.
 
 With a journal, the program ends if it can't be synced. Then a restart has what any client was told.
-
-Some of the growths are those of worker threads, which leave a term without a leader. Then candidates must be told that this
-term is undecided, and be followed when they go.
 """
 
 from candidates import Gone, Group
@@ -78,8 +78,8 @@ def lacks_thread(library, program, number):
 
 
 def lacks_sync(library, program, number, how):
-    """One run with a journal in which that sync fails, or the process ends before or after it, and a restart: whether there
-    was such a sync, or `None`."""
+    """One run with a journal in which that sync fails, or the process ends before or after it, and a restart: whether
+    there was such a sync, or `None`."""
     kind = KINDS[number % len(KINDS)]
     wrong = {"fdatasync": number, "how": how}
     what = f"campaigns with a journal, {kind.decode()}, {wrong}"

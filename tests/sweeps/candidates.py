@@ -1,7 +1,7 @@
-"""Clients that campaign in one group of a running program, next to a session; whatever they are told is looked at.
+"""Clients that campaign in one group of a running program, and a session that asks who is a member.
 
-Each line is compared with the line before it, and with what others were told. The program may end a connection, or refuse a
-command for want of memory, no more often than calls went wrong in it. The client then comes again.
+Each line that a client is told is compared with the one before it, and with what others were told. The program may end a
+connection, or refuse memory to a command, no more often than calls went wrong in it. The client then comes again.
 """
 
 import contextlib
@@ -18,7 +18,7 @@ from sweep import Bad
 # The members by their numbers, as lines name them. The first comes alone.
 NAMES = {3: b"3", 1: b"1/9", 2: b"2"}
 WAYS = ("close", "reset", "half")
-# How long a leader is waited for if a worker may have starved, and how long lines are at a time.
+# How long a leader is waited for if a worker may have starved, and how long one look at all sockets takes at most.
 STARVED, LOOK = 0.15, 0.02
 # The calls by which a connection may end, or a command be refused, if they fail.
 LETTING_GO = ("growth", "read", "write", "setsockopt")
@@ -37,15 +37,16 @@ def rank(name):
 
 
 class Candidate:
-    """One client after another of the same number. `last` is the last line of the present one, and `term` its term."""
+    """A member, and one client after another that campaigns as it. `last` is the last line of the present client, and
+    `term` the newest term that it was told of."""
 
     def __init__(self, group, number):
         self.group, self.name = group, NAMES[number]
         self.client, self.last, self.term, self.came, self.has_joined = None, None, 0, 0, False
 
     def come(self):
-        """Connects, and asks to be a member. The first term that it is told of is a later one than all before, if it was
-        never a member."""
+        """Connects, and asks to join. If it never was a member, the first term that it is told of is newer than all
+        that others were told of."""
         self.client = self.group.connect(self.group.server.second)
         self.last, self.term, self.has_joined = None, self.group.newest - (1 if self.came else 0), False
         self.came += 1
@@ -53,7 +54,7 @@ class Candidate:
             self.client.socket.sendall(b"join a %s\n" % self.name)
 
     def take(self):
-        """Reads what there is. It comes again if the program ended the connection."""
+        """Reads what there is. If the program ended the connection, it comes again."""
         goes_on = self.client.more()
         self.look_at_all(self.client)
         if not goes_on:
@@ -252,12 +253,12 @@ class Group:
         listed = dict(enumerate((term.split(b":")[1] for term in terms), 1))
         told = all(listed.get(term) == leader for term, leader in self.leaders.items())
         if not told or len(terms) < self.newest or not set(listed.values()) <= {b"-", *NAMES.values()}:
-            raise Bad(f"{self.leaders} were told to lead, {self.newest} is the last term told, and the terms are {terms}")
+            raise Bad(f"the terms are {terms}; {self.leaders} were told to lead, and {self.newest} was the last")
         self.leaders.update((term, leader) for term, leader in listed.items() if leader != b"-")
         return len(terms)
 
     def compare_restart(self):
-        """Sees that a restart has what candidates were told. Each that was let go by the end of the program is a member."""
+        """Sees that a restart has what candidates were told, and that those who were there at the end are members."""
         self.session = None
         if not self.lines:
             return
