@@ -4,7 +4,8 @@ import contextlib
 import socket
 import struct
 
-HOST = "127.0.0.1"
+from ports import HOST
+
 PATIENCE = 20
 
 

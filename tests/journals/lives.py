@@ -1,23 +1,16 @@
 """Lives of `ringd run --journal`: a run of the program, what it shows, and whether that fits a journal."""
 
 import contextlib
-import itertools
 import os
-import random
 import signal
-import socket
 import subprocess
-import threading
 import time
 
 from identity import numbers_of
 from journals.changes import line_of
+from ports import next_port
 from serving import HOST, PATIENCE, Client, Differs, short, text_of
 
-# Below the ports that the system gives to clients, so that no client of another run is in the way.
-LOWEST, HIGHEST = 11000, 32000
-PORTS = itertools.cycle(random.sample(range(LOWEST, HIGHEST), HIGHEST - LOWEST))
-PORTS_LOCK = threading.Lock()
 # How often the program is started because somebody else took its port.
 TRIES = 5
 # For how many seconds leaders are waited for: on a machine that is busy, worker threads may have to wait. And how long
@@ -28,17 +21,6 @@ AT_ONCE = 256
 # How many zeros are written ahead of the text at a time, and at most how many bytes between two syncs.
 AHEAD = 65536
 LISTEN_FAILED = b"ringd: listen failed\n"
-
-
-def next_port():
-    """Returns a port that nobody listens on, and that no other thread is given soon."""
-    while True:
-        with PORTS_LOCK:
-            port = next(PORTS)
-        with contextlib.suppress(OSError), socket.socket() as probe:
-            probe.setsockopt(socket.SOL_SOCKET, socket.SO_REUSEADDR, 1)
-            probe.bind((HOST, port))
-            return port
 
 
 class Life:

@@ -6,6 +6,7 @@
  *     SWEEP_WRITE=N       the Nth write goes wrong, as SWEEP_HOW says
  *     SWEEP_ACCEPT=N      the Nth accept fails, as for want of descriptors, or is interrupted
  *     SWEEP_SPAWN=N       the Nth thread can't be made
+ *     SWEEP_SETSOCKOPT=N  the Nth option of a socket can't be set
  *     SWEEP_PWRITE=N, SWEEP_FSYNC=N, SWEEP_FDATASYNC=N, SWEEP_RENAME=N, SWEEP_UNLINK=N, SWEEP_OPEN=N, SWEEP_STATX=N,
  *     SWEEP_FLOCK=N       the Nth call of that name goes wrong, as SWEEP_HOW says
  *     SWEEP_HOW=WORD      fail (the default), interrupt, byte: the call moves one byte, or count: it goes well, and
@@ -41,14 +42,21 @@ static const char *const words[] = {"fail", "interrupt", "byte", "count", "exit"
 /* The status of a process that ends at a call. */
 #define ENDED 86
 
-/* One sort of call: how many were made, and which of them goes wrong (0: none). */
-struct sort {
-    atomic_long made;
-    long chosen;
+/* The calls that can go wrong, by the names of their settings. */
+enum call {
+    GROWTH, READ, WRITE, ACCEPT, SPAWN, SETSOCKOPT, PWRITE, FSYNC, FDATASYNC, RENAME, UNLINK, OPEN, STATX, FLOCK, CALLS
 };
 
-static struct sort growths, reads, writes, accepts, spawns;
-static struct sort pwrites, fsyncs, fdatasyncs, renames, unlinks, opens, statxs, flocks;
+static const char *const settings[] = {
+    "SWEEP_GROWTH", "SWEEP_READ", "SWEEP_WRITE", "SWEEP_ACCEPT", "SWEEP_SPAWN", "SWEEP_SETSOCKOPT", "SWEEP_PWRITE",
+    "SWEEP_FSYNC", "SWEEP_FDATASYNC", "SWEEP_RENAME", "SWEEP_UNLINK", "SWEEP_OPEN", "SWEEP_STATX", "SWEEP_FLOCK"};
+
+/* How many calls of each sort were made, and which of them goes wrong (0: none). */
+static struct {
+    atomic_long made;
+    long chosen;
+} sorts[CALLS];
+
 static enum how how;
 static int by_bytes, tell = -1, error = EIO;
 static long times = 1, seed, chance = 24;
@@ -74,19 +82,7 @@ __attribute__((constructor)) static void begin(void) {
     seed = number("SWEEP_SEED");
     *(void **)&thread_maker = dlsym(RTLD_NEXT, "pthread_create");
     if (getenv("SWEEP_TELL")) tell = (int)number("SWEEP_TELL");
-    growths.chosen = number("SWEEP_GROWTH");
-    reads.chosen = number("SWEEP_READ");
-    writes.chosen = number("SWEEP_WRITE");
-    accepts.chosen = number("SWEEP_ACCEPT");
-    spawns.chosen = number("SWEEP_SPAWN");
-    pwrites.chosen = number("SWEEP_PWRITE");
-    fsyncs.chosen = number("SWEEP_FSYNC");
-    fdatasyncs.chosen = number("SWEEP_FDATASYNC");
-    renames.chosen = number("SWEEP_RENAME");
-    unlinks.chosen = number("SWEEP_UNLINK");
-    opens.chosen = number("SWEEP_OPEN");
-    statxs.chosen = number("SWEEP_STATX");
-    flocks.chosen = number("SWEEP_FLOCK");
+    for (enum call sort = GROWTH; sort < CALLS; sort++) sorts[sort].chosen = number(settings[sort]);
 }
 
 /* Whether chance picks this call. */
@@ -98,28 +94,28 @@ static int is_picked(long call) {
 }
 
 /* Counts a call; whether it is one that goes wrong. */
-static int goes_wrong(struct sort *sort) {
-    if (!sort->chosen) return 0;
-    long behind = atomic_fetch_add(&sort->made, 1) + 1 - sort->chosen;
+static int goes_wrong(enum call sort) {
+    if (!sorts[sort].chosen) return 0;
+    long behind = atomic_fetch_add(&sorts[sort].made, 1) + 1 - sorts[sort].chosen;
     if (behind < 0 || (behind >= times && !(seed && is_picked(behind)))) return 0;
     if (tell >= 0) syscall(SYS_write, tell, "!", 1);
     return how != COUNT;
 }
 
 void *malloc(size_t size) {
-    if (!goes_wrong(&growths)) return __libc_malloc(size);
+    if (!goes_wrong(GROWTH)) return __libc_malloc(size);
     errno = ENOMEM;
     return NULL;
 }
 
 void *calloc(size_t count, size_t size) {
-    if (!goes_wrong(&growths)) return __libc_calloc(count, size);
+    if (!goes_wrong(GROWTH)) return __libc_calloc(count, size);
     errno = ENOMEM;
     return NULL;
 }
 
 void *realloc(void *old, size_t size) {
-    if (!goes_wrong(&growths)) return __libc_realloc(old, size);
+    if (!goes_wrong(GROWTH)) return __libc_realloc(old, size);
     errno = ENOMEM;
     return NULL;
 }
@@ -128,7 +124,7 @@ void *realloc(void *old, size_t size) {
 static void end(void) { syscall(SYS_exit_group, ENDED); }
 
 /* A call that moves bytes, from the Nth of which on it may go wrong. */
-static ssize_t move(struct sort *sort, long call, int file, void *bytes, size_t size, long more) {
+static ssize_t move(enum call sort, long call, int file, void *bytes, size_t size, long more) {
     size_t most = by_bytes && size > 1 ? 1 : size;
     int is_wrong = goes_wrong(sort);
     if (is_wrong && (how == FAIL || how == INTERRUPT)) {
@@ -143,33 +139,33 @@ static ssize_t move(struct sort *sort, long call, int file, void *bytes, size_t 
     return moved;
 }
 
-ssize_t read(int from, void *to, size_t size) { return move(&reads, SYS_read, from, to, size, 0); }
+ssize_t read(int from, void *to, size_t size) { return move(READ, SYS_read, from, to, size, 0); }
 
 ssize_t write(int to, const void *from, size_t size) {
     if (to == 2) return syscall(SYS_write, to, from, size);
-    return move(&writes, SYS_write, to, (void *)from, size, 0);
+    return move(WRITE, SYS_write, to, (void *)from, size, 0);
 }
 
 ssize_t __write(int to, const void *from, size_t size) { return write(to, from, size); }
 
 ssize_t recv(int from, void *to, size_t size, int flags) {
-    return move(&reads, SYS_recvfrom, from, to, size, flags);
+    return move(READ, SYS_recvfrom, from, to, size, flags);
 }
 
 ssize_t send(int to, const void *from, size_t size, int flags) {
-    return move(&writes, SYS_sendto, to, (void *)from, size, flags);
+    return move(WRITE, SYS_sendto, to, (void *)from, size, flags);
 }
 
 ssize_t pwrite(int to, const void *from, size_t size, off_t offset) {
-    return move(&pwrites, SYS_pwrite64, to, (void *)from, size, offset);
+    return move(PWRITE, SYS_pwrite64, to, (void *)from, size, offset);
 }
 
 ssize_t pwrite64(int to, const void *from, size_t size, off64_t offset) {
-    return move(&pwrites, SYS_pwrite64, to, (void *)from, size, offset);
+    return move(PWRITE, SYS_pwrite64, to, (void *)from, size, offset);
 }
 
 /* A call that moves no bytes, from the Nth of which on it may go wrong. */
-static int ask(struct sort *sort, long call, long one, long two, long three, long four, long five) {
+static int ask(enum call sort, long call, long one, long two, long three, long four, long five) {
     int is_wrong = goes_wrong(sort);
     if (is_wrong && (how == FAIL || how == INTERRUPT)) {
         errno = how == INTERRUPT ? EINTR : error;
@@ -181,45 +177,49 @@ static int ask(struct sort *sort, long call, long one, long two, long three, lon
     return result;
 }
 
-int fsync(int file) { return ask(&fsyncs, SYS_fsync, file, 0, 0, 0, 0); }
+int fsync(int file) { return ask(FSYNC, SYS_fsync, file, 0, 0, 0, 0); }
 
-int fdatasync(int file) { return ask(&fdatasyncs, SYS_fdatasync, file, 0, 0, 0, 0); }
+int fdatasync(int file) { return ask(FDATASYNC, SYS_fdatasync, file, 0, 0, 0, 0); }
 
-int flock(int file, int how_locked) { return ask(&flocks, SYS_flock, file, how_locked, 0, 0, 0); }
+int flock(int file, int how_locked) { return ask(FLOCK, SYS_flock, file, how_locked, 0, 0, 0); }
 
-int rename(const char *from, const char *to) {
-    return ask(&renames, SYS_renameat, AT_FDCWD, (long)from, AT_FDCWD, (long)to, 0);
+int setsockopt(int socket, int level, int option, const void *value, socklen_t size) {
+    return ask(SETSOCKOPT, SYS_setsockopt, socket, level, option, (long)value, size);
 }
 
-int unlink(const char *path) { return ask(&unlinks, SYS_unlinkat, AT_FDCWD, (long)path, 0, 0, 0); }
+int rename(const char *from, const char *to) {
+    return ask(RENAME, SYS_renameat, AT_FDCWD, (long)from, AT_FDCWD, (long)to, 0);
+}
+
+int unlink(const char *path) { return ask(UNLINK, SYS_unlinkat, AT_FDCWD, (long)path, 0, 0, 0); }
 
 int statx(int folder, const char *path, int flags, unsigned wanted, struct statx *about) {
-    return ask(&statxs, SYS_statx, folder, (long)path, flags, wanted, (long)about);
+    return ask(STATX, SYS_statx, folder, (long)path, flags, wanted, (long)about);
 }
 
 /* An open; its mode is given only if a file may be made. */
 static int open_at(int folder, const char *path, int flags, va_list rest) {
     mode_t mode = flags & (O_CREAT | __O_TMPFILE) ? va_arg(rest, mode_t) : 0;
-    return ask(&opens, SYS_openat, folder, (long)path, flags, mode, 0);
+    return ask(OPEN, SYS_openat, folder, (long)path, flags, mode, 0);
 }
 
-#define OPEN(folder)                                      \
+#define OPEN_AT(folder)                                   \
     va_list rest;                                         \
     va_start(rest, flags);                                \
     int file = open_at(folder, path, flags, rest);        \
     va_end(rest);                                         \
     return file;
 
-int open(const char *path, int flags, ...) { OPEN(AT_FDCWD) }
+int open(const char *path, int flags, ...) { OPEN_AT(AT_FDCWD) }
 
-int open64(const char *path, int flags, ...) { OPEN(AT_FDCWD) }
+int open64(const char *path, int flags, ...) { OPEN_AT(AT_FDCWD) }
 
-int openat(int folder, const char *path, int flags, ...) { OPEN(folder) }
+int openat(int folder, const char *path, int flags, ...) { OPEN_AT(folder) }
 
-int openat64(int folder, const char *path, int flags, ...) { OPEN(folder) }
+int openat64(int folder, const char *path, int flags, ...) { OPEN_AT(folder) }
 
 static int accepted(int listener, struct sockaddr *from, socklen_t *size, int flags) {
-    if (!goes_wrong(&accepts)) return (int)syscall(SYS_accept4, listener, from, size, flags);
+    if (!goes_wrong(ACCEPT)) return (int)syscall(SYS_accept4, listener, from, size, flags);
     errno = how == INTERRUPT ? EINTR : EMFILE;
     return -1;
 }
@@ -233,6 +233,6 @@ int accept(int listener, struct sockaddr *from, socklen_t *size) {
 }
 
 int pthread_create(pthread_t *thread, const pthread_attr_t *how_made, void *(*runs)(void *), void *given) {
-    if (goes_wrong(&spawns)) return EAGAIN;
+    if (goes_wrong(SPAWN)) return EAGAIN;
     return thread_maker(thread, how_made, runs, given);
 }

@@ -1,40 +1,22 @@
 """The program as a server under the library that stands before the C library, and its clients."""
 
 import contextlib
-import itertools
 import os
 import pathlib
-import random
 import select
 import signal
 import socket
 import subprocess
 import tempfile
-import threading
 import time
 
+from ports import HOST, next_port
 from sweep import Bad
 
-HOST = "127.0.0.1"
 PATIENCE = 20
 # How often a program is started anew because somebody else took its port.
 TRIES = 5
-# Below the ports that the system gives to clients, so that no client of another run is in the way.
-LOWEST, HIGHEST = 11000, 32000
-PORTS = itertools.cycle(random.sample(range(LOWEST, HIGHEST), HIGHEST - LOWEST))
-PORTS_LOCK = threading.Lock()
-
-
-def free_port():
-    """A port that nobody listens on."""
-    for _ in range(HIGHEST - LOWEST):
-        with PORTS_LOCK:
-            port = next(PORTS)
-        with contextlib.suppress(OSError), socket.socket() as probe:
-            probe.setsockopt(socket.SOL_SOCKET, socket.SO_REUSEADDR, 1)
-            probe.bind((HOST, port))
-            return port
-    raise Bad("there is no free port")
+LISTEN_FAILED = b"ringd: listen failed\n"
 
 
 class Lost(Exception):
@@ -96,10 +78,11 @@ class Client:
 
 class Server:
     """A run of the program that serves clients, where the calls go wrong that the names say. It has a journal if the
-    bytes of one are given."""
+    bytes of one are given, and a second port if campaigns are asked for."""
 
-    def __init__(self, library, program, words, workers=2, inbox=64, journal=None, **wrong):
+    def __init__(self, library, program, words, workers=2, inbox=64, journal=None, campaigns=False, **wrong):
         self.program, self.words, self.workers, self.inbox = program, words, workers, inbox
+        self.campaigns, self.may_refuse_ports = campaigns, "setsockopt" in wrong
         settings = {f"SWEEP_{name.upper()}": str(value) for name, value in wrong.items()}
         self.environment = {**os.environ, "LD_PRELOAD": str(library), **settings}
         self.folder = tempfile.TemporaryDirectory()
@@ -116,14 +99,17 @@ class Server:
         self.start()
 
     def start(self):
-        """Starts the program on a free port."""
-        self.port, self.out, self.error, self.refusals = free_port(), b"", b"", 0
+        """Starts the program on free ports."""
+        self.port, self.out, self.error, self.refusals = next_port(), b"", b"", 0
         self.ours, theirs = os.pipe()
         os.set_blocking(self.ours, False)
         file = pathlib.Path(self.folder.name) / "ring.toml"
         text = f"workers = {self.workers}\ninbox = {self.inbox}\nport = {self.port}\n"
         file.write_text(text, encoding="utf-8")
         words = [self.program, self.words[0], file, *self.words[1:]]
+        if self.campaigns:
+            self.second = next_port()
+            words += ["--campaign", str(self.second)]
         self.run = subprocess.Popen(words, stdin=subprocess.DEVNULL, stdout=subprocess.PIPE,
                                     stderr=subprocess.PIPE, pass_fds=[theirs],
                                     env={**self.environment, "SWEEP_TELL": str(theirs)})
@@ -138,12 +124,12 @@ class Server:
 
     def listens(self):
         """Whether the program came to say that it listens; where it didn't, it ends. It is started anew where
-        somebody else took its port."""
+        somebody else took a port of it."""
         for _ in range(TRIES):
             if self.says_so():
                 return True
             self.error = self.run.stderr.read()
-            if self.error != b"ringd: listen failed\n":
+            if self.error != LISTEN_FAILED or (self.may_refuse_ports and self.told()):
                 return False
             self.stop()
             self.start()
