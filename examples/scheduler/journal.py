@@ -19,8 +19,8 @@ class Token(NamedTuple):
 
 
 def group_of(epoch):
-    """Returns the name of the group of an epoch. Epoch 0 is the one before any was begun."""
-    return f"jobs-{epoch}" if int(epoch) else "jobs"
+    """Returns the name of the group of an epoch. No group has that of epoch 0, before any was begun."""
+    return f"jobs-{epoch}"
 
 
 class Entry(NamedTuple):

@@ -6,9 +6,8 @@ reads the journal, and goes on from there.
 
     take EPOCH TERM WORKER        ->  job J          the job to do next; raises the fence
     did EPOCH TERM WORKER JOB     ->  ok             the job is done; raises the fence
-    epoch                         ->  epoch E TERM   the epoch that was begun last, 0 if none was, and the newest
-                                                     term of it that was accepted, 0 if none was
-    begin                         ->  epoch E 0      begins an epoch, with a number that no epoch had before
+    epoch                         ->  epoch E        the epoch that was begun last, 0 if none was
+    begin                         ->  epoch E        begins an epoch, with a number that no epoch had before
 
 A `take` or `did` with a token older than the fence is answered `no late`, and changes nothing.
 """
@@ -50,16 +49,11 @@ class Store:
         os.fsync(self.file.fileno())
         self.count(entry)
 
-    def newest(self):
-        """Returns the epoch that was begun last, and the newest term of it that was accepted."""
-        with self.lock:
-            return max(self.last.token, Token(self.epoch, 0))
-
     def begin_epoch(self):
-        """Begins an epoch, and returns its number, which no epoch had before, and the term 0."""
+        """Begins an epoch, and returns its number, which no epoch had before."""
         with self.lock:
             self.write(Entry("epoch", Token(self.epoch + 1, 0)))
-            return Token(self.epoch, 0)
+            return self.epoch
 
     def take(self, token, worker):
         """Returns the job to do next, or None to a late leader. A leader takes its job before it works, so
@@ -85,9 +79,9 @@ class Store:
             return "no bad-line"
         numbers = [int(number) for number in numbers]
         if word == "epoch" and not numbers:
-            return "epoch {} {}".format(*self.newest())
+            return f"epoch {self.epoch}"
         if word == "begin" and not numbers:
-            return "epoch {} {}".format(*self.begin_epoch())
+            return f"epoch {self.begin_epoch()}"
         if word == "take" and len(numbers) == 3:
             job = self.take(Token(*numbers[:2]), numbers[2])
             return "no late" if job is None else f"job {job}"

@@ -1,70 +1,64 @@
-"""A worker: does jobs while it leads. The supervisor starts it.
+"""A worker: campaigns, and does jobs while it leads. The supervisor starts it.
 
-    worker.py RINGD-PORT STORE-PORT
+    worker.py RINGD-PORT CAMPAIGN-PORT STORE-PORT
 
-It asks `ringd` for the leader: often while it does not lead, and once a second while it does. The store stops
-a late leader. The reply `leader` is no permission to write: any time may pass between the reply and the
-write, and a newer term may have begun meanwhile.
+Its membership is its connection to the campaign port. The store stops a late leader: that `ringd` named this
+worker is no permission to write. Any time may pass between that line and the write, and a newer term may have
+begun meanwhile.
 """
 
+import contextlib
 import os
 import sys
 import time
 
 from journal import Token, group_of
-from lines import Lines, Refused
+from lines import Campaign, Lines, Refused
 
-# After how many seconds a worker asks again if it does not lead.
+# After how many seconds a worker whose campaign has ended tries again.
 PAUSE = 0.05
-# For how many seconds a leader works before it asks again.
-STRETCH = 1
+# How many seconds are between two signs of life. It is less than the --idle of ringd, and so is a job.
+LIFE = 0.3
 # How many seconds a job takes.
 WORK = 0.01
 
 
-def token_of(ring, store, me):
-    """Returns the token with which this worker leads, or None if it does not lead.
+def campaign(me, port, door, store):
+    """Campaigns in the group of the last epoch, and works while it leads. It ends when this worker is no
+    member any more, when another epoch has begun, when the store refuses a write, or by OSError.
 
-    The group is named for the epoch. So no answer of ringd can be taken for an answer of another epoch: a
-    restarted ringd does not know the earlier group, and says so.
+    The group is named for the epoch. So no line of ringd can be taken for one of another epoch.
     """
-    _, epoch, _ = store.ask("epoch")
-    standing, *numbers = ring.ask("who", group_of(epoch), me)
-    if standing != "leader" or int(numbers[1]) != me:
-        return None
-    return Token(int(epoch), int(numbers[0]))
+    _, epoch = store.ask("epoch")
+    group = group_of(epoch)
+    with contextlib.closing(Lines(port)) as ring, contextlib.closing(Campaign(door, group, me)) as mine:
+        while str(me) in ring.ask("members", group) and store.ask("epoch")[1] == epoch:
+            term = mine.term()
+            if term is not None:
+                lead(store, Token(int(epoch), term), me)
+            mine.hear(0 if term else LIFE)
 
 
 def lead(store, token, me):
-    """Does one job after another, for a while or until the store refuses one."""
-    latest = time.monotonic() + STRETCH
+    """Does one job after another, until a sign of life is due or the store refuses one. A worker that hangs in
+    a job gives no sign, and so another follows it."""
+    latest = time.monotonic() + LIFE
     while time.monotonic() < latest:
         _, job = store.ask("take", *token, me)
         time.sleep(WORK)  # (here the job is done; another leader may begin meanwhile)
         store.ask("did", *token, me, job)
-        say_alive()
-
-
-def say_alive():
-    """Reports to the supervisor. If that has ended, this worker ends too."""
-    try:
-        os.write(sys.stdout.fileno(), b"alive\n")
-    except BrokenPipeError:
-        sys.exit()
 
 
 def main():
-    me, ring, store = os.getpid(), Lines(int(sys.argv[1])), Lines(int(sys.argv[2]))
-    while True:
-        say_alive()
+    port, door, store = sys.argv[1:]
+    me, supervisor, store = os.getpid(), os.getppid(), Lines(store)
+    while os.getppid() == supervisor:
         try:
-            token = token_of(ring, store, me)
-            if token is not None:
-                lead(store, token, me)
+            campaign(me, port, door, store)
         except Refused:
-            pass  # (late, or no such group or term, or this member is not in it: ask again)
+            pass  # (late, or no such group, or all its terms are used up, or a member still: try again)
         except OSError:
-            pass  # (ringd or the store does not answer now: ask again)
+            pass  # (ringd or the store does not answer now: try again)
         time.sleep(PAUSE)
 
 
