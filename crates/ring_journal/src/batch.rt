@@ -21,8 +21,9 @@ impl Model for Batch {
     ghost Value = { BatchView };
 
     ghost view = { λ a. record {
-        bytes = a.bytes.items;
-        room = vec_capacity a.bytes - vec_len a.bytes } };
+      bytes = a.bytes.items;
+      room = vec_capacity a.bytes - vec_len a.bytes
+    } };
 }
 
 impl From<Vec<u8>> for Batch {
