@@ -26,9 +26,8 @@ first_check = 4294967295
 -- the check after one byte, given the check before it and the byte mixed by exclusive or
 abbrev pub check_mixed : ℕ → ℕ
 check_mixed mixed =
-    bit_xor
-      (bit_xor (mixed / 256) (slice_index check_low (mixed % 16)))
-      (slice_index check_high (mixed / 16 % 16))
+    bit_xor (bit_xor (mixed / 256) (slice_index check_low (mixed % 16)))
+    (slice_index check_high (mixed / 16 % 16))
 
 -- the check after one byte
 abbrev pub check_byte : ℕ → ℕ → ℕ

@@ -22,7 +22,7 @@ impl Model for Batch {
 
     ghost view = { λ a. record {
       bytes = a.bytes.items;
-      room = vec_capacity a.bytes - vec_len a.bytes
+      room = vec_capacity a.bytes - vec_len a.bytes;
     } };
 }
 

@@ -70,6 +70,6 @@ pub record Lists (found text : List ℕ) : Type 0 where
       ≡ groups_text recovered.book (changes_of recovered.history)
       ++ life_text (recovered.life - 1)
       ++ end_text
-        (length recovered.history)
-        (length (text_of (lines_in found)))
-        (used - length (text_of (lines_in found)))
+      (length recovered.history)
+      (length (text_of (lines_in found)))
+      (used - length (text_of (lines_in found)))

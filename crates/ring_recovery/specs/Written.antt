@@ -71,5 +71,5 @@ abbrev pub LeavesEither : WrittenView → WrittenView → Type 0
 LeavesEither old new =
     (found : List ℕ)
     → MayFind found old.journal.disk.text old.journal.disk.kept
-      ⊎ MayFind found new.journal.disk.text new.journal.disk.kept
+    ⊎ MayFind found new.journal.disk.text new.journal.disk.kept
     → FindsEntries new.life new.items old.sure found

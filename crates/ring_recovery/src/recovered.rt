@@ -47,7 +47,7 @@ impl Model for Recovered {
       book = a.table.book;
       history = a.table.history;
       life = a.life;
-      text = a.text.bytes
+      text = a.text.bytes;
     } };
 
     ghost invariant = { λ a. IsRecovered a.life a.table.history a.check a.text.bytes };
@@ -61,7 +61,11 @@ impl Recovered {
         requires legal { All IsChange (changes_of table.history) }
         requires check { check ≡ check_of first_check (changes_of table.history) }
         ensures { result ≡ record {
-            book = table.book; history = table.history; life = life; text = text.bytes } }
+          book = table.book;
+          history = table.history;
+          life = life;
+          text = text.bytes;
+        } }
     {
         Recovered {
             table,

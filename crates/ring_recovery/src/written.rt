@@ -71,11 +71,11 @@ impl<D: Medium + Drop> Model for Written<D> {
     ghost view = { λ a. record {
       items = a.entries.items;
       room = min
-        (2 ^ 44 - 1 - length a.entries.items)
-        (min a.entries.room (a.journal.room / 71));
+          (2 ^ 44 - 1 - length a.entries.items)
+          (min a.entries.room (a.journal.room / 71));
       sure = a.sure;
       journal = a.journal;
-      life = a.life
+      life = a.life;
     } };
 
     ghost invariant = { λ a. IsWritten a.life a.entries.items a.journal a.check a.sure };
