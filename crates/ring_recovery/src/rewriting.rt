@@ -7,6 +7,7 @@ use crate::alarm::{Alarm, Ending};
 use crate::short::Short;
 use crate::written::Written;
 use ring_journal::{Fault, Medium};
+use ring_table::Recorder;
 use std::sync::Wait;
 
 /// The least number of bytes of a journal that is rewritten.
