@@ -1,7 +1,7 @@
 -- The new text leads to the groups of all entries, and a restart finds the old text or the new one.
 use Rattle.std.proofs.Common.{refl, arith}
 use Rattle.ring_recovery.proofs.Shortening.{leaves_either, rewritten, sure_within}
-use Rattle.ring_recovery.proofs.rewriting.Written.rewrite.Goals as goal
+use Rattle.ring_recovery.proofs.written.Written.rewrite.Goals as goal
 
 pub returns-in-Err-NoMemory-clause-any_moment : goal.returns-in-Err-NoMemory-clause-any_moment
 returns-in-Err-NoMemory-clause-any_moment g c =
