@@ -9,7 +9,7 @@ use Rattle.std.proofs.lemmas.List.Splits.{slice_split_first, slice_split_none}
 use Rattle.std.proofs.lemmas.Slice.{between_to_end}
 use Rattle.ring_change.specs.private.Reading.{words_in}
 
--- the text before the first space is a word, and the other words are after it
+-- the text before the first space is the first word, and the other words are those of the rest
 pub words_in-cut : (text : List ℕ) (at : ℕ) → Some at ≡ position (λ b. b == 32) text → words_in text ≡ take at text ∷ words_in (take (length text - (at + 1)) (drop (at + 1) text))
 words_in-cut text at found =
     let is_it = λ (b : ℕ). b == 32 in

@@ -92,7 +92,7 @@ text-digits : (numbers : List ℕ) → list_all is_text (map hex_digit numbers) 
 text-digits [] = refl
 text-digits (n ∷ numbers) = and_from (is_text (hex_digit n)) (list_all is_text (map hex_digit numbers)) (text-digit (nat_lt n 10) n) (text-digits numbers)
 
--- and so is a mark
+-- a mark is text
 text-word : (n : ℕ) → list_all is_text (hex_word n) ≡ true
 text-word n =
     text-digits (n / 268435456 ∷ n / 16777216 % 16 ∷ n / 1048576 % 16 ∷ n / 65536 % 16 ∷ n / 4096 % 16 ∷ n / 256 % 16 ∷ n / 16 % 16 ∷ n % 16 ∷ [])

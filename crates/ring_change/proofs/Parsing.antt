@@ -18,7 +18,7 @@ use Rattle.ring_change.proofs.Short.{short-change}
 short-line : (line : List ℕ) (change : Change Any) → SpellsChange line change → length line ≤ 128
 short-line line change spells = omega (arith, ap length spells.same, short-change change spells.legal)
 
--- words that are read are those of a line that spells
+-- a change that is read from the words of a line is spelled by the line
 pub knows_some : (line : List ℕ) (read : Option (Change Any)) → Reads change_words IsKnow (words_in line) read → IfSome read (SpellsChange line)
 knows_some line None reads = tt
 knows_some line (Some (Know group term member leader)) reads = record { legal = reads.0; same = sym (join_with_byte-slice_split 32 line) ∙ ap line_of reads.1 }
@@ -27,7 +27,7 @@ knows_some line (Some (Join group node)) reads = absurd reads.0
 knows_some line (Some (Leave group number)) reads = absurd reads.0
 knows_some line (Some (Start group)) reads = absurd reads.0
 
--- a line that spells no command, and whose words are not read, spells no change
+-- a line spells no change if it spells no command and no change is read from its words
 unknown : (line : List ℕ) (change : Change Any) → ((asks : Command Any) → ¬ (Spells line (Client asks))) → Reads change_words IsKnow (words_in line) None → ¬ (SpellsChange line change)
 unknown line (Create group algorithm) unasked reads spells = unasked (command.Create group algorithm) (record { short = short-line line (Create group algorithm) spells; legal = spells.legal; same = spells.same })
 unknown line (Join group node) unasked reads spells = unasked (command.Join group node) (record { short = short-line line (Join group node) spells; legal = spells.legal; same = spells.same })

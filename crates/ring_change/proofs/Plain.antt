@@ -26,15 +26,15 @@ use Rattle.ring_change.specs.private.Reading.{words_in}
 abbrev pub is_text : ℕ → Bool
 is_text b = not (b == 10) && not (b == 0)
 
--- whether a byte is no space either
+-- whether a byte is no LF, no zero and no space
 abbrev pub is_inner : ℕ → Bool
 is_inner b = not (b == 32) && is_text b
 
--- whether each byte of a word is such a byte
+-- whether each byte of a word is no LF, no zero and no space
 abbrev pub is_plain : List ℕ → Bool
 is_plain word = list_all is_inner word
 
--- whether each of these words is so
+-- whether each of these words is plain
 abbrev pub all_plain : List (List ℕ) → Bool
 all_plain words = list_all is_plain words
 
@@ -57,7 +57,7 @@ words_in-line_of word (next ∷ words) plain =
     slice_split_at (λ b. b == 32) word 32 (line_of (next ∷ words)) (no_space_in word parts.0) refl
     ∙ ap (λ (l : List (List ℕ)). word ∷ l) (words_in-line_of next words parts.1)
 
--- a byte other than these
+-- a byte that is no LF and no zero is text
 pub text_byte : (b : ℕ) → b ≢ 10 → b ≢ 0 → is_text b ≡ true
 text_byte b lf nil = and_from (not (b == 10)) (not (b == 0)) (ap not (ne_eqb b 10 lf)) (ap not (ne_eqb b 0 nil))
 
@@ -72,7 +72,7 @@ inner-name_byte b legal =
     (λ lf. let bad : is_name_byte 10 ≡ true = rw lf at legal in cc)
     (λ nil. let bad : is_name_byte 0 ≡ true = rw nil at legal in cc)
 
--- and so is a digit
+-- a digit is inner
 inner-digit : (b : ℕ) → IsInRange 48 57 b → is_inner b ≡ true
 inner-digit b digit = inner_byte b (λ space. absurd (omega arith)) (λ lf. absurd (omega arith)) (λ nil. absurd (omega arith))
 
@@ -80,7 +80,7 @@ inner-digit b digit = inner_byte b (λ space. absurd (omega arith)) (λ lf. absu
 pub plain-name : (name : List ℕ) → IsName name → is_plain name ≡ true
 plain-name name legal = list_all-from_AllPass is_inner name (All-weaker (λ b. is_name_byte b ≡ true) (λ b. is_inner b ≡ true) inner-name_byte name (AllPass-from_list_all is_name_byte name legal.each))
 
--- and so are the words of a number, a weight, an identity and an algorithm
+-- the words of a number, a weight, an identity and an algorithm are plain
 pub plain-decimal : (n : ℕ) → n < 2 ^ 64 → is_plain (decimal n) ≡ true
 plain-decimal n short =
     let digits = (decimal_is_IsNumeral n short).0.1 in
@@ -129,7 +129,7 @@ text-word (b ∷ word) plain =
     let parts = and_parts (is_inner b) (is_plain word) plain in
     and_from (is_text b) (list_all is_text word) (and_parts (not (b == 32)) (is_text b) parts.0).1 (text-word word parts.1)
 
--- and so is a line of plain words
+-- a line of plain words is text
 pub text-line_of : (words : List (List ℕ)) → all_plain words ≡ true → list_all is_text (line_of words) ≡ true
 text-line_of [] plain = refl
 text-line_of (word ∷ []) plain = text-word word (and_parts (is_plain word) true plain).0

@@ -36,7 +36,8 @@ one_byte word (b ∷ space ∷ name) rest legal same =
 abbrev first_byte : List ℕ → ℕ
 first_byte line = get_or line 0 0
 
--- the number that a command to leave names is the one that the word spells, and other commands are none
+-- If a command is spelled by `leave a` and a word, it is a command to leave. Its number is the one
+-- that the word spells.
 pub reads_left : (word : List ℕ) (asks : Command Any) → Spells (codes "leave a " ++ word) (Client asks) → Reads decimal IsNumber word (left_number asks)
 reads_left word (Leave group number) spells = (spells.legal.1, one_byte word group (decimal number) spells.legal.0 cc)
 reads_left word (Create group kind) spells = absurd (omega (arith, ap first_byte spells.same))
@@ -47,7 +48,8 @@ reads_left word (Members group) spells = absurd (omega (arith, ap first_byte spe
 reads_left word (Terms group) spells = absurd (omega (arith, ap first_byte spells.same))
 reads_left word Groups spells = absurd (omega (arith, ap first_byte spells.same))
 
--- the identity that a command to join names is the one that the word spells, and other commands are none
+-- If a command is spelled by `join a` and a word, it is a command to join. Its identity is the one
+-- that the word spells.
 pub reads_joined : (word : List ℕ) (asks : Command Any) → Spells (codes "join a " ++ word) (Client asks) → Reads node_word IsNode word (joined_node asks)
 reads_joined word (Join group node) spells = (spells.legal.1, one_byte word group (node_word node) spells.legal.0 cc)
 reads_joined word (Create group kind) spells = absurd (omega (arith, ap first_byte spells.same))
@@ -58,7 +60,7 @@ reads_joined word (Members group) spells = absurd (omega (arith, ap first_byte s
 reads_joined word (Terms group) spells = absurd (omega (arith, ap first_byte spells.same))
 reads_joined word Groups spells = absurd (omega (arith, ap first_byte spells.same))
 
--- a word with which no command is spelled, or which is too long for one, is no number
+-- a word is no number if no command to leave is spelled with it, or if it is too long for one
 pub unread_left : (line word : List ℕ) → line ≡ codes "leave a " ++ word → ((asks : Command Any) → ¬ (Spells line (Client asks))) → Reads decimal IsNumber word None
 unread_left line word is none = λ number legal same.
     none (Leave (codes "a") number) (record { short = omega (arith, ap length is, ap length same, short-number number legal.1); legal = (a_name, legal); same = rw (is, same) refl })
@@ -66,7 +68,7 @@ unread_left line word is none = λ number legal same.
 pub long_left : (word : List ℕ) → 70 < 8 + length word → Reads decimal IsNumber word None
 long_left word long = λ number legal same. absurd (omega (arith, long, ap length same, short-number number legal.1))
 
--- and no identity
+-- a word is no identity if no command to join is spelled with it, or if it is too long for one
 pub unread_joined : (line word : List ℕ) → line ≡ codes "join a " ++ word → ((asks : Command Any) → ¬ (Spells line (Client asks))) → Reads node_word IsNode word None
 unread_joined line word is none = λ node legal same.
     none (Join (codes "a") node) (record { short = omega (arith, ap length is, ap length same, short-node node legal); legal = (a_name, legal); same = rw (is, same) refl })

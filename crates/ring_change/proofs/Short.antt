@@ -33,7 +33,7 @@ pub short-node : (node : ℕ) → IsNode node → length (node_word node) ≤ 16
 short-node node legal =
     omega (arith, length-append (decimal (number_of node)) (weight_text (weight_of node)), short-number (number_of node) legal.0.1, short-weight (weight_of node) legal.1)
 
--- and so is the line of a change
+-- the line of a change is short
 pub short-change : (change : Change Any) → IsChange change → length (change_line change) ≤ 60
 short-change (Create g a) p = omega (arith, length-append g (32 ∷ word_of a), p.short, short-algorithm a)
 short-change (Join g n) p = omega (arith, length-append g (32 ∷ node_word n), p.0.short, short-node n p.1)

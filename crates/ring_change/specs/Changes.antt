@@ -26,7 +26,7 @@ asked_change (Members group) = None
 asked_change (Terms group) = None
 asked_change Groups = None
 
--- none if the test holds
+-- no value if the test holds
 abbrev pub unless : {A : Type 0} → Bool → Option A → Option A
 unless true x = None
 unless false x = x
@@ -35,7 +35,7 @@ unless false x = x
 abbrev pub change_by : {E : Type 0} → Command E → Reply → Option (Change E)
 change_by command reply = unless (is_refused reply) (asked_change command)
 
--- the change that a report made which was filed so
+-- the change that a report made, by the outcome of its filing
 abbrev pub noted_change : {E : Type 0} → List ℕ → ℕ → ℕ → ℕ → Noting → Option (Change E)
 noted_change group term member leader Noted = Some (change.Know group term member leader)
 noted_change group term member leader Known = None

@@ -26,4 +26,5 @@ pub record IsOneLine (line : List ℕ) : Type 0 where
 
 -- the line of each change in a journal is one line, whatever the check before it
 abbrev pub ChangesAreLines : Type 0
-ChangesAreLines = (check : ℕ) (change : Change Any) → IsChange change → IsOneLine (marked_line check change)
+ChangesAreLines =
+    (check : ℕ) (change : Change Any) → IsChange change → IsOneLine (marked_line check change)

@@ -9,13 +9,14 @@ use Rattle.ring_grammar.specs.Spelling.{IsCommand, command_words, line_of}
 use Rattle.ring_change.specs.declared.change.Change.{Change}
 use Rattle.ring_change.specs.declared.change.Change.TheVariants.{Create, Join, Leave, Start, Know}
 
--- the words of a change: those of its command, or which member came to know which leader of which term
+-- the words of a change: those of its command, or `know`, a group, a term, a member and a leader
 abbrev pub change_words : Change Any → List (List ℕ)
 change_words (Create group algorithm) = command_words (command.Create group algorithm)
 change_words (Join group node) = command_words (command.Join group node)
 change_words (Leave group number) = command_words (command.Leave group number)
 change_words (Start group) = command_words (command.Start group)
-change_words (Know group term member leader) = codes "know" ∷ group ∷ decimal term ∷ node_word member ∷ node_word leader ∷ []
+change_words (Know group term member leader) =
+    codes "know" ∷ group ∷ decimal term ∷ node_word member ∷ node_word leader ∷ []
 
 -- the line of a change, without an LF
 abbrev pub change_line : Change Any → List ℕ
@@ -27,7 +28,8 @@ IsChange (Create group algorithm) = IsCommand (command.Create group algorithm)
 IsChange (Join group node) = IsCommand (command.Join group node)
 IsChange (Leave group number) = IsCommand (command.Leave group number)
 IsChange (Start group) = IsCommand (command.Start group)
-IsChange (Know group term member leader) = IsName group × IsTerm term × IsNode member × IsNode leader
+IsChange (Know group term member leader) =
+    IsName group × IsTerm term × IsNode member × IsNode leader
 
 -- These bytes spell this change: they are its line.
 pub record SpellsChange (line : List ℕ) (change : Change Any) : Type 0 where

@@ -59,7 +59,9 @@ fn is_refusal(reply: &Reply) -> bool
 ///
 /// Returns `None` if the report was known or stale. Does not allocate.
 pub fn change_of_filing<E: RingElection>(report: &Report<E>, noting: Noting) -> Option<Change<E>>
-    ensures { result ≡ noted_change report.now.charter.group report.now.charter.term report.now.member report.now.leader noting }
+    ensures { result ≡ noted_change
+        report.now.charter.group report.now.charter.term
+        report.now.member report.now.leader noting }
 {
     match noting {
         Noting::Noted => Some(Change::Know {

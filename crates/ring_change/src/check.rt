@@ -23,7 +23,7 @@ const LOW: [u32; 16] = [
     0x90bf_1d91,
 ];
 
-/// The effect of the high half.
+/// The effect of the high half of a byte.
 const HIGH: [u32; 16] = [
     0,
     0x1db7_1064,
@@ -80,7 +80,8 @@ impl Check {
         Check { rest }
     }
 
-    /// Returns the mark at the end of a line: ` #` and the eight lowercase hexadecimal digits of the check.
+    /// Returns the mark at the end of a line: ` #` and the eight lowercase hexadecimal digits of
+    /// the check.
     pub fn mark(self) -> [u8; 10]
         ensures { result ≡ check_mark self }
     {

@@ -49,11 +49,12 @@ pub fn print_line<S: Sink>(
 
 /// Returns the change of a line in a journal, which is given without its LF.
 ///
-/// Leaves the check after this line in `check`. Returns `None`, and leaves `check` as it was, exactly
-/// if no change has this line after that check. Does not allocate.
+/// Leaves the check after this line in `check`. Returns `None`, and leaves `check` as it was,
+/// exactly if no change has this line after that check. Does not allocate.
 pub fn read_line(line: &[u8], check: &mut Check) -> Option<Change<Any>>
     ensures some { IfSome result (λ change. IsMarked check.old line.now change check.new) }
-    ensures none { IfNone result ((change : Change Any) → IsChange change → line.now ≡ marked_line check.old change → ⊥) }
+    ensures none { IfNone result ((change : Change Any) → IsChange change
+        → line.now ≡ marked_line check.old change → ⊥) }
     ensures kept { IfNone result (check.new ≡ check.old) }
 {
     if line.len() < MARK {

@@ -34,7 +34,8 @@ fn know_of_five(
     member: &[u8],
     leader: &[u8],
 ) -> Option<Change<Any>>
-    ensures { Reads change_words IsKnow (word.now ∷ group.now ∷ term.now ∷ member.now ∷ leader.now ∷ []) result }
+    ensures { Reads change_words IsKnow
+        (word.now ∷ group.now ∷ term.now ∷ member.now ∷ leader.now ∷ []) result }
 {
     if word != b"know".as_slice() {
         return None;
@@ -47,7 +48,7 @@ fn know_of_five(
     })
 }
 
-// The text before the first space, and the text after it.
+// The text before the first space, and the text after it; `None` if there is no space.
 fn cut(text: &[u8]) -> Option<(&[u8], &[u8])>
     ensures some { IfSome result (λ cut. words_in text.now ≡ cut.0.now ∷ words_in cut.1.now) }
     ensures none { IfNone result (words_in text.now ≡ text.now ∷ []) }
@@ -64,7 +65,7 @@ fn first_space(text: &[u8]) -> Option<usize>
     text.iter().position(|b| *b == b' ')
 }
 
-// The group name that this word is.
+// The word as the name of a group.
 fn name(word: &[u8]) -> Option<GroupName>
     ensures { Reads (λ n. n) IsName word.now result }
 {
@@ -89,10 +90,11 @@ fn number(word: &[u8]) -> Option<NodeNo>
     left(parse_command(line.as_slice())?)
 }
 
-/// Returns the number that this word spells: from 1 to 4294967295, without a sign or a leading zero. Does not
-/// allocate.
+/// Returns the number that this word spells: from 1 to 4294967295, without a sign or a leading
+/// zero. Does not allocate.
 pub fn read_number(word: &[u8]) -> Option<u32>
     ensures some { IfSome result (λ number. word.now ≡ decimal number) }
+    ensures range { IfSome result IsNumber }
     ensures none { IfNone result ((number : ℕ) → IsNumber number → word.now ≢ decimal number) }
 {
     match number(word) {
@@ -127,7 +129,7 @@ fn joined(command: Command<Any>) -> Option<NodeId>
     }
 }
 
-// The words of a command and then a word; `None` if they are longer than a line.
+// The words of a command and then a word; `None` if together they are longer than a `Line`.
 fn behind(words: &[u8], word: &[u8]) -> Option<Line>
     ensures some { IfSome result (λ line. line ≡ words.now ++ word.now) }
     ensures none { IfNone result (70 < length words.now + length word.now) }

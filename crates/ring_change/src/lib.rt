@@ -1,7 +1,7 @@
 //! Changes that commands and reports make: as values, and as lines that people read.
 //!
-//! A change by a command is spelled as that command. A line of a journal is a change and a check of all
-//! changes so far. Printing and reading do not allocate.
+//! A change by a command is spelled as that command. A line of a journal is a change and a check of
+//! all changes so far. Printing and reading do not allocate.
 #![tactic(auto)]
 
 mod change;

@@ -111,8 +111,10 @@ fn put_known<S: Sink>(
 
 // A space and an identity, twice.
 fn put_nodes<S: Sink>(first: NodeId, second: NodeId, out: &mut S) -> Result<(), SinkFailed>
-    ensures ok { OnOk result (S.takes out.old ((32 ∷ node_word first) ++ (32 ∷ node_word second)) out.new) }
-    ensures err { OnErr result (S.takes_front out.old ((32 ∷ node_word first) ++ (32 ∷ node_word second)) out.new) }
+    ensures ok { OnOk result (S.takes out.old
+        ((32 ∷ node_word first) ++ (32 ∷ node_word second)) out.new) }
+    ensures err { OnErr result (S.takes_front out.old
+        ((32 ∷ node_word first) ++ (32 ∷ node_word second)) out.new) }
 {
     put_node(b" ", first, out)?;
     put_node(b" ", second, out)

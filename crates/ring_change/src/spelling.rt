@@ -4,8 +4,8 @@ ghost use Rattle.ring_change.specs.Spelling.{IsChange, SpellsChange};
 
 use ring_grammar::one_spelling;
 
-/// Each change has one spelling, and no bytes spell two of them. Its line in a journal has at most 70
-/// bytes, none of them an LF or a zero.
+/// Each change has one spelling, and no bytes spell two of them. Its line in a journal has at most
+/// 70 bytes, none of them an LF or a zero.
 ///
 /// The law is the contract; the call does nothing.
 pub fn one_change()

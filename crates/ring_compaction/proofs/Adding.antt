@@ -31,7 +31,7 @@ take_at xs i x at = rw add-one (take_here xs i x at)
 pub added : {X : Type 0} (before now more rest all : List X) → now ≡ before ++ more → before ++ (more ++ rest) ≡ all → now ++ rest ≡ all
 added {X} before now more rest all is whole = ap (λ (xs : List X). xs ++ rest) is ∙ append_assoc before more rest ∙ whole
 
--- where a call went well, more is so
+-- a fact after a call that succeeded, from another fact that implies it
 pub where_ok : {A B P Q : Type 0} (answer : Result A B) → OnOk answer P → (P → Q) → OnOk answer Q
 where_ok (Ok a) is then = then is
 where_ok (Err b) is then = tt
@@ -46,7 +46,7 @@ term_added {E} name place number before passed ring terms term members was now a
     subst (λ (r : List ℕ). now ++ terms_changes name (place + 1 + 1) r (drop (place + 1) terms) members ≡ all) (sym same)
     (added was now (term_changes name (place + 1) before term) (terms_changes name (place + 1 + 1) term.ring (drop (place + 1) terms) members) all one whole)
 
--- after the last term the members of now are left
+-- after the last term the present members are left
 pub members_added : {E : Type 0} (name : List ℕ) (place number : ℕ) (before passed : List ℕ) (terms : List TermView) (members given : List ℕ) (was now all : List (Change E)) → slice_get terms place ≡ None
     → was ++ terms_changes name number before (drop place terms) members ≡ all → passed ≡ before → given ≡ members → now ≡ was ++ moves name passed given → now ≡ all
 members_added {E} name place number before passed terms members given was now all past story passes gives is =
@@ -69,7 +69,7 @@ pub groups_added : {E : Type 0} (book : Object E) (place : ℕ) (now all : List 
 groups_added {E} book place now all past story =
     sym (append-nil now) ∙ subst (λ (left : Object E). now ++ book_changes left ≡ all) (drop_all place book past) story
 
--- a group of a book keeps what groups keep
+-- the group at a place of a kept book is kept
 pub entry_kept : {E : Type 0} (winner : E → List ℕ → ℕ) (book : Object E) (place : ℕ) (entry : List ℕ × GroupView E) → IsKept winner book → slice_get book place ≡ Some entry → IsGroupKept winner entry.1
 entry_kept {E} winner book place entry kept at =
     let split : book ≡ take place book ++ entry ∷ drop (place + 1) book = sym (take-append-drop place book) ∙ ap (λ (rest : Object E). take place book ++ rest) (drop_at book place entry at) in

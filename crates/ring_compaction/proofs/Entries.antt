@@ -32,6 +32,6 @@ unnamed_before winner old entry groups kept = elim (find entry.0 old) as (λ fou
       absurd (omega (arith, same, slice_get_within old there.0 (entry.0, group) there.1))
 ] refl
 
--- each of the groups keeps what groups keep
+-- each group of a kept book is kept
 pub group_kept : {E : Type 0} (winner : E → List ℕ → ℕ) (old : Object E) (entry : List ℕ × GroupView E) (groups : Object E) → IsKept winner (old ++ entry ∷ groups) → IsGroupKept winner entry.1
 group_kept winner old entry groups kept = kept.each entry.0 entry.1 (find-here entry.0 entry.1 old groups (unnamed_before winner old entry groups kept))

@@ -39,7 +39,7 @@ last_place xs x = omega (arith, length-append xs (x ∷ []))
 abbrev pub with_terms : {E : Type 0} → GroupView E → List TermView → GroupView E
 with_terms group terms = record group { terms = terms }
 
--- what happens to the last term of a group
+-- if a relation holds between two terms, it holds between the last terms of two groups
 pub in_last : {E : Type 0} {Happens : TermView → TermView → Type 0} (group : GroupView E) (terms : List TermView) (before after : TermView) → Happens before after →
     InLast Happens (with_terms group (terms ++ before ∷ [])) (with_terms group (terms ++ after ∷ []))
 in_last {E} group terms before after happens = record {
@@ -59,7 +59,7 @@ chain greatest (one ∷ first) second old mid new before after = (before.0, befo
 abbrev pub after : {E : Type 0} → Object E → List ℕ → GroupView E → Object E
 after old name group = old ++ (name, group) ∷ []
 
--- what happens to the last group
+-- if a relation holds between two groups, it holds in the book of which they are the last group
 pub in_last_group : {E : Type 0} {Happens : GroupView E → GroupView E → Type 0} (name : List ℕ) (old : Object E) (before now : GroupView E) → find name old ≡ None → Happens before now →
     InGroup name Happens (after old name before) (after old name now)
 in_last_group name old before now free happens = record {

@@ -14,7 +14,7 @@ use Rattle.ring_lives.specs.Replays.{Replays}
 use Rattle.ring_compaction.specs.BookChanges.{moves}
 use Rattle.ring_compaction.proofs.LastGroup.{after, in_last_group}
 
--- neither part holds of what does not hold
+-- if a disjunction is false, so are its parts
 or_false : (a b : Bool) → (a || b) ≡ false → (a ≡ false) × (b ≡ false)
 or_false false b h = (refl, h)
 or_false true b h = absurd (true≢false h)

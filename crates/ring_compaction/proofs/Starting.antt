@@ -18,7 +18,7 @@ use Rattle.ring_compaction.proofs.LastGroup.{after, chain, in_last_group}
 use Rattle.ring_compaction.proofs.Moving.{moving}
 use Rattle.ring_compaction.proofs.Telling.{all_told, none_set}
 
--- where there is no leader, a mark is not set
+-- if there is no leader, no mark is set
 unset_mark : (term : TermView) (position : ℕ) (mark : Bool) → ((p : ℕ) → slice_get term.informed p ≡ Some true → IsSome term.leader) → term.leader ≡ None → slice_get term.informed position ≡ Some mark → slice_get term.informed position ≡ Some false
 unset_mark term position false led none there = there
 unset_mark term position true led none there = absurd (true≢false (sym (led position there) ∙ ap (λ v. is_some v) none))

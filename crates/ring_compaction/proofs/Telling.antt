@@ -25,7 +25,7 @@ led_stays leader [] = refl
 led_stays leader (true ∷ marks) = led_stays leader marks
 led_stays leader (false ∷ marks) = led_stays leader marks
 
--- where a mark was set there is a leader
+-- if a mark was set, there is a leader
 led_once : (leader : ℕ) (marks : List Bool) (position : ℕ) → slice_get marks position ≡ Some true → led None leader marks ≡ Some leader
 led_once leader [] position set = absurd (none-some true set)
 led_once leader (true ∷ marks) position set = led_stays leader marks

@@ -12,8 +12,8 @@ use std::alloc::Global;
 
 /// Returns changes that lead from no groups to this book.
 ///
-/// Members that joined and left again between two terms are not among them. So their number depends on
-/// the groups and terms alone: at most 513 for each group and 769 for each term.
+/// Members that joined and left again between two terms are not among them. So their number depends
+/// on the groups and terms alone: at most 513 for each group and 769 for each term.
 ///
 /// Fails only if an allocation fails.
 pub fn changes_of_book<E: RingElection>(

@@ -17,7 +17,8 @@ pub(crate) fn add_group<E: RingElection>(
     changes: &mut Vec<Change<E>>,
 ) -> Result<(), NoMemory>
     requires { length group.now.1.terms ≤ 1000 }
-    ensures { OnOk result (changes.new.items ≡ changes.old.items ++ group_changes group.now.0 group.now.1) }
+    ensures { OnOk result (changes.new.items
+        ≡ changes.old.items ++ group_changes group.now.0 group.now.1) }
 {
     let name = group.name();
     add(changes, Change::Create(name, group.algorithm()))?;
@@ -51,7 +52,7 @@ fn members_of(alloc: Global, ring: &Roster) -> Result<Vec<NodeId>, NoMemory>
     Ok(members)
 }
 
-// Adds the changes of a term on this ring, whose number this is, after a ring or no members.
+// Adds the changes of the term `number` on `ring`, of which `before` were the members until then.
 fn add_term<E: RingElection>(
     name: GroupName,
     number: TermNo,
@@ -61,7 +62,8 @@ fn add_term<E: RingElection>(
     changes: &mut Vec<Change<E>>,
 ) -> Result<(), NoMemory>
     requires { ring.now ≡ term.now.ring }
-    ensures { OnOk result (changes.new.items ≡ changes.old.items ++ term_changes name number before.now term.now) }
+    ensures { OnOk result (changes.new.items
+        ≡ changes.old.items ++ term_changes name number before.now term.now) }
 {
     add_moves(name, before, ring, changes)?;
     add(changes, Change::Start(name))?;
@@ -71,14 +73,15 @@ fn add_term<E: RingElection>(
     }
 }
 
-// Adds the changes that make other members of these.
+// Adds the changes by which the members `before` become the members `after`.
 fn add_moves<E: RingElection>(
     name: GroupName,
     before: &[NodeId],
     after: &[NodeId],
     changes: &mut Vec<Change<E>>,
 ) -> Result<(), NoMemory>
-    ensures { OnOk result (changes.new.items ≡ changes.old.items ++ moves name before.now after.now) }
+    ensures { OnOk result (changes.new.items
+        ≡ changes.old.items ++ moves name before.now after.now) }
 {
     let mut rest = after;
     for member in before {
@@ -96,7 +99,8 @@ fn add_joins<E: RingElection>(
     members: &[NodeId],
     changes: &mut Vec<Change<E>>,
 ) -> Result<(), NoMemory>
-    ensures { OnOk result (changes.new.items ≡ changes.old.items ++ map (λ node. change.Join name node) members.now) }
+    ensures { OnOk result (changes.new.items
+        ≡ changes.old.items ++ map (λ node. change.Join name node) members.now) }
 {
     for member in members {
         add(changes, Change::Join(name, *member))?;
@@ -113,7 +117,8 @@ fn add_news<E: RingElection>(
     informed: &[bool],
     changes: &mut Vec<Change<E>>,
 ) -> Result<(), NoMemory>
-    ensures { OnOk result (changes.new.items ≡ changes.old.items ++ news name number leader ring.now informed.now) }
+    ensures { OnOk result (changes.new.items
+        ≡ changes.old.items ++ news name number leader ring.now informed.now) }
 {
     let mut marks = informed;
     for member in ring {

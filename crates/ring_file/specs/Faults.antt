@@ -5,11 +5,15 @@ use Rattle.ring_file.specs.declared.place.PlaceFault.TheVariants as place_fault
 
 -- the faults of taking a place
 abbrev pub IsTakeFault : PlaceFault → Type 0
-IsTakeFault fault = (fault ≡ place_fault.InUse) ⊎ (fault ≡ place_fault.Unreadable) ⊎ (fault ≡ place_fault.NoMemory)
+IsTakeFault fault =
+    (fault ≡ place_fault.InUse) ⊎ (fault ≡ place_fault.Unreadable)
+    ⊎ (fault ≡ place_fault.NoMemory)
 
 -- the faults of reading a file
 abbrev pub IsReadFault : PlaceFault → Type 0
-IsReadFault fault = (fault ≡ place_fault.Unreadable) ⊎ (fault ≡ place_fault.NotAFile) ⊎ (fault ≡ place_fault.NoMemory)
+IsReadFault fault =
+    (fault ≡ place_fault.Unreadable) ⊎ (fault ≡ place_fault.NotAFile)
+    ⊎ (fault ≡ place_fault.NoMemory)
 
 -- the faults of replacing a file
 abbrev pub IsBeginFault : PlaceFault → Type 0

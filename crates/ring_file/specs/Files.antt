@@ -12,7 +12,8 @@ abbrev pub text_in : {A : Type 0} → (A → List ℕ) → Option A → Option (
 text_in text None = None
 text_in text (Some batch) = Some (text batch)
 
--- These batches were written, and the first `synced` of them were synced. A restart may find the other
--- text, if there is one.
+-- These batches were written, and the first `synced` of them were synced. A restart may find the
+-- other text, if there is one.
 abbrev pub moment_of : List (List ℕ) → ℕ → Option (List ℕ) → Moment
-moment_of batches synced other = record { text = joined batches; kept = length (joined (take synced batches)); other = other }
+moment_of batches synced other =
+    record { text = joined batches; kept = length (joined (take synced batches)); other = other }

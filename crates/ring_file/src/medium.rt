@@ -10,15 +10,16 @@ use std::snapshot::Snapshot;
 
 /// The file of a journal, which no other process takes as long as this value lives.
 ///
-/// Contracts see the text that the file was begun with and the batches that `append` wrote. They see how
-/// many of these were synced, and the text of a `replace` that failed.
+/// Contracts see the text that the file was begun with and the batches that `append` wrote. They
+/// see how many of these were synced, and the text of a `replace` that failed.
 #[derive(Drop)]
 pub struct FileMedium<R> {
     rt: R,
-    // the lock is let go when this is closed
+    // the lock is released when this is closed
     place: Place,
     tail: Tail,
-    // the text that the file was begun with and each batch that was written, which have no bytes in memory
+    // the text that the file was begun with and each batch that was written, which have no bytes in
+    // memory
     pieces: Vec<Snapshot<Batch>>,
     // how many of them were synced
     synced: usize,
@@ -33,13 +34,17 @@ impl<R> Model for FileMedium<R> {
 
     ghost Value = { Moment };
 
-    ghost view = { λ a. moment_of (map (λ piece. piece.value.bytes) a.pieces.items) a.synced (text_in (λ piece. piece.value.bytes) a.other) };
+    ghost view = { λ a. moment_of
+        (map (λ piece. piece.value.bytes) a.pieces.items)
+        a.synced
+        (text_in (λ piece. piece.value.bytes) a.other) };
 
     ghost invariant = { λ a. a.synced ≤ length a.pieces.items };
 }
 
 impl<R: Replaces + Drop> FileMedium<R> {
-    /// Returns the medium of the file at `place`, which holds `text` and synced zeros. Makes no system call.
+    /// Returns the medium of the file at `place`, which holds `text` and synced zeros. Makes no
+    /// system call.
     pub(crate) fn new(
         alloc: Global,
         rt: R,
@@ -47,7 +52,8 @@ impl<R: Replaces + Drop> FileMedium<R> {
         tail: Tail,
         text: &Batch,
     ) -> Result<FileMedium<R>, AllocError>
-        ensures { IfOk result (λ medium. medium ≡ record { text = text.now.bytes; kept = length text.now.bytes; other = None }) }
+        ensures { IfOk result (λ medium. medium
+            ≡ record { text = text.now.bytes; kept = length text.now.bytes; other = None }) }
     {
         let mut pieces = Vec::with_capacity(alloc, 1)?;
         pieces.push_reserved(Snapshot::of(text));
@@ -89,8 +95,8 @@ impl<R: Replaces + Drop> Medium for FileMedium<R> {
         Ok(())
     }
 
-    /// Replaces the file by a new one that holds `text` and zeros, as `Place::begin` does. It makes the
-    /// same system calls in the same order. The old file is closed after them.
+    /// Replaces the file by a new one that holds `text` and zeros, as `Place::begin` does. It makes
+    /// the same system calls in the same order. The old file is closed after them.
     ///
     /// After a failure, nothing is written any more.
     fn replace(&mut self, text: &Batch) -> Result<(), Fault> {

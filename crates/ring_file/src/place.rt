@@ -36,7 +36,8 @@ impl From<AllocError> for PlaceFault {
 
 /// A handle by which a file takes the place of the journal's, in any thread.
 pub trait Replaces {
-    /// Puts a new file of this text and of zeros after it at a place, as `Place::begin` does, and returns it.
+    /// Puts a new file of this text and of zeros after it at a place, as `Place::begin` does, and
+    /// returns it.
     fn put_in_place(&self, place: &Place, text: &[u8], zeros: &[u8]) -> io::Result<File>;
 }
 
@@ -52,7 +53,7 @@ pub struct Place {
     path: String,
     // the name of a file that is to take the place of the journal's
     new_path: String,
-    // the lock is let go when this is closed
+    // the lock is released when this is closed
     lock: File,
 }
 
@@ -120,7 +121,8 @@ impl Place {
         rt: &R,
         text: &Batch,
     ) -> Result<FileMedium<R>, PlaceFault>
-        ensures ok { IfOk result (λ medium. medium ≡ record { text = text.now.bytes; kept = length text.now.bytes; other = None }) }
+        ensures ok { IfOk result (λ medium. medium
+            ≡ record { text = text.now.bytes; kept = length text.now.bytes; other = None }) }
         ensures err { IfErr result IsBeginFault }
     {
         let zeros = vec![in rt.alloc(); 0; AHEAD]?;
@@ -133,8 +135,8 @@ impl Place {
         }
     }
 
-    /// Makes a new file of this text and of zeros after it, and gives it the name of the journal. It makes
-    /// the system calls that `begin` names, in that order.
+    /// Makes a new file of this text and of zeros after it, and gives it the name of the journal.
+    /// It makes the system calls that `begin` names, in that order.
     pub(crate) fn replace<R: Files<File = File>>(
         &self,
         rt: &R,

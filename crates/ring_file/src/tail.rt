@@ -44,7 +44,7 @@ impl Tail {
         !self.is_broken
     }
 
-    /// Syncs what was written (`fdatasync`). Returns whether it is on the disk.
+    /// Syncs the bytes that were written (`fdatasync`). Returns whether they are on the disk.
     ///
     /// After a failure, in this call or an earlier one, nothing is synced any more.
     pub(crate) fn sync(&mut self) -> bool {
@@ -52,8 +52,8 @@ impl Tail {
         !self.is_broken
     }
 
-    /// Replaces the file at `place` by a new one that holds these bytes and zeros, and goes on with that
-    /// one. Returns whether it is on the disk under its name.
+    /// Replaces the file at `place` by a new one that holds these bytes and zeros, and goes on with
+    /// that one. Returns whether it is on the disk under its name.
     ///
     /// After a failure, in this call or an earlier one, nothing is written any more.
     pub(crate) fn replace<R: Replaces>(&mut self, rt: &R, place: &Place, bytes: &[u8]) -> bool {

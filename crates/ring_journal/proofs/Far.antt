@@ -35,7 +35,7 @@ found_byte bytes = elim (nat_lt (position_or_len is_byte bytes) (length bytes)) 
       | false ↦ λ past k d below. no_byte _ (fails_before_first is_byte bytes k d (omega (arith, ltb-false _ _ past, below)))
     ] refl
 
--- the part that is searched is all that is far enough
+-- the bytes that are searched are all that are far enough
 abbrev pub far_bytes : List ℕ → ℕ → List ℕ
 far_bytes found far = take (length found - far) (drop far found)
 
@@ -72,6 +72,6 @@ bad_whole found at bad whole =
     let n = length (front found) + 65536 in
     bad.byte (ap (λ (k : ℕ). get_or found k 0) (omega (arith, bad.far)) ∙ sym (get_or-drop n found (at - n) 0) ∙ whole (at - n) 0 (omega (arith, bad.far, bad.inside, length-drop n found)))
 
--- how far the search starts, without a sum that could wrap
+-- the place where the search starts, without a sum that could wrap
 pub starts_far : (end len : ℕ) → end ≤ len → end + min 65536 (len - end) ≡ min (end + 65536) len
 starts_far end len within = grind (arith, within)

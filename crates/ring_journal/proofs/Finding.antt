@@ -1,5 +1,4 @@
--- What a restart finds of a text with no zero in it: the first of its bytes, and no fewer than were
--- kept.
+-- A restart finds the first bytes of a text with no zero in it, and no fewer than were kept.
 use Rattle.std.proofs.Common.{◌≡◌, ◌≢◌, ◌≤◌, ◌==◌, inl, inr, ℕ, zero, suc, List, [], ◌∷◌, ◌++◌, length, take, refl, ap, sym, ◌∙◌, arith}
 use Rattle.std.proofs.lemmas.Bool.{cond-true, cond-false, eq-eqb, ne_eqb}
 use Rattle.ring_journal.specs.Moments.{MayFind}

@@ -23,7 +23,7 @@ front_step byte found = elim (byte == 0) as (λ b. length (cond b [] (byte ∷ f
 pub front_len : (found : List ℕ) → length (front found) ≡ position_or_len is_zero found
 front_len found = is_position_or_len (λ (l : List ℕ). length (front l)) is_zero refl front_step found
 
--- the place of the first zero, or the length of a file with none, is how long its front is
+-- the length of the front is the place of the first zero, or the length of a file without zeros
 pub zero_place : (found : List ℕ) → unwrap_or (position is_zero found) (length found) ≡ length (front found)
 zero_place found = elim (nat_lt (position_or_len is_zero found) (length found)) as
     (λ b. nat_lt (position_or_len is_zero found) (length found) ≡ b → unwrap_or (cond b (Some (position_or_len is_zero found)) None) (length found) ≡ length (front found)) [
@@ -31,7 +31,7 @@ zero_place found = elim (nat_lt (position_or_len is_zero found) (length found)) 
       | false ↦ λ past. omega (arith, front_len found, ltb-false _ _ past, prefix_len-le-length (λ byte. not (is_zero byte)) found)
     ] refl
 
--- the front is the first of the file
+-- the front of a file is its first bytes
 pub take_front : (found : List ℕ) → take (length (front found)) found ≡ front found
 take_front [] = refl
 take_front (byte ∷ found) = elim (byte == 0) as (λ b. take (length (cond b [] (byte ∷ front found))) (byte ∷ found) ≡ cond b [] (byte ∷ front found)) [

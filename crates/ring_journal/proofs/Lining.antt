@@ -63,7 +63,7 @@ lines_of_first (line ∷ lines) n are = elim (cuts line (text_of lines) n are.0)
       }
 ]
 
--- the text of the first lines is the first of the text
+-- the text of the first lines is a prefix of the text of all
 pub text_of_first : (lines : List (List ℕ)) (k : ℕ) → (rest : List ℕ) × (text_of lines ≡ text_of (take k lines) ++ rest)
 text_of_first lines zero = (text_of lines, refl)
 text_of_first [] (suc k) = ([], refl)
@@ -71,8 +71,8 @@ text_of_first (line ∷ lines) (suc k) =
     let more = text_of_first lines k in
     (more.0, ap (λ (t : List ℕ). line ++ 10 ∷ t) more.1 ∙ sym (append_assoc line (10 ∷ text_of (take k lines)) more.0))
 
--- A restart finds the first of the lines of which this text is the front, and no fewer than these
--- whose text is kept.
+-- This text is a prefix of the text of these lines. A restart finds the first of the lines, and no
+-- fewer than those whose text is kept.
 pub finds_first : (lines : List (List ℕ)) (text rest : List ℕ) (some kept : ℕ) (found : List ℕ)
     → AreLines lines → text ++ rest ≡ text_of lines → some ≤ length lines → length (text_of (take some lines)) ≤ kept → MayFind found text kept
     → AreFirst lines some (lines_in found)

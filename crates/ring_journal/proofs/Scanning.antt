@@ -40,7 +40,7 @@ reads_lf found at whole next r inside lf is =
       within = omega (arith, inside, is);
     }
 
--- another byte goes on with it
+-- another byte goes on with the line
 pub reads_byte : (found : List ℕ) (at whole next : ℕ) → Reads found at whole → at < length found → get_or found at 0 ≢ 10 → get_or found at 0 ≢ 0 → next ≡ at + 1 → Reads found next whole
 reads_byte found at whole next r inside lf some is = record {
   lines = r.lines;
@@ -82,7 +82,7 @@ pub whole_within : (found : List ℕ) (at whole : ℕ) → Reads found at whole 
 whole_within found at whole r =
     omega (arith, r.end, r.within, ap length r.split, length-append (text_of r.lines) r.rest, length-take-le at found r.within)
 
--- a byte that is a zero is the first of the rest
+-- if the byte at a place is a zero, so is the first of the rest
 pub zero_first : (found : List ℕ) (at : ℕ) → at < length found → get_or found at 0 ≡ 0 → get_or (drop at found) 0 1 ≡ 0
 zero_first [] at inside is = absurd (omega (arith, inside))
 zero_first (byte ∷ found) zero inside is = is

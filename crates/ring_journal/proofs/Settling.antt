@@ -1,4 +1,5 @@
--- What a crash finds while a journal is settled, and the journal afterwards.
+-- The lines that a restart finds if the crash comes while a journal is settled, and the journal
+-- afterwards.
 use Rattle.std.proofs.Common.{◌≡◌, ◌+◌, ◌≤◌, ℕ, Bool, false, List, [], ◌++◌, length, take, refl, ap, sym, ◌∙◌, subst, arith, append_assoc, append-nil, length-append}
 use Rattle.std.proofs.lemmas.List.{length-take-le, take_all}
 use Rattle.ring_journal.specs.Moments.{Grows, MayFind, Moment}
@@ -9,7 +10,8 @@ use Rattle.ring_journal.proofs.Finding.{HasNoZero, no_zero_front, no_zero_text}
 use Rattle.ring_journal.proofs.Lining.{finds_first, kept_lines, lines_of_text}
 use Rattle.ring_journal.proofs.Zeros.{whole_find}
 
--- A crash at any moment between the one before and one at which the same lines are written or wait.
+-- A crash comes between a moment and one at which the same lines are written or pending. A restart
+-- then finds the first of these lines.
 pub crash_finds : (disk : Moment) (batch : List ℕ) (broken : Bool) → (j : IsJournal disk batch broken) → (new : Moment) (rest : List ℕ) → new.text ++ rest ≡ disk.text ++ batch
     → length new.text ≤ disk.kept + 65536
     → (m : Moment) → Grows disk m → Grows m new → (found : List ℕ) → MayFind found m.text m.kept
@@ -26,14 +28,14 @@ crash_finds disk batch broken j new rest same near m from to found find =
       whole = whole_find found m.text m.kept no_zero find short;
     }
 
--- if the batch follows what was kept, all that was written is within a batch of it
+-- if the batch follows the kept bytes, no more than a batch is written and not kept
 pub near_batch : (disk : Moment) (batch : List ℕ) (j : IsJournal disk batch false) (text : List ℕ) → text ≡ disk.text ++ batch → length text ≤ disk.kept + 65536
 near_batch disk batch j text is = omega (arith, j.synced refl, j.short, ap length is, length-append disk.text batch)
 
 pub near_same : (disk : Moment) (batch : List ℕ) (broken : Bool) (j : IsJournal disk batch broken) (text : List ℕ) → text ≡ disk.text → length text ≤ disk.kept + 65536
 near_same disk batch broken j text is = omega (arith, j.near, ap length is)
 
--- all that was added is written and kept
+-- a journal whose lines are all written and kept
 pub settled_journal : (disk : Moment) (batch : List ℕ) (broken now : Bool) → (j : IsJournal disk batch broken) → (new : Moment) (rest : List ℕ) → rest ≡ [] → new.text ≡ disk.text ++ batch → new.kept ≡ length new.text → IsJournal new rest now
 settled_journal disk batch broken now j new rest none text kept =
     let whole : new.text ≡ text_of j.lines = text ∙ j.whole in
@@ -50,7 +52,8 @@ settled_journal disk batch broken now j new rest none text kept =
       short = omega (arith, ap length none);
     }
 
--- The same lines are written or wait, and no more are kept. It is broken if more was written.
+-- The same lines are written or pending, and no more are kept. The journal is broken if more was
+-- written.
 pub broken_journal : (disk : Moment) (batch : List ℕ) (broken now : Bool) → (j : IsJournal disk batch broken) → (new : Moment) (rest : List ℕ) → new.text ++ rest ≡ disk.text ++ batch → new.kept ≡ disk.kept → new.kept ≤ length new.text
     → (now ≡ false → new.kept ≡ length new.text) → length new.text ≤ disk.kept + 65536 → length rest ≤ 65536 → IsJournal new rest now
 broken_journal disk batch broken now j new rest same kept within synced near short = record {
@@ -83,7 +86,7 @@ new_journal disk batch none has kept =
       short = omega (arith, ap length none);
     }
 
--- a text of which all is kept: a restart finds all of its lines
+-- if all of a text is kept, a restart finds all of its lines
 pub finds_all : (text : List ℕ) → HasAll text → FindsAll text
 finds_all text has found find =
     let lines = whole_lines_of text in

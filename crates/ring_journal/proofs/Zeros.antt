@@ -23,7 +23,7 @@ zeros_after (suc n) (byte ∷ found) [] kept find within = zeros_after n found [
 zeros_after (suc n) (byte ∷ found) (wrote ∷ text) zero find within = zeros_after n found text 0 find.1 (omega (arith, within))
 zeros_after (suc n) (byte ∷ found) (wrote ∷ text) (suc kept) find within = zeros_after n found text kept find.1 (omega (arith, within))
 
--- So a file is whole if no more than a batch was written and not kept.
+-- a file is whole if no more than a batch was written and not kept
 pub whole_find : (found text : List ℕ) (kept : ℕ) → HasNoZero text → MayFind found text kept → length text ≤ kept + 65536 → IsWhole found
 whole_find found text kept some find near =
     let at = front_of found text kept some find in

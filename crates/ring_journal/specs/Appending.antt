@@ -1,4 +1,4 @@
--- What a call that writes leaves.
+-- The text and the moment after a call that writes.
 use Rattle.std.specs.Prelude.{ℕ, List, ◌++◌, Option, Some, None, Result, Ok, Err, length}
 use Rattle.ring_journal.specs.Moments.{Moment}
 use Rattle.ring_journal.specs.declared.medium.Fault.{Fault}
@@ -15,8 +15,8 @@ appended (Err NoMemory) text batch = text
 abbrev pub with_other : Moment → List ℕ → Moment
 with_other moment other = record { text = moment.text; kept = moment.kept; other = Some other }
 
--- A text takes the place of the old one, all of it synced. If the disk failed, a restart may find either
--- text. If an allocation failed, nothing was written.
+-- A text takes the place of the old one, all of it synced. If the disk failed, a restart may find
+-- either text. If an allocation failed, nothing was written.
 abbrev pub replaced : Result (Unit {0}) Fault → Moment → List ℕ → Moment
 replaced (Ok done) old text = record { text = text; kept = length text; other = None }
 replaced (Err Failed) old text = with_other old text

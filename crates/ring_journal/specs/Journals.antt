@@ -1,4 +1,4 @@
--- What contracts see of a batch and of a journal.
+-- The views of a batch and of a journal, which contracts see.
 use Rattle.std.specs.Prelude.{◌≡◌, ◌≤◌, ℕ, ◌+◌, ◌-◌, Bool, List, [], ◌∷◌, ◌++◌, length, take, min}
 use Rattle.ring_journal.specs.Moments.{Grows, MayFind, Moment}
 use Rattle.ring_journal.specs.Lines.{AreFirst, AreLines, lines_in, text_of, whole_lines_of}
@@ -59,18 +59,22 @@ pub record Finds (lines : List (List ℕ)) (fewest : ℕ) (found : List ℕ) : T
   pub first : AreFirst lines fewest (lines_in found)
   pub whole : IsWhole found
 
--- If a restart finds what is left of this text, all of it synced, it finds all of its lines.
+-- If all of this text was synced, a restart finds all of its lines.
 abbrev pub FindsAll : List ℕ → Type 0
-FindsAll text = (found : List ℕ) → MayFind found text (length text) → Finds (whole_lines_of text) (length (whole_lines_of text)) found
+FindsAll text =
+    (found : List ℕ) → MayFind found text (length text)
+    → Finds (whole_lines_of text) (length (whole_lines_of text)) found
 
--- If a crash comes at any moment between these two, a restart finds the first of the lines, and at
--- least those that were settled before.
+-- If a crash comes at any moment between these two, a restart finds the first of the lines. It
+-- finds at least those that were settled before.
 abbrev pub FindsFirst : JournalView → JournalView → Type 0
 FindsFirst old new =
-    (m : Moment) → Grows old.disk m → Grows m new.disk → (found : List ℕ) → MayFind found m.text m.kept → Finds new.lines (settled old) found
+    (m : Moment) → Grows old.disk m → Grows m new.disk
+    → (found : List ℕ) → MayFind found m.text m.kept
+    → Finds new.lines (settled old) found
 
--- If a crash comes while this text takes the place of a journal's text, a restart finds the lines that it
--- finds before, or all lines of the new text.
+-- A crash comes while this text takes the place of a journal's. A restart then finds the lines as
+-- before, or all lines of the new text.
 pub record FindsEither (old : JournalView) (text : List ℕ) : Type 0 where
   pub before : FindsFirst old old
   pub after : FindsAll text

@@ -1,4 +1,4 @@
--- What contracts see of a medium in memory.
+-- The view of a medium in memory, which contracts see.
 use Rattle.std.specs.Prelude.{ℕ, List, None}
 use Rattle.ring_journal.specs.Moments.{Moment}
 use Rattle.ring_journal.specs.declared.memory.MemoryMedium.{MemoryMedium}

@@ -20,7 +20,10 @@ impl Model for Batch {
 
     ghost Value = { BatchView };
 
-    ghost view = { λ a. record { bytes = a.bytes.items; room = vec_capacity a.bytes - vec_len a.bytes } };
+    ghost view = { λ a. record {
+      bytes = a.bytes.items;
+      room = vec_capacity a.bytes - vec_len a.bytes;
+    } };
 }
 
 impl From<Vec<u8>> for Batch {

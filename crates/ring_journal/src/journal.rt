@@ -53,8 +53,8 @@ impl<D: Medium + Drop> Model for Journal<D> {
 }
 
 impl<D: Medium + Drop> Journal<D> {
-    /// Returns a journal of the lines that `medium` holds, all of them settled. The disk counts as one that
-    /// never failed. Does not allocate.
+    /// Returns a journal of the lines that `medium` holds, all of them settled. The disk counts as
+    /// one that never failed. Does not allocate.
     pub fn new(alloc: Global, medium: D) -> Journal<D>
         requires lines { HasAll (D.moment medium).text }
         requires kept { (D.moment medium).kept ≡ length (D.moment medium).text }
@@ -78,8 +78,8 @@ impl<D: Medium + Drop> Journal<D> {
         &self.medium
     }
 
-    /// Returns how many bytes are pending, each line counted with its LF. The second clause is a law of
-    /// every journal: it says what a restart finds if the crash comes now.
+    /// Returns how many bytes are pending, each line counted with its LF. The second clause is a
+    /// law of every journal, for a crash that comes now.
     pub fn pending(&self) -> usize
         ensures value { result ≡ self.now.pending }
         ensures any_moment { FindsFirst self.now self.now }
@@ -128,7 +128,8 @@ impl<D: Medium + Drop> Journal<D> {
         requires { IsLine line.now }
         ensures ok { OnOk result (Adds self.old line.now self.new) }
         ensures err { OnErr result (IsSame self.old self.new) }
-        ensures full { (result ≡ Err room_fault.Full) ↔ (65536 ≤ self.old.pending + length line.now) }
+        ensures full { (result ≡ Err room_fault.Full)
+            ↔ (65536 ≤ self.old.pending + length line.now) }
         ensures any_moment { FindsFirst self.old self.new }
     {
         self.reserve(line.len().saturating_add(1))?;
@@ -136,16 +137,18 @@ impl<D: Medium + Drop> Journal<D> {
         Ok(())
     }
 
-    /// Replaces the lines by those of `text`, all of them settled. Lines that are pending are dropped.
+    /// Replaces the lines by those of `text`, all of them settled. Lines that are pending are
+    /// dropped.
     ///
-    /// If a crash comes inside the call, a restart finds what it finds before, or all lines of `text`.
-    /// After `Failed` it may find either from then on, and no call settles a line any more.
+    /// If a crash comes inside the call, a restart finds the lines as before, or all lines of
+    /// `text`. After `Failed` it may find either from then on, and no call settles a line any more.
     pub fn replace(&mut self, text: &Batch) -> Result<(), Fault>
         requires { HasAll text.now.bytes }
         ensures lines { OnOk result (self.new.lines ≡ whole_lines_of text.now.bytes) }
         ensures settled { OnOk result (settled self.new ≡ length self.new.lines) }
         ensures pending { OnOk result (self.new.pending ≡ 0) }
-        ensures disk { self.old.is_broken ≡ false → self.new.disk ≡ replaced result self.old.disk text.now.bytes }
+        ensures disk { self.old.is_broken ≡ false
+            → self.new.disk ≡ replaced result self.old.disk text.now.bytes }
         ensures err { OnErr result (self.new.lines ≡ self.old.lines) }
         ensures failed { (result ≡ Err fault.Failed) ↔ IsTrue self.new.is_broken }
         ensures broken { IsTrue self.old.is_broken → self.new.disk ≡ self.old.disk }

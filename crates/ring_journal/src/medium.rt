@@ -16,15 +16,16 @@ pub enum Fault {
     Failed,
 }
 
-/// A text that grows, until another text takes its place. `MayFind` says which files a crash may leave
-/// of it.
+/// A text that grows, until another text takes its place. `MayFind` says which files a crash may
+/// leave of it.
 ///
 /// The ghost member `moment` has the bytes that were written so far, and how many of the first ones
 /// are synced. It has another text too, if a restart may find that one in their place.
 ///
-/// A crash may come between two calls or inside one. A restart then finds a file that `MayFind` allows
-/// at some moment between the one before that call and the one after it. If the crash comes inside
-/// `replace`, it is the moment before, the moment after, or the moment before with the other text.
+/// A crash may come between two calls or inside one. A restart then finds a file that `MayFind`
+/// allows at some moment between the one before that call and the one after it. If the crash comes
+/// inside `replace`, it is the moment before, the moment after, or the moment before with the other
+/// text.
 pub trait Medium {
     ghost use Rattle.ring_journal.specs.Moments.{Moment};
 
@@ -33,7 +34,8 @@ pub trait Medium {
     /// Writes a batch after the text. If the disk fails, the batch counts as written, since it may
     /// be there.
     fn append(&mut self, batch: &Batch) -> Result<(), Fault>
-        ensures text { (moment self.new).text ≡ appended result (moment self.old).text batch.now.bytes }
+        ensures text { (moment self.new).text
+            ≡ appended result (moment self.old).text batch.now.bytes }
         ensures kept { (moment self.new).kept ≡ (moment self.old).kept }
         ensures other { (moment self.new).other ≡ (moment self.old).other };
 

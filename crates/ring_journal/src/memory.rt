@@ -45,7 +45,8 @@ impl Medium for MemoryMedium {
     /// Adds the bytes of the batch. Fails only if an allocation fails, and then the text is as
     /// before.
     fn append(&mut self, batch: &Batch) -> Result<(), Fault>
-        ensures text { memory_text self.new ≡ appended result (memory_text self.old) batch.now.bytes }
+        ensures text { memory_text self.new
+            ≡ appended result (memory_text self.old) batch.now.bytes }
         ensures kept { memory_kept self.new ≡ memory_kept self.old }
         ensures err { OnErr result (result ≡ Err fault.NoMemory) }
     {
@@ -65,10 +66,11 @@ impl Medium for MemoryMedium {
         Ok(())
     }
 
-    /// Holds `text` from now on, and notes that it is synced. Fails only if an allocation fails, and
-    /// then the text is as before.
+    /// Holds `text` from now on, and notes that it is synced. Fails only if an allocation fails,
+    /// and then the text is as before.
     fn replace(&mut self, text: &Batch) -> Result<(), Fault>
-        ensures moment { memory_moment self.new ≡ replaced result (memory_moment self.old) text.now.bytes }
+        ensures moment { memory_moment self.new
+            ≡ replaced result (memory_moment self.old) text.now.bytes }
         ensures err { OnErr result (result ≡ Err fault.NoMemory) }
     {
         let Ok(()) = self.text.reserve(text.len()) else {

@@ -63,21 +63,21 @@ impl<'a> Iterator for Lines<'a> {
     }
 }
 
-// How long the first line is, if an LF ends it.
+// The length of the first line; `None` if no LF ends it.
 fn line_len(text: &[u8]) -> Option<usize>
     ensures { EndsFirst text.now result }
 {
     place_of(LF, text)
 }
 
-// Where the first such byte is, if there is one.
+// The place of the first byte that is `byte`; `None` if there is none.
 fn place_of(byte: u8, bytes: &[u8]) -> Option<usize>
     ensures { result ≡ position (λ other. other == byte) bytes.now }
 {
     bytes.iter().position(|&other| other == byte)
 }
 
-// Where the first byte is that is not a zero, if there is one.
+// The place of the first byte that is not a zero; `None` if there is none.
 fn byte_at(bytes: &[u8]) -> Option<usize>
     ensures { result ≡ position (λ byte. not (byte == 0)) bytes.now }
 {

@@ -1,4 +1,4 @@
--- How far the lines of changes were listed.
+-- The lines of changes that were listed, and those that are left.
 use Rattle.std.proofs.Common.{◌≡◌, ◌∙◌, ℕ, List, [], ◌∷◌, ◌++◌, All, Bor, Option, None, Some, ap, refl, sym}
 use Rattle.std.specs.Iterator.{YieldsFirstRef}
 use Rattle.std.proofs.lemmas.List.{append-nil, append_assoc}
@@ -11,7 +11,8 @@ use Rattle.ring_listing.specs.Listing.{change_text, groups_text}
 use Rattle.ring_recovery.specs.JournalLines.{marked_lines}
 use Rattle.ring_terms.specs.Object.{Object}
 
--- The lines that are left are those of the last of these changes, and the text was that of the others.
+-- The lines that are left are those of the last of these changes, and the text was that of the
+-- others.
 pub record IsBehind (book : Object Any) (old : List ℕ) (changes : List (Change Any)) (check : ℕ) (left : List (List ℕ)) (text : List ℕ) : Type 0 where
   pub done : List (Change Any)
   pub rest : List (Change Any)

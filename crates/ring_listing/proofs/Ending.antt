@@ -1,4 +1,4 @@
--- Where the text of a journal ends, and that a text of lines is whole.
+-- The end of the text of a journal; a text of lines is whole.
 use Rattle.std.proofs.Common.{◌≡◌, ◌∙◌, ◌≤◌, ℕ, List, [], ◌∷◌, length, take, ap, arith, refl, subst, sym}
 use Rattle.ring_journal.specs.Journals.{HasAll}
 use Rattle.ring_journal.specs.Lines.{lines_in, text_of, whole_lines_of}
@@ -18,11 +18,11 @@ found_itself (byte ∷ text) = (refl, found_itself text)
 no_zero_in : (text : List ℕ) → HasAll text → HasNoZero text
 no_zero_in text all = subst HasNoZero (sym all.all) (no_zero_text (whole_lines_of text) all.are)
 
--- so no restart refuses it
+-- no restart refuses a text of lines
 pub text_is_whole : (text : List ℕ) → HasAll text → IsWhole text
 text_is_whole text all = whole_find text text (length text) (no_zero_in text all) (found_itself text) (omega arith)
 
--- and finds its lines
+-- a restart that finds a text of lines finds these lines
 pub finds_lines : (text : List ℕ) → HasAll text → lines_in text ≡ whole_lines_of text
 finds_lines text all =
     let found = front_of text text (length text) (no_zero_in text all) (found_itself text) in

@@ -9,7 +9,7 @@ use Rattle.ring_change.specs.Lines.{IsMarked, check_behind, marked_line}
 use Rattle.ring_change.specs.Spelling.{IsChange, SpellsChange, change_line}
 use Rattle.ring_grammar.specs.OneSpelling.{HaveOneSpelling}
 
--- texts with equally long ends that are the same are the same before these
+-- if two texts are the same and their ends have one length, they are the same before these ends
 same_front : (xs ys a b : List ℕ) → length a ≡ length b → xs ++ a ≡ ys ++ b → xs ≡ ys
 same_front xs ys a b long same =
     let lengths : length xs + length a ≡ length ys + length b = sym (length-append xs a) ∙ ap length same ∙ length-append ys b in

@@ -1,4 +1,4 @@
--- The lines that say what a journal holds.
+-- The listing of a journal, as text.
 use Rattle.std.specs.Prelude.{◌≡◌, ◌≢◌, ◌⊎◌, ◌≤◌, ◌<◌, ℕ, ◌-◌, List, [], ◌∷◌, ◌++◌, Option, Some, None, codes, length, slice_index}
 use Rattle.std.specs.Fmt.{decimal}
 use Rattle.ring_any.specs.Any.{word_of}
@@ -18,8 +18,12 @@ head_line name algorithm = codes "group " ++ name ++ codes " " ++ word_of algori
 
 -- the lines of a group, given its members and the leaders of its terms
 abbrev pub lines_of_group : List ℕ → Any → List ℕ → List (Option ℕ) → List ℕ
-lines_of_group name algorithm members leads = head_line name algorithm ++ codes "  " ++ reply_line (reply.Members members) ++ codes "  " ++ reply_line (reply.Terms leads)
+lines_of_group name algorithm members leads =
+    head_line name algorithm
+    ++ codes "  " ++ reply_line (reply.Members members)
+    ++ codes "  " ++ reply_line (reply.Terms leads)
 
+-- the lines of a group, if there is one
 abbrev pub group_text : List ℕ → Any → Option (GroupView Any) → List ℕ
 group_text name algorithm None = []
 group_text name algorithm (Some group) = lines_of_group name algorithm group.members (leaders group)
@@ -41,22 +45,31 @@ groups_text groups (change ∷ changes) = change_text groups change ++ groups_te
 abbrev pub life_text : ℕ → List ℕ
 life_text life = codes "whole: life " ++ decimal life ++ codes ", "
 
--- the rest of the last line: how many changes there are, at which byte their text ends, and how many bytes
--- of a torn tail follow it
+-- the rest of the last line: the number of changes, the byte at which their text ends, and the
+-- length of the torn tail
 abbrev pub end_text : ℕ → ℕ → ℕ → List ℕ
-end_text changes end torn = decimal changes ++ codes " changes end at byte " ++ decimal end ++ codes ", " ++ decimal torn ++ codes " bytes of a torn tail are dropped\n"
+end_text changes end torn =
+    decimal changes ++ codes " changes end at byte "
+    ++ decimal end ++ codes ", "
+    ++ decimal torn ++ codes " bytes of a torn tail are dropped\n"
 
--- So many bytes are in use: zeros alone follow them, and the last of them is no zero.
+-- The first `used` bytes are in use: only zeros follow them, and the last of them is no zero.
 pub record IsUsed (found : List ℕ) (used : ℕ) : Type 0 where
   pub within : used ≤ length found
   pub zeros : (k : ℕ) → used ≤ k → k < length found → slice_index found k ≡ 0
   pub last : (used ≡ 0) ⊎ (slice_index found (used - 1) ≢ 0)
 
--- The text says what a table that is recovered from these bytes holds, and in which life they were
--- written. It is 0 if the file has no line.
+-- The text lists a table that is recovered from these bytes, and the life in which they were
+-- written. That life is 0 if the file has no line.
 pub record Lists (found text : List ℕ) : Type 0 where
   pub recovered : RecoveredView
   pub recovers : Recovers found recovered
   pub used : ℕ
   pub in_use : IsUsed found used
-  pub lines : text ≡ groups_text recovered.book (changes_of recovered.history) ++ life_text (recovered.life - 1) ++ end_text (length recovered.history) (length (text_of (lines_in found))) (used - length (text_of (lines_in found)))
+  pub lines : text
+      ≡ groups_text recovered.book (changes_of recovered.history)
+      ++ life_text (recovered.life - 1)
+      ++ end_text
+      (length recovered.history)
+      (length (text_of (lines_in found)))
+      (used - length (text_of (lines_in found)))

@@ -18,15 +18,16 @@ use ring_recovery::Recovered;
 use ring_terms::{Book, MemberList, TermList};
 use std::alloc::Global;
 
-/// Adds the lines of each group of a recovered table, in order of creation. Fails only if an allocation
-/// fails.
+/// Adds the lines of each group of a recovered table, in order of creation. Fails only if an
+/// allocation fails.
 pub(crate) fn put_groups(
     alloc: Global,
     recovered: &Recovered,
     text: &mut Vec<u8>,
 ) -> Result<(), NoMemory>
     requires { All IsChange (changes_of recovered.now.history) }
-    ensures { OnOk result (text.new.items ≡ text.old.items ++ groups_text recovered.now.book (changes_of recovered.now.history)) }
+    ensures { OnOk result (text.new.items
+        ≡ text.old.items ++ groups_text recovered.now.book (changes_of recovered.now.history)) }
 {
     let Ok(mut lines) = read_lines(recovered.text().bytes()) else {
         unreachable!("the text has no zero")
@@ -42,7 +43,8 @@ fn put_lines(
     lines: Lines<'_>,
     text: &mut Vec<u8>,
 ) -> Result<(), NoMemory>
-    ensures { (changes : List (Change Any)) → lines.entry ≡ marked_lines first_check changes → All IsChange changes
+    ensures { (changes : List (Change Any))
+        → lines.entry ≡ marked_lines first_check changes → All IsChange changes
         → OnOk result (text.new.items ≡ text.old.items ++ groups_text book.now changes) }
 {
     let mut check = Check::new();
@@ -60,8 +62,10 @@ fn put_line(
     check: &mut Check,
     text: &mut Vec<u8>,
 ) -> Result<(), NoMemory>
-    ensures check { (change : Change Any) → IsChange change → line.now ≡ marked_line check.old change → check.new ≡ check_behind check.old change }
-    ensures text { (change : Change Any) → IsChange change → line.now ≡ marked_line check.old change
+    ensures check { (change : Change Any) → IsChange change
+        → line.now ≡ marked_line check.old change → check.new ≡ check_behind check.old change }
+    ensures text { (change : Change Any) → IsChange change
+        → line.now ≡ marked_line check.old change
         → OnOk result (text.new.items ≡ text.old.items ++ change_text book.now change) }
 {
     // no two changes have this line
@@ -95,7 +99,8 @@ fn put_group(
     algorithm: Any,
     text: &mut Vec<u8>,
 ) -> Result<(), NoMemory>
-    ensures { OnOk result (text.new.items ≡ text.old.items ++ group_text name algorithm (find name book.now)) }
+    ensures { OnOk result (text.new.items
+        ≡ text.old.items ++ group_text name algorithm (find name book.now)) }
 {
     let members = match book.members(alloc, name) {
         Ok(members) => members,
@@ -119,7 +124,8 @@ fn put_three(
     leaders: &TermList,
     text: &mut Vec<u8>,
 ) -> Result<(), SinkFailed>
-    ensures { OnOk result (text.new.items ≡ text.old.items ++ lines_of_group name algorithm members.now leaders.now) }
+    ensures { OnOk result (text.new.items
+        ≡ text.old.items ++ lines_of_group name algorithm members.now leaders.now) }
 {
     put_head(name, algorithm, text)?;
     text.put(b"  ")?;

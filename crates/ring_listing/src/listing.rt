@@ -10,12 +10,14 @@ use ring_journal::whole_len;
 use ring_recovery::{RecoverFault, Recovered, recover};
 use std::alloc::Global;
 
-/// Returns the lines that say what the journal with these bytes holds.
+/// Returns the listing of the journal with these bytes, as lines of text.
 ///
-/// For each group, in order of creation, there are three lines: its name and its algorithm, its members
-/// as `members` replies them, and the leaders of its terms as `terms` does. The last line says the number
-/// of the journal's life, how many changes there are and at which byte their text ends. It also says how
-/// many bytes of a torn tail follow the text, which a restart drops.
+/// Each group has three lines, in order of creation. The first has its name and its algorithm. The
+/// second has its members as `members` replies them. The third has the leaders of its terms as
+/// `terms` replies them.
+///
+/// The last line has the number of the journal's life, the number of changes and the byte at which
+/// their text ends. It also has the length of the torn tail after the text, which a restart drops.
 ///
 /// Refuses the bytes that `recover` refuses, for the same reason.
 pub fn list_journal(alloc: Global, found: Vec<u8>) -> Result<Vec<u8>, RecoverFault>
@@ -33,7 +35,7 @@ pub fn list_journal(alloc: Global, found: Vec<u8>) -> Result<Vec<u8>, RecoverFau
     }
 }
 
-// How many bytes there are up to the last one that is not a zero.
+// The number of bytes up to the last one that is not a zero.
 fn used_len(found: &[u8]) -> usize
     ensures used { IsUsed found.now result }
 {
@@ -52,7 +54,10 @@ fn used_len(found: &[u8]) -> usize
 // The lines of a recovered table, and the line about its text.
 fn list(alloc: Global, recovered: &Recovered, end: usize, torn: usize) -> Result<Vec<u8>, NoMemory>
     requires { All IsChange (changes_of recovered.now.history) }
-    ensures { IfOk result (λ text. text.items ≡ groups_text recovered.now.book (changes_of recovered.now.history) ++ life_text (recovered.now.life - 1) ++ end_text (length recovered.now.history) end torn) }
+    ensures { IfOk result (λ text. text.items
+        ≡ groups_text recovered.now.book (changes_of recovered.now.history)
+        ++ life_text (recovered.now.life - 1)
+        ++ end_text (length recovered.now.history) end torn) }
 {
     let mut text = Vec::new(alloc);
     put_groups(alloc, recovered, &mut text)?;

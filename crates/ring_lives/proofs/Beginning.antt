@@ -43,7 +43,7 @@ module _ {E : Type 0} (two_way greatest : E → Bool) where
       let start = parted two_way greatest life.opening (kept life) [] cut.mid cut.before in
       record { begun = start.mid; ended = cut.mid; before = start.before; after = start.after }
 
-  -- what is left of a life is a legal history
+  -- the entries that are left of a life are a legal history
   pub left_legal : (life : Life E) (o : Opened life) → IsLegal two_way greatest (life.opening ++ kept life) o.ended
   left_legal life o = joined two_way greatest life.opening (kept life) [] o.begun o.ended o.before o.after
 
@@ -53,7 +53,7 @@ module _ {E : Type 0} (two_way greatest : E → Bool) where
       replays_exact greatest (changes_of life.opening) [] o.begun alike.groups (follows_replays two_way greatest life.opening [] o.begun o.before) alike.by_first
       ∙ replays_exact greatest (changes_of before) [] alike.groups at alike.by_second (follows_replays two_way greatest before [] at legal)
 
-  -- and ends with the same
+  -- a life ends with the groups that it would end with if it were opened with other entries
   alike_after : (life : Life E) (o : Opened life) (before : List (Entry E)) → LeadAlike greatest life.opening before → LeadAlike greatest (life.opening ++ kept life) (before ++ kept life)
   alike_after life o before alike =
       let same : alike.groups ≡ o.begun = replays_exact greatest (changes_of life.opening) [] alike.groups o.begun alike.by_first (follows_replays two_way greatest life.opening [] o.begun o.before) in
@@ -65,14 +65,14 @@ module _ {E : Type 0} (two_way greatest : E → Bool) where
             (replays_more greatest (changes_of before) (changes_of (kept life)) [] o.begun o.ended first (follows_replays two_way greatest (kept life) o.begun o.ended o.after));
       }
 
-  -- lives begin with the groups that all that was left before them leads to
+  -- lives begin with the groups that all entries that were left before them lead to
   pub begin_with_all : (lives : List (Life E)) (before found : List (Entry E)) → LeadAlike greatest found before → Succeed two_way greatest found lives → BeginWithAll two_way greatest before lives
   begin_with_all [] before found alike succeed = tt
   begin_with_all (life ∷ lives) before found alike succeed =
       let both = alike_both life.opening found before succeed.1 alike in
       (both, begin_with_all lives (before ++ kept life) (life.opening ++ kept life) (alike_after life (opened life succeed.0) before both) succeed.2)
 
-  -- lives that begin with the very changes before them
+  -- if lives begin with the very changes before them, each succeeds the one before it
   exactly : (lives : List (Life E)) (before : List (Entry E)) (at : Object E) → IsLegal two_way greatest before at → SucceedExactly two_way greatest before lives → Succeed two_way greatest before lives
   exactly [] before at legal succeed = tt
   exactly (life ∷ lives) before at legal succeed =

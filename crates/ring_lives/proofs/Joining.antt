@@ -26,7 +26,7 @@ module _ {E : Type 0} (two_way greatest : E → Bool) where
       let run = go_on lives [] [] refl succeed in
       record { book = run.0; legal = run.1; told = told_in two_way greatest lives [] [] succeed; begun = begin_with_all two_way greatest lives [] [] (alike_at_first two_way greatest) succeed }
 
-  -- and clients got one leader of a term
+  -- clients got one leader of a term
   pub told_one_leader : TellOneLeader two_way greatest
   told_one_leader lives succeed group term a b first second i j names_a names_b =
       let run = go_on lives [] [] refl succeed in

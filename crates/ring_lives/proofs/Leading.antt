@@ -37,7 +37,7 @@ record Leads {E : Type 0} (group : List ℕ) (place leader : ℕ) (object : Obje
   found : find group object ≡ Some view
   has : HasLeader place leader view.terms
 
--- it has one
+-- a term of a group has one leader
 has_one : (place a b : ℕ) (terms : List TermView) → HasLeader place a terms → HasLeader place b terms → a ≡ b
 has_one place a b terms p q =
     let term : p.term ≡ q.term = same_Some p.term q.term (sym p.stands ∙ q.stands) in
@@ -48,11 +48,11 @@ leads_one {E} group place a b object p q =
     let view : p.view ≡ q.view = same_Some p.view q.view (sym p.found ∙ q.found) in
     has_one place a b q.view.terms (subst (λ (v : GroupView E). HasLeader place a v.terms) view p.has) q.has
 
--- a change of a group that keeps each leader
+-- this relation of two groups keeps each leader
 abbrev Keeps : {E : Type 0} → GroupView E → GroupView E → Type 0
 Keeps old new = (place leader : ℕ) → HasLeader place leader old.terms → HasLeader place leader new.terms
 
--- a group that changes so keeps the leaders of all groups
+-- if one group changes by such a relation, all groups keep their leaders
 in_group_leads : {E : Type 0} (name : List ℕ) (does : GroupView E → GroupView E → Type 0) → ((old new : GroupView E) → does old new → Keeps old new)
     → (old new : Object E) → InGroup name does old new → (group : List ℕ) (place leader : ℕ) → Leads group place leader old → Leads group place leader new
 in_group_leads {E} name does keeps old new inside group place leader leads =
@@ -117,13 +117,13 @@ does_leads greatest (change.Start name) old new does group place leader leads = 
 does_leads greatest (change.Know name term member told) old new does group place leader leads =
     in_group_leads name (InformsOf greatest term (number_of member) told) (informs_keeps greatest term (number_of member) told) old new does group place leader leads
 
--- and so does an entry
+-- the change of an entry keeps each leader
 some_leads : {E : Type 0} (greatest : E → Bool) (one : Option (Change E)) (old new : Object E) → DoesSome greatest old one new → (group : List ℕ) (place leader : ℕ) → Leads group place leader old → Leads group place leader new
 unfolding DoesSome
 some_leads {E} greatest None old new same group place leader leads = subst (λ (o : Object E). Leads group place leader o) (sym same) leads
 some_leads greatest (Some one) old new does group place leader leads = does_leads greatest one old new does group place leader leads
 
--- the leader that the last term of a group names to a member is its leader
+-- the leader that a group names to a member is the leader of its last term
 tells_leads : {E : Type 0} (node term leader : ℕ) (view : GroupView E) (said : Standing) → reply.Leader term leader ≡ standing_reply said → Tells node said view → (place : ℕ) × (term ≡ place + 1) × HasLeader place leader view.terms
 tells_leads node term leader view (standing.Leader named told) is tells =
     let number : term ≡ named = cc in
@@ -132,17 +132,17 @@ tells_leads node term leader view (standing.Leader named told) is tells =
     (length view.terms - 1, omega (arith, number, tells.says.0, some), record { term = tells.term; stands = tells.found; leads = tells.says.1.leads ∙ ap (λ (l : ℕ). Some l) (sym name) })
 tells_leads node term leader view (standing.Undecided named) is tells = cc
 
--- a leader that is listed is that of its term
+-- a leader in a list is the leader of its term
 listed_leads : (place leader : ℕ) (terms : List TermView) (at : Option TermView) → slice_get terms place ≡ at → option_map (λ t. t.leader) at ≡ Some (Some leader) → HasLeader place leader terms
 listed_leads place leader terms None at there = cc
 listed_leads place leader terms (Some term) at there = record { term = term; stands = at; leads = same_Some term.leader (Some leader) there }
 
 module _ {E : Type 0} (two_way greatest : E → Bool) where
-  -- the place of a term, which has this leader
+  -- a term has this leader now
   LeadsNow : List ℕ → ℕ → ℕ → Object E → Type 0
   LeadsNow group term leader object = (place : ℕ) × (term ≡ place + 1) × Leads group place leader object
 
-  -- a leader that a reply names leads
+  -- a leader that a reply names is the leader of its term
   answer_leads : (old new : Object E) (node term leader : ℕ) (group : List ℕ) → StepOf two_way greatest old (Who group node) (reply.Leader term leader) new → LeadsNow group term leader old
   unfolding LeadsNow
   answer_leads old new node term leader group step =
@@ -177,7 +177,7 @@ module _ {E : Type 0} (two_way greatest : E → Bool) where
   follows_leads (entry ∷ entries) old new term leader group follows leads =
       follows_leads entries follows.0 new term leader group follows.2 (entry_leads old follows.0 entry term leader group follows.1 leads)
 
-  -- so each leader that was named leads at the end
+  -- each leader that was named is the leader of its term at the end
   named_at : (entries : List (Entry E)) (old new : Object E) (place : ℕ) (entry : Entry E) (term leader : ℕ) (group : List ℕ) → Follows two_way greatest old entries new
       → slice_get entries place ≡ Some entry → Names group term leader entry → LeadsNow group term leader new
   named_at [] old new place entry term leader group follows at names = cc
@@ -187,7 +187,7 @@ module _ {E : Type 0} (two_way greatest : E → Bool) where
       follows_leads entries follows.0 new term leader group follows.2 (entry_leads old follows.0 entry term leader group is (named_leads old follows.0 entry term leader group is names))
   named_at (first ∷ entries) old new (suc place) entry term leader group follows at names = named_at entries follows.0 new place entry term leader group follows.2 at names
 
-  -- and a legal history names one
+  -- a legal history names one leader of a term
   pub legal_names_one : (history : List (Entry E)) (book : Object E) → IsLegal two_way greatest history book → NameOneLeader history
   unfolding LeadsNow
   legal_names_one history book legal group term a b first second i j names_a names_b =

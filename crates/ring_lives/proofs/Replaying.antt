@@ -112,7 +112,7 @@ other_does first grows old new reply.Idle does is says = says.1
 other_does first grows old new (reply.Pending left) does is says = says.1
 other_does first grows old new (reply.Drained done left starved) does is says = says.1
 
--- the effect of an entry is that of its change, and none if it has none
+-- the effect of an entry is that of its change; without a change it has no effect
 unfoldable pub DoesSome : {E : Type 0} → (E → Bool) → Object E → Option (Change E) → Object E → Type 0
 DoesSome greatest old None new = new ≡ old
 DoesSome greatest old (Some one) new = Does greatest old one new

@@ -31,4 +31,7 @@ IsIn entry history = (place : ℕ) × (slice_get history place ≡ Some entry)
 -- no two of these entries name different leaders of one term of a group
 abbrev pub NameOneLeader : {E : Type 0} → List (Entry E) → Type 0
 NameOneLeader {E} history =
-    (group : List ℕ) (term a b : ℕ) (first second : Entry E) → IsIn first history → IsIn second history → Names group term a first → Names group term b second → a ≡ b
+    (group : List ℕ) (term a b : ℕ) (first second : Entry E)
+    → IsIn first history → IsIn second history
+    → Names group term a first → Names group term b second
+    → a ≡ b

@@ -7,8 +7,8 @@ use Rattle.ring_lives.specs.Changes.{changes_of}
 use Rattle.ring_lives.specs.Leaders.{NameOneLeader}
 use Rattle.ring_lives.specs.Replays.{LeadAlike}
 
--- a life: the entries that its table had when it was opened, those that it got, how many of these the crash
--- left, and how many of these have replies that clients got
+-- A life: the entries that its table had when it was opened, and those that it got. The crash left
+-- the first `left` of these. Clients got the replies of the first `told`.
 pub record Life (E : Type 0) : Type 0 where
   pub opening : List (Entry E)
   pub log : List (Entry E)
@@ -19,14 +19,18 @@ pub record Life (E : Type 0) : Type 0 where
 abbrev pub kept : {E : Type 0} → Life E → List (Entry E)
 kept life = take life.left life.log
 
--- its entries whose replies clients got are in this history, after `offset` others
+-- the entries of a life whose replies clients got are in this history, after `offset` others
 abbrev pub IsToldIn : {E : Type 0} → List (Entry E) → ℕ → Life E → Type 0
-IsToldIn {E} history offset life = (place : ℕ) (entry : Entry E) → place < life.told → slice_get life.log place ≡ Some entry → slice_get history (offset + place) ≡ Some entry
+IsToldIn {E} history offset life =
+    (place : ℕ) (entry : Entry E)
+    → place < life.told → slice_get life.log place ≡ Some entry
+    → slice_get history (offset + place) ≡ Some entry
 
--- the same of lives one after another
+-- such entries of lives one after another are in this history, each life after the ones before it
 abbrev pub AreToldIn : {E : Type 0} → List (Entry E) → ℕ → List (Life E) → Type 0
 AreToldIn history offset [] = Unit {0}
-AreToldIn history offset (life ∷ lives) = IsToldIn history offset life × AreToldIn history (offset + length (kept life)) lives
+AreToldIn history offset (life ∷ lives) =
+    IsToldIn history offset life × AreToldIn history (offset + length (kept life)) lives
 
 -- the entries that these lives got and that the crashes left, in order
 abbrev pub all_kept : {E : Type 0} → List (Life E) → List (Entry E)
@@ -48,20 +52,27 @@ module _ {E : Type 0} (two_way greatest : E → Bool) where
   -- each life is opened with entries that lead to the groups that the one before it left
   abbrev pub Succeed : List (Entry E) → List (Life E) → Type 0
   Succeed before [] = Unit {0}
-  Succeed before (life ∷ lives) = IsLife life × LeadAlike greatest life.opening before × Succeed (life.opening ++ kept life) lives
+  Succeed before (life ∷ lives) =
+      IsLife life
+      × LeadAlike greatest life.opening before
+      × Succeed (life.opening ++ kept life) lives
 
   -- each life is opened with the very changes that the one before it left
   abbrev pub SucceedExactly : List (Entry E) → List (Life E) → Type 0
   SucceedExactly before [] = Unit {0}
-  SucceedExactly before (life ∷ lives) = IsLife life × (changes_of life.opening ≡ changes_of before) × SucceedExactly (life.opening ++ kept life) lives
+  SucceedExactly before (life ∷ lives) =
+      IsLife life
+      × (changes_of life.opening ≡ changes_of before)
+      × SucceedExactly (life.opening ++ kept life) lives
 
-  -- each life begins with the groups that all entries lead to which are left of earlier lives
+  -- each life begins with the groups that all entries that are left of earlier lives lead to
   abbrev pub BeginWithAll : List (Entry E) → List (Life E) → Type 0
   BeginWithAll before [] = Unit {0}
-  BeginWithAll before (life ∷ lives) = LeadAlike greatest life.opening before × BeginWithAll (before ++ kept life) lives
+  BeginWithAll before (life ∷ lives) =
+      LeadAlike greatest life.opening before × BeginWithAll (before ++ kept life) lives
 
-  -- These lives are one legal history. It has each entry whose reply a client got, and each life begins with
-  -- the groups that all entries before it lead to.
+  -- These lives are one legal history. It has each entry whose reply a client got, and each life
+  -- begins with the groups that all entries before it lead to.
   pub record IsOneRun (lives : List (Life E)) : Type 0 where
     pub book : Object E
     pub legal : IsLegal two_way greatest (all_kept lives) book
@@ -72,7 +83,8 @@ module _ {E : Type 0} (two_way greatest : E → Bool) where
   abbrev pub AreOneRun : Type 0
   AreOneRun = (lives : List (Life E)) → Succeed [] lives → IsOneRun lives
 
-  -- Lives that begin with the very changes before them begin with the groups that these lead to.
+  -- If each life begins with the very changes before it, each begins with the groups that these
+  -- lead to.
   abbrev pub MayBeExact : Type 0
   MayBeExact = (lives : List (Life E)) → SucceedExactly [] lives → Succeed [] lives
 

@@ -2,8 +2,8 @@ ghost use Rattle.ring_lives.specs.Lives.{MayBeExact};
 
 use ring_election::RingElection;
 
-/// Lives that begin with the very changes that were left before them begin with the groups that these
-/// lead to.
+/// If each life begins with the very changes that were left before it, each begins with the groups
+/// that these lead to.
 pub fn may_be_exact<E: RingElection>()
     ensures { MayBeExact E.is_two_way E.is_greatest }
 {}

@@ -1,5 +1,5 @@
-//! Lives of a service: it is started again from the groups that the last crash left, and all its lives
-//! together are one legal history.
+//! Lives of a service. It is started again from the groups that the last crash left, and all its
+//! lives together are one legal history.
 //!
 //! Each call does nothing. The law is its contract.
 #![tactic(auto)]

@@ -2,7 +2,7 @@ ghost use Rattle.ring_lives.specs.Replays.{AreExact, HaveTheirEffect};
 
 use ring_election::RingElection;
 
-/// A history has the effect of its changes alone: its questions, its refusals and its reports that
+/// A history has the effect of its changes alone. Its questions, its refusals and its reports that
 /// were known or stale have none.
 pub fn follows_replays<E: RingElection>()
     ensures { HaveTheirEffect E.is_two_way E.is_greatest }

@@ -128,7 +128,7 @@ with_question life entries entry journal check sure now written few none all is 
 many_lines : (life : ℕ) (begun : List (Change Any)) (rest : List (Entry Any)) → length (journal_lines life (begun ++ changes_of rest)) ≡ 1 + (length begun + length (changes_of rest))
 many_lines life begun rest = omega (arith, marked_lines-length first_check (begun ++ changes_of rest), length-append begun (changes_of rest))
 
--- all entries are kept where all lines are settled
+-- if all lines are settled, all entries are kept
 pub begun : (life : ℕ) (entries : List (Entry Any)) (journal : JournalView) (check sure : ℕ) → IsLife life → length entries < 2 ^ 44 → journal.lines ≡ journal_lines life (changes_of entries) → All IsChange (changes_of entries) → check ≡ check_of first_check (changes_of entries)
     → settled journal ≡ length journal.lines → sure ≡ length entries → IsWritten life entries journal check sure
 begun life entries journal check sure counted few lines legal checked all is = record {

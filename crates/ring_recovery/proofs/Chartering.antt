@@ -62,7 +62,7 @@ not_lost {E} name (entry ∷ object) (suc i) group at none =
       | false ↦ λ rest. not_lost name object i group at rest
     ] none
 
--- so each entry is the one that is found by its name
+-- each entry is the one that is found by its name
 pub finds : {E : Type 0} (winner : E → List ℕ → ℕ) (object : Object E) (i : ℕ) (name : List ℕ) (group : GroupView E) → IsKept winner object → slice_get object i ≡ Some (name, group) → find name object ≡ Some group
 finds {E} winner object i name group kept at = elim (find name object) as (λ g. find name object ≡ g → find name object ≡ Some group) [
   | None ↦ λ none. absurd (not_lost name object i group at none)

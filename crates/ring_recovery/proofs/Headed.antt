@@ -28,12 +28,12 @@ digits_line : (digits : List ℕ) → AllDigits 10 digits → IsLine digits
 digits_line [] all = tt
 digits_line (c ∷ digits) all = let d = digit_from_value c all.0 in (λ lf. omega (arith, d, lf), λ nul. omega (arith, d, nul), digits_line digits all.1)
 
--- two lines are one
+-- two lines, one after the other, are a line
 line_after : (first rest : List ℕ) → IsLine first → IsLine rest → IsLine (first ++ rest)
 line_after [] rest a b = b
 line_after (byte ∷ first) rest a b = (a.0, a.1, line_after first rest a.2 b)
 
--- so are the digits of a mark
+-- the digits of a mark are a line
 glyph : (low : Bool) (n : ℕ) → ((if low then 48 + n else 87 + n) ≢ 10) × ((if low then 48 + n else 87 + n) ≢ 0)
 glyph true n = (λ lf. omega (arith, lf), λ nul. omega (arith, nul))
 glyph false n = (λ lf. omega (arith, lf), λ nul. omega (arith, nul))
@@ -46,7 +46,7 @@ word_line : (n : ℕ) → IsLine (hex_word n)
 word_line n =
     glyphs_line (n / 268435456 ∷ n / 16777216 % 16 ∷ n / 1048576 % 16 ∷ n / 65536 % 16 ∷ n / 4096 % 16 ∷ n / 256 % 16 ∷ n / 16 % 16 ∷ n % 16 ∷ [])
 
--- so is the first line of a journal
+-- the first line of a journal is a line
 pub heading_line : (life : ℕ) → IsLife life → IsLine (heading life)
 heading_line life counted =
     let check = check_after (check_after first_check heading_words) (decimal life) in
@@ -54,7 +54,7 @@ heading_line life counted =
     (line_after (decimal life) (check_mark check) (digits_line (decimal life) (decimal_is_IsNumeral life (omega (arith, counted.1))).0.1)
     (line_after (codes " #") (hex_word (4294967295 - check)) (passes_then_line (codes " #") refl) (word_line (4294967295 - check))))
 
--- what is put of a first line
+-- the text of a first line, in the pieces in which it is put
 pub put_line : (old words number mark : List ℕ) (all more most : List ℕ) (life : ℕ) → all ≡ old ++ words → more ≡ all ++ number → most ≡ more ++ mark → words ≡ heading_words → number ≡ decimal life
     → mark ≡ check_mark (check_after (check_after first_check heading_words) number) → most ++ 10 ∷ [] ≡ old ++ (heading life ++ 10 ∷ [])
 put_line old words number mark all more most life first second third is_words is_number is_mark =
@@ -74,7 +74,7 @@ pub none_map : {A P Q : Type 0} (found : Option A) → IfNone found P → (P →
 none_map None none next = next none
 none_map (Some a) none next = tt
 
--- what was read of a first line, as what the lines of changes follow
+-- a first line that was read is the heading that the lines of changes follow
 pub headed_of : (found first : List ℕ) (lines : List (List ℕ)) (life start : ℕ) → IsNext first life → lines_in found ≡ first ∷ lines → start ≡ length first + 1 → IsHeaded found start lines
 headed_of found first lines life start next all starts = record {
   lives = next.0;
@@ -114,7 +114,7 @@ pub after_changes : (found : List ℕ) (lives : ℕ) (changes : List (Change Any
 after_changes found lives changes (inl lines) = ap after_first lines.1
 after_changes found lives changes (inr none) = ap (λ (text : List ℕ). after_first (whole_lines_of text)) none.0 ∙ ap (marked_lines first_check) (sym none.2)
 
--- where the text of the lines after the first begins
+-- the text of the lines after the first begins after the first line and its LF
 pub size_within : (lines : List (List ℕ)) → first_size lines ≤ length (text_of lines)
 size_within [] = omega arith
 size_within (line ∷ lines) = omega (arith, length-append line (10 ∷ text_of lines))
@@ -142,7 +142,7 @@ module _ (found : List ℕ) (whole : ℕ) (all : HasAll (take whole found)) (sam
   pub starts_within : whole ≤ length found → length (take whole found) ≡ whole → first_size (lines_in found) ≤ whole
   starts_within within long = omega (arith, size_within (lines_in found), ap length its_text, long)
 
-  -- what was put of a file after another heading
+  -- the text of a file after another heading
   pub its_parts : (head text old slice : List ℕ) (start : ℕ) → whole ≤ length found → start ≡ first_size (lines_in found) → old ≡ head → slice ≡ take (whole - start) (drop start found) → text ≡ old ++ slice
       → text ≡ head ++ drop (first_size (lines_in found)) (take whole found)
   its_parts head text old slice start within starts is_old is_slice is =

@@ -66,8 +66,8 @@ first_changes (entry ∷ entries) (suc fewest) (suc many) within least most = el
   | Some change ↦ λ some. one_change entry entries fewest many change (first_changes entries fewest many (omega (arith, within)) (let l = rw some at least in omega (arith, l)) (let m = rw some at most in omega (arith, m))) some
 ] refl
 
--- a restart that finds the first lines finds the changes that the journal began with, and those of the first
--- entries after them
+-- a restart that finds the first lines finds the changes that the journal began with, and those of
+-- the first entries after them
 from_more : (life : ℕ) (begun : List (Change Any)) (first rest : List (Entry Any)) (more n : ℕ) (found : List ℕ) → IsLife life → LeadToSame begun (changes_of first) → All IsChange (begun ++ changes_of rest) → more ≤ length rest
     → length (changes_of (take more rest)) ≤ n → n ≤ length (changes_of rest) → lines_in found ≡ heading life ∷ take (length begun + n) (marked_lines first_check (begun ++ changes_of rest)) → IsWhole found
     → FindsEntries life (first ++ rest) (length first + more) found
@@ -122,7 +122,7 @@ leaves_lines life entries old new check sure written lines finds m from to found
     subst (λ (all : List (Entry Any)). FindsEntries life all sure found) (sym written.all)
     (subst (λ (fewest : ℕ). FindsEntries life (written.first ++ written.rest) fewest found) (sym written.surely) ends)
 
--- An entry more changes nothing of what a crash leaves.
+-- One more entry does not change the files that a crash may leave.
 pub leaves_more : (old : WrittenView) (life : ℕ) (entry : Entry Any) (items : List (Entry Any)) (disk : Moment) → LeavesFirst old old → life ≡ old.life → items ≡ old.items ++ entry ∷ [] → disk ≡ old.journal.disk
     → (m : Moment) → Grows old.journal.disk m → Grows m disk → (found : List ℕ) → MayFind found m.text m.kept → FindsEntries life items old.sure found
 leaves_more old life entry items disk leaves is more same m from to found find =

@@ -21,7 +21,8 @@ use Rattle.ring_recovery.specs.private.Replaying.{RedoesLine}
 use Rattle.ring_recovery.proofs.Adding.{changes_of-change}
 use Rattle.ring_recovery.proofs.Marking.{check_of-push, journal_lines-push}
 
--- The lines before these were carried out. The first of these begins at this place, and `check` is the check before it.
+-- The lines before these were carried out. The first of these begins at this place, and `check` is
+-- the check before it.
 pub record IsRead (found : List ℕ) (rest : List (List ℕ)) (table : RecordedView Any) (check at : ℕ) : Type 0 where
   pub life : ℕ
   pub counted : IsLife life

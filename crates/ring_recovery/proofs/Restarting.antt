@@ -1,4 +1,5 @@
--- The lines of a journal are those of one list of changes, so a restart recovers the changes that were left.
+-- The lines of a journal are those of one list of changes, so a restart recovers the changes that
+-- were left.
 use Rattle.std.proofs.Common.{◌≡◌, ◌+◌, ℕ, List, [], ◌∷◌, All, take, drop, inl, inr, refl, ap, sym, ◌∙◌, subst, arith}
 use Rattle.std.proofs.lemmas.Fmt.{decimal_injective}
 use Rattle.std.proofs.lemmas.List.Elements.{All-head, All-tail}

@@ -61,7 +61,7 @@ stand_in effect exact life entries groups check text short legal = record {
   alike = alike_legal effect exact (book_changes groups) entries groups short.leads legal;
 }
 
--- a journal that begins with a text that stands for all entries
+-- a journal that begins with a text that leads to the groups of all entries
 pub rewritten : (life : ℕ) (entries : List (Entry Any)) (journal : JournalView) (check : ℕ) (text : List ℕ) (now : ℕ) → IsLife life → length entries < 2 ^ 44 → IsStandIn life entries check text → journal.lines ≡ whole_lines_of text → settled journal ≡ length journal.lines
     → now ≡ length entries → IsWritten life entries journal check now
 rewritten life entries journal check text now counted few stands lines all is =

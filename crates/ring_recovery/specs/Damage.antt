@@ -1,4 +1,4 @@
--- Why a file is refused.
+-- The reasons why a file is refused.
 use Rattle.std.specs.Prelude.{◌≡◌, ◌≢◌, ◌⊎◌, ◌<◌, ◌^◌, ℕ, List, [], ◌∷◌, ◌++◌, Some, None, length}
 use Rattle.ring_id.specs.Identity.{number_of}
 use Rattle.ring_any.specs.Any.{any_greatest, any_winner}
@@ -22,8 +22,9 @@ use Rattle.ring_recovery.specs.Life.{IsLife}
 use Rattle.ring_recovery.specs.declared.fault.RecoverFault.{RecoverFault}
 use Rattle.ring_recovery.specs.declared.fault.RecoverFault.TheVariants.{Bad, Lives, NoMemory, Version}
 
--- A report may come that this member knows this leader of this term: it is the last term of the
--- group, the member is in its ring, the leader is the winner, and the member does not know it yet.
+-- A report may come that this member knows this leader of this term. It is the last term of the
+-- group, and the member is in its ring. The leader is the winner, and the member does not know it
+-- yet.
 pub record MayKnow (group : List ℕ) (term member leader : ℕ) (groups : Object Any) : Type 0 where
   pub charter : Charter Any
   pub running : running_in group groups ≡ Some charter
@@ -51,17 +52,19 @@ pub record IsBadLine (found : List ℕ) (at : ℕ) : Type 0 where
   pub place : at ≡ length (text_of (journal_lines life before))
   pub inside : at < length found
   pub replays : Replays any_greatest [] before groups
-  pub bad : (change : Change Any) → IsChange change → line ≡ marked_line (check_of first_check before) change → ¬ (MayCome groups change)
+  pub bad : (change : Change Any) → IsChange change
+      → line ≡ marked_line (check_of first_check before) change
+      → ¬ (MayCome groups change)
 
--- A file begins with the words of a heading. The rest of its first line, which begins at this byte, is
--- not the number of a life and its mark.
+-- A file begins with the words of a heading. The rest of its first line, which begins at this byte,
+-- is not the number of a life and its mark.
 pub record IsBadHeading (found : List ℕ) (at : ℕ) : Type 0 where
   pub place : at ≡ length heading_words
   pub rest : List ℕ
   pub begins : found ≡ heading_words ++ rest
   pub bad : (life : ℕ) (lines : List (List ℕ)) → IsLife life → lines_in found ≢ heading life ∷ lines
 
--- A file begins with something else than the words of a heading.
+-- A file does not begin with the words of a heading.
 pub record IsOther (found : List ℕ) : Type 0 where
   pub some : front found ≢ []
   pub other : (rest : List ℕ) → found ≢ heading_words ++ rest
@@ -70,7 +73,7 @@ pub record IsOther (found : List ℕ) : Type 0 where
 abbrev pub IsOfLastLife : List ℕ → Type 0
 IsOfLastLife found = (lines : List (List ℕ)) × (lines_in found ≡ heading (2 ^ 20) ∷ lines)
 
--- why a file is refused
+-- a reason for each fault; out of memory needs none
 abbrev pub IsFaultOf : List ℕ → RecoverFault → Type 0
 IsFaultOf found (Bad at) = IsBadAt found at ⊎ IsBadHeading found at ⊎ IsBadLine found at
 IsFaultOf found Version = IsOther found

@@ -12,7 +12,9 @@ heading_words = codes "ringd journal 1 life "
 
 -- the number of a life, and the mark of the check of the heading
 abbrev pub life_word : ℕ → List ℕ
-life_word life = decimal life ++ check_mark (check_after (check_after first_check heading_words) (decimal life))
+life_word life =
+    decimal life
+    ++ check_mark (check_after (check_after first_check heading_words) (decimal life))
 
 -- the first line of a journal in this life
 abbrev pub heading : ℕ → List ℕ
@@ -21,7 +23,8 @@ heading life = heading_words ++ life_word life
 -- the lines of changes, given the check before the first one
 abbrev pub marked_lines : ℕ → List (Change Any) → List (List ℕ)
 marked_lines check [] = []
-marked_lines check (change ∷ changes) = marked_line check change ∷ marked_lines (check_behind check change) changes
+marked_lines check (change ∷ changes) =
+    marked_line check change ∷ marked_lines (check_behind check change) changes
 
 -- the check after changes, given the check before the first one
 abbrev pub check_of : ℕ → List (Change Any) → ℕ

@@ -1,4 +1,4 @@
--- How the lives of a journal are counted, and how many places each has.
+-- The numbers of lives of a journal, and the places of each life.
 use Rattle.std.specs.Prelude.{◌<◌, ◌≤◌, ◌-◌, ◌*◌, ◌^◌, ℕ}
 
 -- the number of a life: from 1 to 1048576

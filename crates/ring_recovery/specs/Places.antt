@@ -1,4 +1,4 @@
--- The lives of a journal, and the places that replies tell in them.
+-- The lives of a journal, and the places in their replies.
 use Rattle.std.specs.Prelude.{◌≡◌, ◌<◌, ◌≤◌, ◌+◌, ◌-◌, ◌*◌, ◌^◌, ℕ, List, [], ◌∷◌, Some, slice_get}
 use Rattle.ring_any.specs.declared.any.Any.{Any}
 use Rattle.ring_table.specs.declared.entry.Entry.{Entry}
@@ -6,12 +6,12 @@ use Rattle.ring_recovery.specs.Recovered.{RecoveredView, Recovers}
 use Rattle.ring_recovery.specs.Written.{FindsEntries}
 use Rattle.ring_recovery.specs.Life.{base_of}
 
--- a place as it is told in a life
+-- the place in a reply, for a place in the history of a life
 abbrev pub told_place : ℕ → ℕ → ℕ
 told_place life place = base_of life + place
 
--- A life of a journal: its number, the entries that its table had in the end, how many of them were kept for good,
--- and the file that the crash at its end left.
+-- A life of a journal: its number, and the entries that its table had in the end. The first `sure`
+-- of them were kept for good. `found` is the file that the crash at its end left.
 pub record JournalLife : Type 0 where
   pub number : ℕ
   pub entries : List (Entry Any)
@@ -31,12 +31,14 @@ AreLives [] = Unit {0}
 AreLives (life ∷ []) = Unit {0}
 AreLives (life ∷ next ∷ lives) = Continues life next × AreLives (next ∷ lives)
 
--- a reply of this life tells this place
+-- a reply of this life can have this place
 abbrev pub IsToldIn : JournalLife → ℕ → Type 0
 IsToldIn life told = (place : ℕ) × (place < 2 ^ 44) × (told ≡ told_place life.number place)
 
--- Each place that a reply tells in a life is less than each place that a reply tells in a later life.
+-- Each place in a reply of one life is less than each place in a reply of a later life.
 abbrev pub PlacesRise : Type 0
 PlacesRise =
-    (lives : List JournalLife) → AreLives lives → (i j : ℕ) (earlier later : JournalLife) → i < j → slice_get lives i ≡ Some earlier → slice_get lives j ≡ Some later
+    (lives : List JournalLife) → AreLives lives
+    → (i j : ℕ) (earlier later : JournalLife)
+    → i < j → slice_get lives i ≡ Some earlier → slice_get lives j ≡ Some later
     → (a b : ℕ) → IsToldIn earlier a → IsToldIn later b → a < b

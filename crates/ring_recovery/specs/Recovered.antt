@@ -1,4 +1,4 @@
--- What a recovery gives, and what it has to do with the file that was found.
+-- The view of a recovered table, and how it follows from the file that was found.
 use Rattle.std.specs.Prelude.{◌≡◌, ◌⊎◌, ◌+◌, ℕ, List, [], All}
 use Rattle.ring_any.specs.Any.{any_greatest, any_two_way}
 use Rattle.ring_any.specs.declared.any.Any.{Any}
@@ -15,8 +15,8 @@ use Rattle.ring_lives.specs.Replays.{Replays}
 use Rattle.ring_recovery.specs.JournalLines.{journal_lines}
 use Rattle.ring_recovery.specs.Life.{IsLife}
 
--- A recovered table: its book, its history, the number of the life that it begins, and the text that
--- the journal of this life begins with.
+-- A recovered table: its book, its history, and the number of the life that it begins. The journal
+-- of this life begins with `text`.
 pub record RecoveredView : Type 0 where
   pub book : Object Any
   pub history : List (Entry Any)
@@ -31,7 +31,9 @@ pub record IsTextOf (life : ℕ) (changes : List (Change Any)) (text : List ℕ)
 -- The lines of a file are those of these changes in its life with the number `lives`. If its first
 -- byte is a zero or missing, it had no life and there are no changes.
 abbrev pub HasChanges : List ℕ → ℕ → List (Change Any) → Type 0
-HasChanges found lives changes = (IsLife lives × (lines_in found ≡ journal_lines lives changes)) ⊎ ((front found ≡ []) × (lives ≡ 0) × (changes ≡ []))
+HasChanges found lives changes =
+    (IsLife lives × (lines_in found ≡ journal_lines lives changes))
+    ⊎ ((front found ≡ []) × (lives ≡ 0) × (changes ≡ []))
 
 -- an entry that a recovery makes: a call of session 0, or a filing
 abbrev pub IsReplayed : Entry Any → Type 0
@@ -39,7 +41,7 @@ IsReplayed (Call session command reply) = session ≡ 0
 IsReplayed (Filing group term member leader noting) = Unit {0}
 
 -- The changes of the table's history are those of the file, and the life that it begins is the next
--- one. Its book is what the changes lead to from no groups at all.
+-- one. The changes lead from no groups to its book.
 pub record Recovers (found : List ℕ) (recovered : RecoveredView) : Type 0 where
   pub lives : ℕ
   pub next : recovered.life ≡ lives + 1

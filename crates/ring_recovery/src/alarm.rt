@@ -3,7 +3,7 @@ use std::sync::{Condvar, Mutex, Wait};
 /// Why a service ends.
 #[derive(Clone, Copy, Debug, PartialEq, Eq)]
 pub enum Ending {
-    /// The journal failed: what was answered since it was settled last may be lost.
+    /// The journal failed. Changes since it was last settled may be lost.
     Failed,
     /// The server stopped.
     Stopped,
@@ -47,7 +47,7 @@ impl Alarm {
         unreachable!()
     }
 
-    // Waits until the alarm is rung again, or for less time.
+    // Waits for a ring of the alarm, or not as long.
     pub(crate) fn doze<R: Wait>(&self, rt: &R) {
         let rung = self.rung.lock(rt);
         drop(self.bell.wait(rt, rung));

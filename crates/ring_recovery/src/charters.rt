@@ -10,13 +10,14 @@ use ring_terms::Book;
 use std::alloc::Global;
 use std::sync::Arc;
 
-/// Returns the charter of the last term of each group that has one, in order of creation. Fails only
-/// if an allocation fails.
+/// Returns the charter of the last term of each group that has one, in order of creation. Fails
+/// only if an allocation fails.
 pub(crate) fn charters_of<E: RingElection>(
     alloc: Global,
     book: &Book<E>,
 ) -> Result<Vec<Arc<Charter<E>>>, NoMemory>
-    ensures { IfOk result (λ charters. map (λ charter. charter.value) charters.items ≡ running_charters book.now) }
+    ensures { IfOk result (λ charters.
+        map (λ charter. charter.value) charters.items ≡ running_charters book.now) }
 {
     let Ok(names) = book.groups(alloc) else {
         return Err(NoMemory);
@@ -36,7 +37,9 @@ fn add_running<E: RingElection>(
     group: GroupName,
     charters: &mut Vec<Arc<Charter<E>>>,
 ) -> Result<(), NoMemory>
-    ensures { OnOk result (map (λ charter. charter.value) charters.new.items ≡ map (λ charter. charter.value) charters.old.items ++ onto (running_in group book.now) []) }
+    ensures { OnOk result (map (λ charter. charter.value) charters.new.items
+        ≡ map (λ charter. charter.value) charters.old.items
+        ++ onto (running_in group book.now) []) }
 {
     let Ok(charter) = book.running(group) else {
         return Ok(());

@@ -17,15 +17,16 @@ use ring_table::{Recorded, Unkept};
 use std::alloc::Global;
 
 impl Recovered {
-    /// Returns a table of the same groups and terms. If at most half as many changes lead to them, it is
-    /// built again by these, and its text is their lines. Otherwise it is this table.
+    /// Returns a table of the same groups and terms. If at most half as many changes lead to them,
+    /// it is built again by these, and its text is their lines. Otherwise it is this table.
     ///
-    /// So the journal of a service does not grow with each start under joins and leaves: tested. Fails
-    /// only if an allocation fails.
+    /// So joins and leaves do not make a journal grow with each start. This is tested, not proved.
+    /// Fails only if an allocation fails.
     pub fn compacted(self, alloc: Global) -> Result<Recovered, NoMemory>
         ensures { IfOk result (KeepsBook self) }
     {
-        // a history has the effect of its changes, which lead to one book; and this history is legal
+        // for their laws: a history has the effect of its changes, the same changes lead to the
+        // same book, and this history is legal
         follows_replays::<Any>();
         replays_exact::<Any>();
         let _text = self.text();
@@ -52,8 +53,8 @@ impl Recovered {
     }
 }
 
-// The table of these changes, carried out one after another on a table without groups. It begins this
-// life.
+// The table of these changes, carried out one after another on a table without groups. It begins
+// this life.
 fn rebuilt(alloc: Global, life: Life, changes: &[Change<Any>]) -> Result<Recovered, ReplayFault>
     requires { length changes.now < 2 ^ 44 }
     ensures { IfOk result (IsOf life changes.now) }
@@ -82,7 +83,8 @@ fn add_change(
     check: &mut Check,
     text: &mut Batch,
 ) -> Result<(), ReplayFault>
-    ensures { OnOk result (AddsChange change.now table.old table.new check.old check.new text.old.bytes text.new.bytes) }
+    ensures { OnOk result (AddsChange change.now
+        table.old table.new check.old check.new text.old.bytes text.new.bytes) }
 {
     replay(alloc, *change, table)?;
     let line = spell_line(change, check);

@@ -16,7 +16,7 @@ use std::alloc::AllocError;
 /// The words before the number of the life.
 const WORDS: &[u8] = b"ringd journal 1 life ";
 
-/// How many bytes a mark has.
+/// The number of bytes of a mark.
 const MARK: usize = 10;
 
 /// Adds the first line of a journal in this life, and its LF.
@@ -58,7 +58,8 @@ pub(crate) fn next_life(found: &[u8], first: &[u8]) -> Result<Life, RecoverFault
 /// Returns why a file is refused that does not begin with the heading of a life.
 pub(crate) fn fault_of(found: &[u8]) -> RecoverFault
     requires some { front found.now ≢ [] }
-    requires other { (life : ℕ) (lines : List (List ℕ)) → IsLife life → lines_in found.now ≢ heading life ∷ lines }
+    requires other { (life : ℕ) (lines : List (List ℕ)) → IsLife life
+        → lines_in found.now ≢ heading life ∷ lines }
     ensures { IsFaultOf found.now result }
 {
     match after_words(found) {
@@ -67,7 +68,7 @@ pub(crate) fn fault_of(found: &[u8]) -> RecoverFault
     }
 }
 
-// The life of this first line.
+// The life of this first line; `None` if it is no heading.
 fn read_heading(line: &[u8]) -> Option<Life>
     ensures some { IfSome result (λ life. IsLife life × (line.now ≡ heading life)) }
     ensures none { IfNone result ((life : ℕ) → IsLife life → line.now ≢ heading life) }
@@ -78,7 +79,7 @@ fn read_heading(line: &[u8]) -> Option<Life>
     }
 }
 
-// The life of a number and its mark.
+// The life of a number and its mark; `None` if this is no such word.
 fn marked_life(word: &[u8]) -> Option<Life>
     ensures some { IfSome result (λ life. IsLife life × (word.now ≡ life_word life)) }
     ensures none { IfNone result ((life : ℕ) → IsLife life → word.now ≢ life_word life) }
@@ -96,7 +97,7 @@ fn marked_life(word: &[u8]) -> Option<Life>
     Some(life)
 }
 
-// The life with the number that this word spells.
+// The life with the number that this word spells; `None` if it spells no number of a life.
 fn numbered(word: &[u8]) -> Option<Life>
     ensures some { IfSome result (λ life. IsLife life × (word.now ≡ decimal life)) }
     ensures none { IfNone result ((life : ℕ) → IsLife life → word.now ≢ decimal life) }
@@ -107,7 +108,7 @@ fn numbered(word: &[u8]) -> Option<Life>
     }
 }
 
-// The text after the words of a heading, if it begins with them.
+// The text after the words of a heading; `None` if it does not begin with them.
 fn after_words(text: &[u8]) -> Option<&[u8]>
     ensures some { IfSome result (λ rest. text.now ≡ heading_words ++ rest.now) }
     ensures none { IfNone result ((rest : List ℕ) → text.now ≢ heading_words ++ rest) }

@@ -1,19 +1,20 @@
-//! The journal of a table: its changes are written as they come, and a restart recovers the table from
-//! them.
+//! The journal of a table: its changes are written as they come, and a restart recovers the table
+//! from them.
 //!
 //! A `Written` records the entries of a table. It writes the line of each change to a journal, and
-//! knows how many of the entries are kept for good. If a crash comes at any moment of any call, the
-//! changes of the first entries are left, and at least of those that were kept for good.
+//! knows how many of the entries are kept for good. A crash may come at any moment of any call. It
+//! leaves the changes of the first entries, and at least of those that were kept for good.
 //!
-//! A journal that has grown long is rewritten while its table is in use, by the changes that lead to the
-//! present groups. A crash leaves the old text or the new one, which lead to the same groups.
+//! A journal that has grown long is rewritten while its table is in use, by the changes that lead
+//! to the present groups. A crash leaves the old text or the new one, which lead to the same
+//! groups.
 //!
-//! Each recovery begins a new life of the journal, whose number is in the first line. So the places that
-//! replies tell rise over all lives.
+//! Each recovery begins a new life of the journal, whose number is in the first line. So the places
+//! in replies rise over all lives.
 //!
 //! `recover` reads these lines, and carries out each change by the call that made it, on a table
-//! without groups. The table goes on over a new journal that begins with the lines that were found, or
-//! with fewer lines that lead to the same groups and terms.
+//! without groups. The table goes on over a new journal. It begins with the lines that were found,
+//! or with fewer lines that lead to the same groups and terms.
 #![tactic(auto)]
 
 mod alarm;
@@ -28,6 +29,7 @@ mod recovery;
 mod replay;
 mod restart;
 mod resumption;
+mod rewriting;
 mod short;
 mod written;
 

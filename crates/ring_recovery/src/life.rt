@@ -4,7 +4,7 @@ ghost use Rattle.ring_recovery.specs.Life.{IsLife, base_of};
 
 use std::marker::Model;
 
-/// How many places each life has.
+/// The number of places of each life.
 const PLACES: usize = 1 << 44;
 
 /// The number of a life of a journal: how often a service has begun with it, this time included.
@@ -71,7 +71,8 @@ impl Life {
         self.number
     }
 
-    /// Returns the number that is added to each place of this life. A life has fewer than 2^44 places.
+    /// Returns the number that is added to each place of this life. A life has fewer than 2^44
+    /// places.
     pub fn base(self) -> usize
         ensures value { result ≡ base_of self }
         ensures within { result + 2 ^ 44 ≤ 2 ^ 64 }

@@ -2,8 +2,8 @@ ghost use Rattle.ring_recovery.specs.Places.{PlacesRise};
 
 use crate::restart::restarts_after_first;
 
-/// Each place that a reply tells in a life of a journal is less than each place that a reply tells in a
-/// later life. So no place is used twice.
+/// Each place in a reply of one life of a journal is less than each place in a reply of a later
+/// life. So no two lives share a place.
 ///
 /// The law is the contract; the call does nothing.
 pub fn places_rise()

@@ -26,8 +26,8 @@ use std::sync::Arc;
 
 /// A table that was recovered, and the text that its next journal begins with.
 ///
-/// Contracts see its book, its history, the number of the life that it begins, and the text. The text is
-/// the heading of this life and the lines of the changes of the history.
+/// Contracts see its book, its history, the number of the life that it begins, and the text. The
+/// text is the heading of this life and the lines of the changes of the history.
 #[derive(Drop)]
 pub struct Recovered {
     table: Replayed,
@@ -43,7 +43,12 @@ impl Model for Recovered {
 
     ghost Value = { RecoveredView };
 
-    ghost view = { λ a. record { book = a.table.book; history = a.table.history; life = a.life; text = a.text.bytes } };
+    ghost view = { λ a. record {
+      book = a.table.book;
+      history = a.table.history;
+      life = a.life;
+      text = a.text.bytes;
+    } };
 
     ghost invariant = { λ a. IsRecovered a.life a.table.history a.check a.text.bytes };
 }
@@ -55,7 +60,12 @@ impl Recovered {
         requires text { IsTextOf life (changes_of table.history) text.bytes }
         requires legal { All IsChange (changes_of table.history) }
         requires check { check ≡ check_of first_check (changes_of table.history) }
-        ensures { result ≡ record { book = table.book; history = table.history; life = life; text = text.bytes } }
+        ensures { result ≡ record {
+          book = table.book;
+          history = table.history;
+          life = life;
+          text = text.bytes;
+        } }
     {
         Recovered {
             table,
@@ -65,8 +75,8 @@ impl Recovered {
         }
     }
 
-    /// Returns the text that the next journal begins with: the heading of its life, and the lines of
-    /// its changes. The other clauses are laws of every recovered table.
+    /// Returns the text that the next journal begins with: the heading of its life, and the lines
+    /// of its changes. The other clauses are laws of every recovered table.
     pub fn text(&self) -> &Batch
         ensures value { result.now.bytes ≡ self.now.text }
         ensures lines { IsTextOf self.now.life (changes_of self.now.history) self.now.text }
@@ -100,10 +110,11 @@ impl Recovered {
         self.table.count()
     }
 
-    /// Returns the charter of the last term of each group that has one, in order of creation. These terms
-    /// are begun again. Fails only if an allocation fails.
+    /// Returns the charter of the last term of each group that has one, in order of creation. These
+    /// terms are begun again. Fails only if an allocation fails.
     pub fn charters(&self, alloc: Global) -> Result<Vec<Arc<Charter<Any>>>, NoMemory>
-        ensures { IfOk result (λ charters. map (λ charter. charter.value) charters.items ≡ running_charters self.now.book) }
+        ensures { IfOk result (λ charters.
+            map (λ charter. charter.value) charters.items ≡ running_charters self.now.book) }
     {
         charters_of(alloc, self.table.book())
     }
@@ -120,7 +131,8 @@ impl Recovered {
     ) -> Recorded<Any, Written<D>>
         requires text { (D.moment medium).text ≡ self.text }
         requires kept { (D.moment medium).kept ≡ length self.text }
-        ensures { result ≡ record { book = self.book; history = self.history; sure = length self.history } }
+        ensures { result
+            ≡ record { book = self.book; history = self.history; sure = length self.history } }
     {
         let Recovered {
             table,

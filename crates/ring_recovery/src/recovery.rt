@@ -21,7 +21,7 @@ use std::alloc::{AllocError, Global};
 /// A life has fewer entries than this.
 const ENTRIES: usize = 1 << 44;
 
-// What a file says apart from its changes.
+// The parts of a file other than its changes.
 #[derive(Clone, Copy)]
 struct Said {
     // the life after that of the file
@@ -34,16 +34,16 @@ struct Said {
 
 /// Recovers a table from the bytes of its journal's file.
 ///
-/// Each line is carried out by the call that made it: a command of session 0 which is done, or a report
-/// which is noted. A file without lines is an empty table, if its first byte is missing or a zero. The
-/// bytes after the last line are a torn tail and are left out. The table begins the life after that of
-/// the file, or life 1 if the file has no line.
+/// Each line is carried out by the call that made it: as a command of session 0, or as a report. A
+/// file without lines gives an empty table if its first byte is missing or a zero. The bytes after
+/// the last line are a torn tail and are left out. The table begins the life after that of the
+/// file, or life 1 if the file has no line.
 ///
-/// Faults, of which all but the last are clauses:
-/// - `Bad`: the byte is the first of a line, and no change that may come there has this line. Or it is
-///   a byte that no crash leaves there. Or the number of the life, which begins at this byte, or the mark
-///   after it is damaged.
-/// - `Version`: the file begins with something else than the words of a heading.
+/// The faults, which are clauses except for `NoMemory`:
+/// - `Bad`: the byte is the first of a line, and no change that may come there has this line. Or it
+///   is a byte that no crash leaves there. Or the number of the life begins at this byte, and the
+///   number or the mark after it is damaged.
+/// - `Version`: the file does not begin with the words of a heading.
 /// - `Lives`: the file is of life 1048576, which is the last one.
 /// - `NoMemory`: an allocation failed, or the file has 2^44 changes or more.
 pub fn recover(alloc: Global, found: Vec<u8>) -> Result<Recovered, RecoverFault>
@@ -64,7 +64,8 @@ pub fn recover(alloc: Global, found: Vec<u8>) -> Result<Recovered, RecoverFault>
 // Carries out the changes of a file on a table without groups.
 fn replay_file(alloc: Global, found: &[u8], table: &mut Replayed) -> Result<Said, RecoverFault>
     requires { table.old.history ≡ [] }
-    ensures ok { IfOk result (λ said. HasReplayed found.now table.new said.life said.start said.check) }
+    ensures ok { IfOk result (λ said.
+        HasReplayed found.now table.new said.life said.start said.check) }
     ensures err { IfErr result (IsFaultOf found.now) }
 {
     let mut lines = read_lines(found)?;
@@ -94,8 +95,8 @@ fn is_blank(found: &[u8]) -> bool
     }
 }
 
-// Carries out the changes of the lines after the heading, which begin at `start`. Returns the check after
-// them.
+// Carries out the changes of the lines after the heading, which begin at `start`. Returns the check
+// after them.
 fn replay_lines(
     alloc: Global,
     found: &[u8],
@@ -108,7 +109,7 @@ fn replay_lines(
     ensures ok { IfOk result (HasRead found.now table.new) }
     ensures err { IfErr result (IsFaultOf found.now) }
 {
-    // a history has the effect of its changes
+    // for its law: a history has the effect of its changes
     follows_replays::<Any>();
     let mut check = Check::new();
     let mut at = start;
@@ -133,7 +134,8 @@ fn finish(
     ensures ok { IfOk result (Recovers found.items) }
     ensures err { IfErr result (IsFaultOf found.items) }
 {
-    // the history is legal, as its count says, and has the effect of its changes
+    // `count` and `follows_replays` for their laws: the history is legal, and has the effect of its
+    // changes
     if table.count() >= ENTRIES {
         drop(found);
         drop(table);
@@ -159,7 +161,8 @@ pub(crate) fn text_of(
 ) -> Result<Batch, AllocError>
     requires { start ≡ first_size (lines_in found.items) }
     ensures whole { IfOk result (λ text. HasAll text.bytes) }
-    ensures lines { IfOk result (λ text. whole_lines_of text.bytes ≡ heading life ∷ after_first (lines_in found.items)) }
+    ensures lines { IfOk result (λ text.
+        whole_lines_of text.bytes ≡ heading life ∷ after_first (lines_in found.items)) }
 {
     let mut text = Vec::new(alloc);
     put_heading(life, &mut text)?;

@@ -48,8 +48,8 @@ struct News {
     leader: NodeId,
 }
 
-/// Carries out the change of a line, which is given without its LF. Leaves the check after this line
-/// in `check`.
+/// Carries out the change of a line, which is given without its LF. Leaves the check after this
+/// line in `check`.
 pub(crate) fn replay_line(
     alloc: Global,
     line: &[u8],
@@ -58,9 +58,11 @@ pub(crate) fn replay_line(
 ) -> Result<(), ReplayFault>
     ensures ok { OnOk result (RedoesLine check.old line.now table.old check.new table.new) }
     ensures legal { IsLegal any_two_way any_greatest table.old.history table.old.book }
-    ensures refused { result ≡ Err replay_fault.Refused → (change : Change Any) → IsChange change → line.now ≡ marked_line check.old change → ¬ (MayCome table.old.book change) }
+    ensures refused { result ≡ Err replay_fault.Refused
+        → (change : Change Any) → IsChange change → line.now ≡ marked_line check.old change
+        → ¬ (MayCome table.old.book change) }
 {
-    // the history so far is legal, as its count says, and no two changes have this line
+    // for their laws: the history so far is legal, and no two changes have this line
     let _count = table.count();
     one_change();
     match read_line(line, check) {
@@ -103,8 +105,11 @@ pub(crate) fn replay(
 
 // Carries out a command again.
 fn redo(command: Command<Any>, table: &mut Replayed) -> Result<(), ReplayFault>
-    ensures ok { OnOk result ((change : Change Any) → asked_change command ≡ Some change → Redoes table.old change table.new) }
-    ensures refused { result ≡ Err replay_fault.Refused → (change : Change Any) → asked_change command ≡ Some change → IsRefusedAt command table.old.book }
+    ensures ok { OnOk result ((change : Change Any) → asked_change command ≡ Some change
+        → Redoes table.old change table.new) }
+    ensures refused { result ≡ Err replay_fault.Refused
+        → (change : Change Any) → asked_change command ≡ Some change
+        → IsRefusedAt command table.old.book }
 {
     let reply = table.call(0, command);
     if is_starved(&reply) {
@@ -118,8 +123,10 @@ fn redo(command: Command<Any>, table: &mut Replayed) -> Result<(), ReplayFault>
 
 // Files a report again.
 fn know(alloc: Global, news: News, table: &mut Replayed) -> Result<(), ReplayFault>
-    ensures ok { OnOk result (Redoes table.old (change.Know news.group news.term news.member news.leader) table.new) }
-    ensures refused { result ≡ Err replay_fault.Refused → ¬ (MayKnow news.group news.term news.member news.leader table.old.book) }
+    ensures ok { OnOk result (Redoes table.old
+        (change.Know news.group news.term news.member news.leader) table.new) }
+    ensures refused { result ≡ Err replay_fault.Refused
+        → ¬ (MayKnow news.group news.term news.member news.leader table.old.book) }
 {
     let report = report_of(alloc, news, table.book())?;
     match table.report(&report) {
@@ -133,7 +140,8 @@ fn know(alloc: Global, news: News, table: &mut Replayed) -> Result<(), ReplayFau
 // The report of this news, if it is of the last term of its group and true.
 fn report_of(alloc: Global, news: News, book: &Book<Any>) -> Result<Report<Any>, ReplayFault>
     ensures ok { IfOk result (IsReportOf news.group news.term news.member news.leader book.now) }
-    ensures refused { result ≡ Err replay_fault.Refused → ¬ (MayKnow news.group news.term news.member news.leader book.now) }
+    ensures refused { result ≡ Err replay_fault.Refused
+        → ¬ (MayKnow news.group news.term news.member news.leader book.now) }
 {
     let Ok(charter) = book.running(news.group) else {
         return Err(ReplayFault::Refused);
@@ -153,8 +161,8 @@ fn report_of(alloc: Global, news: News, book: &Book<Any>) -> Result<Report<Any>,
     Ok(Report::new(charter, position, news.member, news.leader))
 }
 
-// The winner of a running term. The book names it if this member is informed, which is mostly the
-// first that is. Otherwise it is worked out.
+// The winner of a running term. The book names it if this member is informed of it. Callers pass
+// the leader, which is mostly the first to be informed. Otherwise the winner is worked out.
 fn winner_in(
     alloc: Global,
     book: &Book<Any>,
@@ -170,11 +178,13 @@ fn winner_in(
     }
 }
 
-// The leader of the last term of a group, if this member is informed of it.
+// The leader of the last term of a group; `None` if this member is not informed of it.
 fn named(book: &Book<Any>, group: GroupName, member: NodeNo) -> Option<NodeId>
-    ensures { IfSome result (λ leader. (charter : Charter Any) → running_in group book.now ≡ Some charter → leader ≡ any_winner charter.algorithm charter.roster) }
+    ensures { IfSome result (λ leader. (charter : Charter Any)
+        → running_in group book.now ≡ Some charter
+        → leader ≡ any_winner charter.algorithm charter.roster) }
 {
-    // every book keeps that a term's leader is the winner of its ring, as this call says
+    // for its law: in every book the leader of a term is the winner of its ring
     let _count = book.len();
     let Ok(standing) = book.who(group, member) else {
         return None;
@@ -185,7 +195,7 @@ fn named(book: &Book<Any>, group: GroupName, member: NodeNo) -> Option<NodeId>
     }
 }
 
-// The position of the member with this identity.
+// The position of the member with this identity; `None` if no member has it.
 fn position_of(member: NodeId, ring: &Roster) -> Option<usize>
     ensures some { IfSome result (λ position. slice_get ring.now position ≡ Some member) }
     ensures none { IfNone result ((position : ℕ) → slice_get ring.now position ≢ Some member) }

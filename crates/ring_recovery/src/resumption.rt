@@ -28,8 +28,8 @@ pub fn resume(alloc: Global, found: Vec<u8>) -> Result<Recovered, RecoverFault>
     }
 }
 
-/// A table that was resumed after a crash leads to the groups as they were after the first of its
-/// entries, and at least after those that were kept for good.
+/// A table that was resumed after a crash has the groups as they were after the first of its
+/// entries. These are at least the entries that were kept for good.
 ///
 /// The law is the contract; the call does nothing.
 pub fn resumes_after_first()

@@ -19,8 +19,8 @@ pub(crate) struct Short {
     pub(crate) check: Check,
 }
 
-/// Returns the text of the changes that lead to `book`, if it has at most `most` bytes. Returns `None` too if
-/// an allocation fails.
+/// Returns the text of the changes that lead to `book`. Returns `None` if it would have more than
+/// `most` bytes, or if an allocation fails; no clause says when.
 pub(crate) fn shorter(alloc: Global, life: Life, book: &Book<Any>, most: usize) -> Option<Short>
     ensures { IfSome result (λ short. IsShort life book.now short.check short.text.bytes) }
 {

@@ -13,11 +13,10 @@ ghost use Rattle.ring_recovery.specs.JournalLines.{check_of, journal_lines};
 ghost use Rattle.ring_any.specs.Any.{any_greatest, any_two_way};
 ghost use Rattle.ring_table.specs.Histories.{IsLegal};
 ghost use Rattle.ring_recovery.specs.Written.{AreLinesOf, IsRewritten, LeavesEither, LeavesFirst};
-ghost use Rattle.ring_recovery.specs.private.Shortening.{IsReplacedBy, IsStandIn};
 
 use crate::alarm::{Alarm, Ending};
 use crate::life::Life;
-use crate::short::{Short, shorter};
+use crate::short::shorter;
 use ring_any::Any;
 use ring_change::{Change, Check, Line, change_of, change_of_filing, spell_line};
 use ring_events::{Command, Reply};
@@ -31,38 +30,35 @@ use std::alloc::Global;
 use std::marker::Model;
 use std::sync::{Arc, Wait};
 
-/// How many bytes the longest line of a change takes with its LF.
+/// The greatest number of bytes that the line of a change takes with its LF.
 const LONGEST: usize = Line::LONGEST + 1;
 
-/// How many entries a life has at most, so that places of different lives differ.
+/// The greatest number of entries of a life, so that places of different lives differ.
 const ENTRIES: usize = (1 << 44) - 1;
 
-/// How many bytes a journal has at least before it is rewritten.
-const LEAST: usize = 1 << 18;
-
-/// A recorder that writes the changes of its entries to a journal. An entry takes no memory.
+/// A recorder that writes the changes of its entries to a journal. It keeps no entry in memory.
 ///
-/// The journal is rewritten if it has grown to `LEAST` bytes and to twice the length that it had, and if the
-/// changes that lead to the groups take at most half of it.
+/// The journal is rewritten once it has 256 KiB and is twice as long as it was. The changes that
+/// lead to the groups must take at most half of it. This is tested, not proved.
 ///
-/// There are fewer than 2^44 entries: there is no room for one more then.
+/// There are fewer than 2^44 entries. Then there is no room for one more.
 ///
-/// Contracts see its entries, for how many more there is room, how many of the first ones are kept for
-/// good, its journal, and the number of the journal's life.
+/// Contracts see its entries in order, and for how many more there is room. They see how many of
+/// the first entries are kept for good, the journal, and the number of its life.
 #[derive(Drop)]
 pub struct Written<D: Medium + Drop> {
-    entries: Unkept<Any>,
-    journal: Journal<D>,
+    pub(crate) entries: Unkept<Any>,
+    pub(crate) journal: Journal<D>,
     // the check after the last line
-    check: Check,
+    pub(crate) check: Check,
     // how many of the first entries are kept for good
-    sure: usize,
+    pub(crate) sure: usize,
     life: Life,
-    // how many bytes the lines take, and how many they took when the journal was begun, or when it was
-    // tried last to rewrite it
-    size: usize,
-    mark: usize,
-    alarm: Arc<Alarm>,
+    // how many bytes the lines take
+    pub(crate) size: usize,
+    // how many bytes they took when the journal was begun, or when a rewrite was last tried
+    pub(crate) mark: usize,
+    pub(crate) alarm: Arc<Alarm>,
 }
 
 impl<D: Medium + Drop> Model for Written<D> {
@@ -72,13 +68,21 @@ impl<D: Medium + Drop> Model for Written<D> {
 
     ghost Value = { WrittenView };
 
-    ghost view = { λ a. record { items = a.entries.items; room = min (2 ^ 44 - 1 - length a.entries.items) (min a.entries.room (a.journal.room / 71)); sure = a.sure; journal = a.journal; life = a.life } };
+    ghost view = { λ a. record {
+      items = a.entries.items;
+      room = min
+          (2 ^ 44 - 1 - length a.entries.items)
+          (min a.entries.room (a.journal.room / 71));
+      sure = a.sure;
+      journal = a.journal;
+      life = a.life;
+    } };
 
     ghost invariant = { λ a. IsWritten a.life a.entries.items a.journal a.check a.sure };
 }
 
-// Adds the line of a change to a journal that has room for it. Returns how many bytes it takes. It is not
-// inlined, so that the way of a question stays short.
+// Adds the line of a change to a journal that has room for it. Returns how many bytes it takes. It
+// is not inlined, so that the code for a question stays short.
 #[inline(never)]
 fn add_line<D: Medium + Drop>(
     journal: &mut Journal<D>,
@@ -95,20 +99,9 @@ fn add_line<D: Medium + Drop>(
     line.as_slice().len() + 1
 }
 
-// Rings the alarm, and waits for good.
-fn fail<R: Wait>(rt: &R, alarm: &Alarm)
-    ensures { ⊥ }
-{
-    alarm.ring(rt, Ending::Failed);
-    for _ in rt.forever() {
-        alarm.doze(rt);
-    }
-    unreachable!()
-}
-
 impl<D: Medium + Drop> Written<D> {
-    /// Returns a recorder of entries whose changes are the lines of a journal, all of them settled. They take
-    /// `size` bytes. Does not allocate.
+    /// Returns a recorder of entries whose changes are the lines of a journal, all of them settled.
+    /// They take `size` bytes. Does not allocate.
     pub(crate) fn new(
         entries: Unkept<Any>,
         journal: Journal<D>,
@@ -127,7 +120,7 @@ impl<D: Medium + Drop> Written<D> {
         ensures journal { result.journal ≡ journal }
         ensures life { result.life ≡ life }
     {
-        // the number of a life is legal, as this call says
+        // for its law: the number of a life is legal
         let _counted = life.get();
         let sure = entries.count();
         Written {
@@ -142,22 +135,21 @@ impl<D: Medium + Drop> Written<D> {
         }
     }
 
-    /// Returns the journal. The other clauses are laws of every recorder: which lines its journal has,
-    /// and what a restart finds if the crash comes now.
+    /// Returns the journal. The other clauses are laws of every recorder, about the lines of its
+    /// journal and about a crash that comes now.
     pub fn journal(&self) -> &Journal<D>
         ensures value { result.now ≡ self.now.journal }
         ensures lines { AreLinesOf self.now.life self.now.items self.now.journal.lines }
         ensures any_moment { LeavesFirst self.now self.now }
     {
-        // the law of this call says what a crash leaves
+        // for its law on crashes
         let _pending = self.journal.pending();
         &self.journal
     }
 
-    /// Has all entries kept for good. If lines are pending, they are written and synced.
+    /// Settles the journal, so that all entries are kept for good.
     ///
-    /// Returns `Failed` if and only if the disk has failed, in this call or an earlier one. After that no
-    /// entry is kept for good any more.
+    /// Returns `Failed` if and only if the disk failed, in this call or an earlier one.
     pub fn try_settle(&mut self) -> Result<(), Fault>
         ensures items { self.new.items ≡ self.old.items }
         ensures sure { self.old.sure ≤ self.new.sure }
@@ -171,43 +163,8 @@ impl<D: Medium + Drop> Written<D> {
         Ok(())
     }
 
-    // Whether the journal has grown enough to be rewritten.
-    fn is_long(&self) -> bool {
-        self.size >= LEAST && self.size / 2 >= self.mark
-    }
-
-    // Puts a text in the place of the journal's. If the journal fails, it rings the alarm and does not return.
-    fn rewrite<R: Wait>(&mut self, rt: &R, short: Short)
-        requires { IsStandIn self.old.life self.old.items short.check short.text.bytes }
-        ensures items { self.new.items ≡ self.old.items }
-        ensures sure { self.old.sure ≤ self.new.sure }
-        ensures life { self.new.life ≡ self.old.life }
-        ensures lines { IsReplacedBy short.text.bytes self.old self.new }
-        ensures any_moment { LeavesEither self.old self.new }
-    {
-        // the law of this call says what a crash leaves before and after
-        let _before = self.journal();
-        match self.journal.replace(&short.text) {
-            Ok(()) => {}
-            Err(Fault::NoMemory) => {
-                drop(short);
-                let _same = self.journal();
-                return;
-            }
-            Err(Fault::Failed) => {
-                fail(rt, &self.alarm);
-                unreachable!()
-            }
-        }
-        self.check = short.check;
-        self.sure = self.entries.count();
-        self.size = short.text.len();
-        self.mark = short.text.len();
-        drop(short);
-        let _after = self.journal();
-    }
-
-    // Makes room for one more line. If the batch of the journal is full, its lines are settled first.
+    // Makes room for one more line. If the batch of the journal is full, its lines are settled
+    // first.
     fn reserve_line(&mut self) -> Result<(), NoMemory>
         ensures items { self.new.items ≡ self.old.items }
         ensures room { OnOk result (71 ≤ self.new.journal.room) }
@@ -256,8 +213,9 @@ impl<D: Medium + Drop> Recorder<Any> for Written<D> {
         self.entries.count()
     }
 
-    /// Finds room for one more entry and its line. If the batch of the journal is full, its lines are
-    /// written and synced first. Returns `NoMemory` too if there are 2^44 - 1 entries.
+    /// Finds room for one more entry and its line. If the batch of the journal is full, its lines
+    /// are settled first. Fails if an allocation or the journal fails, or if there are 2^44 - 1
+    /// entries.
     #[inline(never)]
     fn reserve(&mut self) -> Result<(), NoMemory>
         ensures items { self.new.items ≡ self.old.items }
@@ -275,14 +233,17 @@ impl<D: Medium + Drop> Recorder<Any> for Written<D> {
 
     /// Records a session's command and its reply as the last entry, for which there is room.
     ///
-    /// The line of its change is pending then. If it makes no change, it is kept for good if all entries
-    /// before it are.
+    /// The line of its change is pending then. An entry without a change is kept for good if all
+    /// entries before it are.
     #[inline(never)]
     fn record_call(&mut self, session: u32, command: Command<Any>, reply: &Reply)
         requires { 0 < self.old.room }
-        ensures added { self.new.items ≡ self.old.items ++ entry.Call session command reply.now ∷ [] }
+        ensures added { self.new.items
+            ≡ self.old.items ++ entry.Call session command reply.now ∷ [] }
         ensures sure { self.old.sure ≤ self.new.sure }
-        ensures kept { change_by command reply.now ≡ None → self.old.sure ≡ length self.old.items → self.new.sure ≡ length self.new.items }
+        ensures kept { change_by command reply.now ≡ None
+            → self.old.sure ≡ length self.old.items
+            → self.new.sure ≡ length self.new.items }
         ensures disk { self.new.journal.disk ≡ self.old.journal.disk }
         ensures life { self.new.life ≡ self.old.life }
         ensures any_moment { LeavesFirst self.old self.new }
@@ -299,15 +260,17 @@ impl<D: Medium + Drop> Recorder<Any> for Written<D> {
         }
     }
 
-    /// Records a report and what became of it as the last entry, for which there is room.
+    /// Records a report and the outcome of its filing as the last entry, for which there is room.
     ///
-    /// The line of its change is pending then. If it makes no change, it is kept for good if all entries
-    /// before it are.
+    /// The line of its change is pending then. An entry without a change is kept for good if all
+    /// entries before it are.
     fn record_filing(&mut self, report: &Report<Any>, noting: Noting)
         requires { 0 < self.old.room }
         ensures added { self.new.items ≡ self.old.items ++ filing report.now noting ∷ [] }
         ensures sure { self.old.sure ≤ self.new.sure }
-        ensures kept { change_in (filing report.now noting) ≡ None → self.old.sure ≡ length self.old.items → self.new.sure ≡ length self.new.items }
+        ensures kept { change_in (filing report.now noting) ≡ None
+            → self.old.sure ≡ length self.old.items
+            → self.new.sure ≡ length self.new.items }
         ensures disk { self.new.journal.disk ≡ self.old.journal.disk }
         ensures life { self.new.life ≡ self.old.life }
         ensures any_moment { LeavesFirst self.old self.new }
@@ -324,18 +287,19 @@ impl<D: Medium + Drop> Recorder<Any> for Written<D> {
         }
     }
 
-    /// Returns whether all entries are kept for good. Does not allocate. The second clause is a law of
-    /// every recorder: it says what a restart finds if the crash comes now.
+    /// Returns whether all entries are kept for good. Does not allocate. The second clause is a law
+    /// of every recorder, for a crash that comes now.
     fn is_settled(&self) -> bool
         ensures settled { IsTrue result ↔ (self.now.sure ≡ length self.now.items) }
         ensures any_moment { LeavesFirst self.now self.now }
     {
-        // the law of this call says what a crash leaves
+        // for its law on crashes
         let _journal = self.journal();
         self.sure == self.entries.count()
     }
 
-    /// Has all entries kept for good. If the journal fails, it rings the alarm and does not return.
+    /// Settles the journal, so that all entries are kept for good. If the journal fails, it rings
+    /// the alarm and does not return.
     fn settle<R: Wait>(&mut self, rt: &R)
         ensures items { self.new.items ≡ self.old.items }
         ensures sure { self.old.sure ≤ self.new.sure }
@@ -353,9 +317,11 @@ impl<D: Medium + Drop> Recorder<Any> for Written<D> {
         unreachable!()
     }
 
-    /// Rewrites the journal by the changes that lead to `book`, if it has grown enough and these take at most
-    /// half of its bytes. The new text has the same life. If an allocation fails, the journal stays as it
-    /// is. If the journal fails, it rings the alarm and does not return.
+    /// Rewrites the journal by the changes that lead to `book`, if it has grown enough and these
+    /// take at most half of its bytes. The new text has the same life.
+    ///
+    /// If an allocation fails, the journal stays as it is. If the journal fails, it rings the alarm
+    /// and does not return.
     fn shorten<R: Wait>(&mut self, rt: &R, alloc: Global, book: &Book<Any>)
         requires { IsLegal any_two_way any_greatest self.old.items book.now }
         ensures items { self.new.items ≡ self.old.items }
@@ -364,12 +330,12 @@ impl<D: Medium + Drop> Recorder<Any> for Written<D> {
         ensures lines { IsRewritten self.old book.now self.new }
         ensures any_moment { LeavesEither self.old self.new }
     {
-        // the law of this call says what a crash leaves
+        // for its law on crashes
         let _journal = self.journal();
         if !self.is_long() {
             return;
         }
-        // a history has the effect of its changes, which lead to one book
+        // for their laws: a history has the effect of its changes, which lead to one book
         follows_replays::<Any>();
         replays_exact::<Any>();
         self.mark = self.size;

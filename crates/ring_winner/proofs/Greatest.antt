@@ -1,4 +1,4 @@
--- The greatest of a list, in one pass from its front.
+-- The greatest of a list, in one pass from its first element.
 use Rattle.std.proofs.Common.{◌≡◌, ◌+◌, ◌≤◌, ℕ, List, [], ◌∷◌, length, drop, Some, max, slice_get, sym, ap, ◌∙◌, arith}
 use Rattle.std.specs.Ordering.{nat_cmp, ord_max}
 use Rattle.std.proofs.lemmas.List.{drop_all, drop_more}

@@ -4,8 +4,8 @@ use Rattle.std.proofs.lemmas.List.{append-nil, drop_all, drop_more, drop-set-lt,
 use Rattle.ring_peterson.specs.Rounds.{Round, Two, stays_active, two_of}
 use Rattle.ring_peterson.specs.laws.Walk.{kept, two_after, two_ends, walk_next}
 
--- Of a round of this size so many entries are written, k are read, and these two values were met
--- last. The next round is the written entries, with those that stay of the rest.
+-- Of a round of `size` entries, `written` are written and `k` are read, and these two values were
+-- met last. The next round is the written entries and those of the rest that stay.
 pub record IsInPlace (next : Round) (size written k : ℕ) (two : Two) (round : Round) : Type 0 where
   pub same_size : length round ≡ size
   pub behind : written ≤ k
@@ -19,7 +19,7 @@ two_after_last zero two (a ∷ (b ∷ [])) e f size before last = ap₂ (λ (x y
 two_after_last zero two (a ∷ (b ∷ (c ∷ round))) e f size before last = absurd (omega arith)
 two_after_last (suc n) two (a ∷ round) e f size before last = two_after_last n (two_of two.last a.1) round e f (omega arith) before last
 
--- so these two are to the left of the first entry
+-- the last two values are those to the left of the first entry
 two_ends_last : (n : ℕ) (round : Round) (e f : ℕ × ℕ) → length round ≡ suc (suc n) → e ≡ get_or round n e → f ≡ get_or round (suc n) f → two_of e.1 f.1 ≡ two_ends round
 two_ends_last n [] e f size before last = absurd (omega arith)
 two_ends_last n (a ∷ round) e f size before last = two_after_last n (two_of a.1 a.1) (a ∷ round) e f size before last

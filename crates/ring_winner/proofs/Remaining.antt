@@ -10,7 +10,7 @@ use Rattle.ring_peterson.specs.laws.Reading.{last_round-walk}
 use Rattle.ring_peterson.specs.laws.Shrinks.{length-next_half, length-next_some}
 use Rattle.ring_peterson.specs.laws.Values.{IsRound, IsRound-next}
 
--- a round of this ring, from which its last round is at most so many rounds on
+-- a round of this ring, from which its last round is at most `limit` rounds on
 pub record IsRemaining (ring : List ℕ) (round : Round) : Type 0 where
   pub is_round : IsRound (length ring) round
   pub some : 1 ≤ length round
@@ -18,7 +18,7 @@ pub record IsRemaining (ring : List ℕ) (round : Round) : Type 0 where
   pub enough : length round ≤ limit
   pub same : walk_last limit round ≡ last_round (length ring) (first_round ring)
 
--- the first round is one
+-- the first round is such a round
 pub IsRemaining-first : (ring : List ℕ) (round : Round) → IsRing ring → round ≡ first_round ring → IsRemaining ring round
 IsRemaining-first ring round is_ring is =
     let some = is_ring.some in
@@ -51,7 +51,7 @@ next_remains ring round (suc limit) two enough same is_round =
       same = sym step ∙ same;
     }
 
--- so the next round is one too
+-- the round after such a round is one too
 pub IsRemaining-next : (ring : List ℕ) (round later : Round) → 2 ≤ length round → later ≡ walk_next round → IsRemaining ring round → IsRemaining ring later
 IsRemaining-next ring round later two is h = rw is (next_remains ring round h.limit two h.enough h.same h.is_round)
 
@@ -68,7 +68,7 @@ walk_last-one : (limit : ℕ) (e : ℕ × ℕ) → walk_last limit (e ∷ []) �
 walk_last-one zero e = refl
 walk_last-one (suc limit) e = refl
 
--- where one entry is left, the member at its position wins
+-- if one entry is left, the member at its position wins
 pub one_remains : (ring : List ℕ) (round : Round) (e : ℕ × ℕ) (leader : ℕ) → length round ≤ 1 → e ≡ get_or round 0 e → slice_get ring e.0 ≡ Some leader → IsRemaining ring round → leader ≡ peterson_winner ring
 one_remains ring [] e leader one is there h = absurd (let some = h.some in omega arith)
 one_remains ring (f ∷ []) e leader one is there h =

@@ -31,8 +31,10 @@ fn first_round(alloc: Global, ring: &Roster) -> Result<Vec<(usize, NodeId)>, All
     Ok(round)
 }
 
-/// Turns a round of two or more entries into the next one, in place. An entry stays if its
-/// predecessor's value is greater than its own and than the value before. It takes that value over.
+/// Turns a round of two or more entries into the next one, in place.
+///
+/// An entry stays if its predecessor's value is greater than its own, and greater than the value
+/// before that. It takes over its predecessor's value.
 fn advance(round: &mut Vec<(usize, NodeId)>)
     requires { 2 ≤ length round.old.items }
     ensures { round.new.items ≡ walk_next round.old.items }

@@ -8,9 +8,10 @@ use ring_id::NodeId;
 use ring_roster::Roster;
 use std::alloc::{AllocError, Global};
 
-/// Returns the member that wins the election on this ring. The time is linear in the number of
-/// members. Allocates once for Peterson's election, and never for the others. Fails only if that
-/// allocation fails.
+/// Returns the member that wins the election on this ring. Fails only if an allocation fails.
+///
+/// It walks over the ring once. For Peterson's election it allocates once and walks over each
+/// round, which has at most half as many entries as the one before. No clause says this.
 pub fn winner_of(alloc: Global, algorithm: Any, roster: &Roster) -> Result<NodeId, AllocError>
     ensures { IfOk result (λ leader. leader ≡ any_winner algorithm roster.now) }
 {

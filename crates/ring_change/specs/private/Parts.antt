@@ -24,7 +24,8 @@ group_in (Know group term member leader) = group
 
 -- a space and the words of a term, a member and a leader
 abbrev pub known_text : ℕ → ℕ → ℕ → List ℕ
-known_text term member leader = (32 ∷ decimal term) ++ ((32 ∷ node_word member) ++ (32 ∷ node_word leader))
+known_text term member leader =
+    (32 ∷ decimal term) ++ ((32 ∷ node_word member) ++ (32 ∷ node_word leader))
 
 -- the text after the name: a space and each further word
 abbrev pub rest_text : Change Any → List ℕ

@@ -8,7 +8,7 @@ use Rattle.ring_change.specs.declared.change.Change.{Change}
 use Rattle.ring_change.specs.declared.change.Change.TheVariants.{Create, Join, Leave, Start, Know}
 use Rattle.ring_change.specs.Spelling.{IsChange}
 
--- The value that this text spells, and none only if it spells no value that is legal.
+-- This legal value is spelled so; or there is none, since no legal value is spelled so.
 abbrev pub Reads : {A B : Type 0} → (A → B) → (A → Type 0) → B → Option A → Type 0
 Reads spell IsLegal text (Some a) = IsLegal a × (text ≡ spell a)
 Reads {A} spell IsLegal text None = (a : A) → IsLegal a → text ≡ spell a → ⊥

@@ -12,10 +12,11 @@ use Rattle.ring_recovery.specs.Life.{IsLife}
 use Rattle.ring_recovery.specs.Recovered.{IsTextOf}
 use Rattle.ring_recovery.specs.Written.{LeadToSame}
 
--- The journal was rewritten after the first entries, or never. It has the lines of the changes that it began
--- with then, and of the changes of the rest of the entries. `check` is the check after them. The lines of
--- the first `sure` entries are settled. There are fewer than 2^44 entries.
-pub record IsWritten (life : ℕ) (entries : List (Entry Any)) (journal : JournalView) (check sure : ℕ) : Type 0 where
+-- The journal was rewritten after the first entries, or never. It has the lines of the changes that
+-- it began with then, and of the changes of the rest of the entries. `check` is the check after
+-- them. The lines of the first `sure` entries are settled. There are fewer than 2^44 entries.
+pub record IsWritten (life : ℕ) (entries : List (Entry Any)) (journal : JournalView)
+    (check sure : ℕ) : Type 0 where
   pub counted : IsLife life
   pub begun : List (Change Any)
   pub first : List (Entry Any)
@@ -33,7 +34,8 @@ pub record IsWritten (life : ℕ) (entries : List (Entry Any)) (journal : Journa
 
 -- The text is the lines of the changes of this history in this life, and `check` is the check after
 -- them. The history has fewer than 2^44 entries.
-pub record IsRecovered (life : ℕ) (history : List (Entry Any)) (check : ℕ) (text : List ℕ) : Type 0 where
+pub record IsRecovered (life : ℕ) (history : List (Entry Any)) (check : ℕ) (text : List ℕ)
+    : Type 0 where
   pub few : length history < 2 ^ 44
   pub text_of : IsTextOf life (changes_of history) text
   pub legal : All IsChange (changes_of history)

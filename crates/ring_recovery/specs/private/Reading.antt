@@ -1,4 +1,4 @@
--- How far a file was read.
+-- The part of a file that was read.
 use Rattle.std.specs.Prelude.{◌≡◌, ◌+◌, ℕ, List, [], ◌∷◌, All, length}
 use Rattle.ring_any.specs.declared.any.Any.{Any}
 use Rattle.ring_table.specs.Tables.{RecordedView}
@@ -14,7 +14,7 @@ use Rattle.ring_recovery.specs.Recovered.{HasChanges, IsReplayed}
 abbrev pub IsNext : List ℕ → ℕ → Type 0
 IsNext first life = (lives : ℕ) × IsLife lives × (first ≡ heading lives) × (life ≡ lives + 1)
 
--- how many bytes the first line takes with its LF
+-- the number of bytes of the first line with its LF, or 0 if there is none
 abbrev pub first_size : List (List ℕ) → ℕ
 first_size [] = 0
 first_size (line ∷ lines) = length line + 1
@@ -36,8 +36,8 @@ pub record IsHeaded (found : List ℕ) (start : ℕ) (lines : List (List ℕ)) :
   pub all : lines_in found ≡ heading lives ∷ lines
   pub starts : start ≡ length (heading lives) + 1
 
--- The changes of the table's history are those of a file with a heading, and `check` is the check after
--- them.
+-- The changes of the table's history are those of a file with a heading, and `check` is the check
+-- after them.
 pub record HasRead (found : List ℕ) (table : RecordedView Any) (check : ℕ) : Type 0 where
   pub lives : ℕ
   pub counted : IsLife lives
@@ -46,9 +46,10 @@ pub record HasRead (found : List ℕ) (table : RecordedView Any) (check : ℕ) :
   pub replayed : All IsReplayed table.history
   pub checked : check ≡ check_of first_check (changes_of table.history)
 
--- The changes of the table's history are those of the file, and `check` is the check after them. The
--- life is the next one, and the lines of changes begin at the byte `start`.
-pub record HasReplayed (found : List ℕ) (table : RecordedView Any) (life start check : ℕ) : Type 0 where
+-- The changes of the table's history are those of the file, and `check` is the check after them.
+-- The life is the next one, and the lines of changes begin at the byte `start`.
+pub record HasReplayed (found : List ℕ) (table : RecordedView Any) (life start check : ℕ)
+    : Type 0 where
   pub lives : ℕ
   pub next : life ≡ lives + 1
   pub starts : start ≡ first_size (lines_in found)

@@ -12,16 +12,18 @@ use Rattle.ring_recovery.specs.Recovered.{IsReplayed, IsTextOf, RecoveredView}
 use Rattle.ring_recovery.specs.private.Replaying.{Redoes}
 
 -- A change was carried out, and its line was added.
-pub record AddsChange (change : Change Any) (old new : RecordedView Any) (check next : ℕ) (text more : List ℕ) : Type 0 where
+pub record AddsChange (change : Change Any) (old new : RecordedView Any) (check next : ℕ)
+    (text more : List ℕ) : Type 0 where
   pub redoes : Redoes old change new
   pub legal : IsChange change
   pub checked : next ≡ check_behind check change
   pub added : more ≡ text ++ (marked_line check change ++ 10 ∷ [])
   pub whole : IsOneLine (marked_line check change)
 
--- These changes were carried out, `check` is the check after them, and the text is their lines in this
--- life.
-pub record IsRebuilt (life : ℕ) (changes : List (Change Any)) (table : RecordedView Any) (check : ℕ) (text : List ℕ) : Type 0 where
+-- These changes were carried out, `check` is the check after them, and the text is their lines in
+-- this life.
+pub record IsRebuilt (life : ℕ) (changes : List (Change Any)) (table : RecordedView Any) (check : ℕ)
+    (text : List ℕ) : Type 0 where
   pub made : changes_of table.history ≡ changes
   pub each : length table.history ≡ length changes
   pub legal : All IsChange changes

@@ -25,7 +25,8 @@ pub record AddsLine (change : Change Any) (check next : ℕ) (text more : List �
   pub whole : IsOneLine (marked_line check change)
 
 -- The text is the lines of these changes in this life, and `check` is the check after them.
-pub record IsSpelled (life : ℕ) (changes : List (Change Any)) (check : ℕ) (text : List ℕ) : Type 0 where
+pub record IsSpelled (life : ℕ) (changes : List (Change Any)) (check : ℕ) (text : List ℕ)
+    : Type 0 where
   pub legal : All IsChange changes
   pub checked : check ≡ check_of first_check changes
   pub lines : IsTextOf life changes text
@@ -35,13 +36,15 @@ pub record IsShort (life : ℕ) (groups : Object Any) (check : ℕ) (text : List
   pub spelled : IsSpelled life (book_changes groups) check text
   pub leads : Replays any_greatest [] (book_changes groups) groups
 
--- A text can take the place of the journal of these entries: its changes lead to the groups that the entries
--- lead to, and `check` is the check after them.
-pub record IsStandIn (life : ℕ) (entries : List (Entry Any)) (check : ℕ) (text : List ℕ) : Type 0 where
+-- A text can take the place of the journal of these entries: its changes lead to the groups that
+-- the entries lead to. `check` is the check after these changes.
+pub record IsStandIn (life : ℕ) (entries : List (Entry Any)) (check : ℕ) (text : List ℕ)
+    : Type 0 where
   pub changes : List (Change Any)
   pub spelled : IsSpelled life changes check text
   pub alike : LeadToSame changes (changes_of entries)
 
 -- The journal is as it was, or its lines are those of this text.
 abbrev pub IsReplacedBy : List ℕ → WrittenView → WrittenView → Type 0
-IsReplacedBy text old new = IsSame old.journal new.journal ⊎ (new.journal.lines ≡ whole_lines_of text)
+IsReplacedBy text old new =
+    IsSame old.journal new.journal ⊎ (new.journal.lines ≡ whole_lines_of text)

@@ -1,4 +1,4 @@
--- The changes of the terms so far, of the next one, and of the members of now.
+-- The changes of the terms so far, of the next one, and of the present members.
 use Rattle.std.proofs.Common.{◌≡◌, ◌++◌, ◌∙◌, arith, ap, sym}
 use Rattle.std.specs.Prelude.{OnOk}
 use Rattle.std.proofs.lemmas.Option.{slice_get_within}

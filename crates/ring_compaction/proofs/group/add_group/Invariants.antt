@@ -2,7 +2,7 @@ use Rattle.std.proofs.Common.{◌≡◌, ◌++◌, ◌+◌, ◌-◌, ◌≤◌, 
 use Rattle.ring_compaction.specs.BookChanges.{group_changes, terms_changes}
 use Rattle.ring_compaction.proofs.group.add_group.Given as goal
 
--- with the changes of the terms that are left these are all
+-- the changes so far, with those of the terms that are left, are all
 abbrev pub invariant-loop-term : goal.invariant-loop-term
 invariant-loop-term g l = record {
   within : l.place ≤ length l.group.1.terms;

@@ -4,7 +4,7 @@ use Rattle.ring_recovery.proofs.Reading.{IsRead, bad_line, ends_within, next_lin
 use Rattle.ring_recovery.proofs.recovery.replay_lines.Goals as goal
 use Rattle.ring_recovery.proofs.recovery.replay_lines.Goals.{In-Some}
 
--- what was read before the line
+-- the lines that were read before this line
 before : (c : In-Some) → IsRead c.args.found.now (c.in-Some.line.now ∷ c.next.new.self) c.loop-line.table c.loop-line.check c.loop-line.at
 before c = subst (λ (rest : List (List ℕ)). IsRead c.args.found.now rest c.loop-line.table c.loop-line.check c.loop-line.at) c.in-Some.ensures.steps c.loop-line.invariant.read
 

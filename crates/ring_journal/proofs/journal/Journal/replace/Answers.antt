@@ -1,4 +1,5 @@
--- Until the new text is in its place, a crash finds what it found before. Then it finds all of the text.
+-- Until the new text is in its place, a restart finds the lines from before. After that it finds
+-- all lines of the new text.
 use Rattle.std.proofs.Common.{length, refl, ap, ◌∙◌, sym}
 use Rattle.ring_journal.proofs.Settling.{crash_finds, finds_all, near_same, new_journal}
 use Rattle.ring_journal.proofs.journal.Journal.replace.Goals as goal

@@ -1,4 +1,4 @@
--- Nothing is written, so a crash finds what it found before.
+-- Nothing is written, so a restart finds the lines from before.
 use Rattle.std.proofs.Common.{◌++◌, refl, ap}
 use Rattle.ring_journal.proofs.Settling.{crash_finds, near_same}
 use Rattle.ring_journal.proofs.journal.Journal.reserve.Goals as goal

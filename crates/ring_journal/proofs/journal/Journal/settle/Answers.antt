@@ -1,5 +1,4 @@
--- At each exit the lines that are written or wait are those from before, so a crash finds the first
--- of them.
+-- At each exit the same lines are written or pending, so a restart finds the first of them.
 use Rattle.std.proofs.Common.{◌++◌, length, refl, ap, ◌∙◌, sym, append-nil}
 use Rattle.ring_journal.proofs.Settling.{crash_finds, near_batch, near_same, settled_journal}
 use Rattle.ring_journal.proofs.journal.Journal.settle.Goals as goal

@@ -1,4 +1,4 @@
--- The new text stands for all entries, and a crash finds the old text or the new one.
+-- The new text leads to the groups of all entries, and a restart finds the old text or the new one.
 use Rattle.std.proofs.Common.{refl, arith}
 use Rattle.ring_recovery.proofs.Shortening.{leaves_either, rewritten, sure_within}
 use Rattle.ring_recovery.proofs.written.Written.rewrite.Goals as goal

@@ -1,4 +1,5 @@
--- The lines stay the same, so a crash leaves the first of them. Once they are settled, all entries are kept.
+-- The lines stay the same, so a crash leaves the first of them. Once they are settled, all entries
+-- are kept.
 use Rattle.ring_recovery.proofs.Adding.{all_kept}
 use Rattle.ring_recovery.proofs.Keeping.{leaves_lines}
 use Rattle.ring_recovery.proofs.written.Written.try_settle.Goals as goal
