@@ -1,4 +1,4 @@
--- What a candidate's questions add up to.
+-- The entries of a candidate's questions, put together.
 use Rattle.std.proofs.Common.{◌≡◌, ◌⊎◌, ℕ, Bool, true, false, List, [], ◌∷◌, ◌++◌, Option, Some, All, refl, ap, sym, ◌∙◌, subst, append_assoc, append-nil, inl, inr}
 use Rattle.std.specs.List.{flat_map, list_any}
 use Rattle.std.proofs.lemmas.List.Concat.{flat_map-append}
@@ -25,14 +25,14 @@ use Rattle.ring_campaign.specs.declared.finding.Found.{Found}
 use Rattle.ring_campaign.specs.declared.finding.Found.TheVariants as found
 use Rattle.ring_campaign.specs.private.Looking.{AddsLook, AddsQuestions, AddsStart, AddsWho, Finds, IsAt, IsTold, Seeks, SeeksOn, Starts}
 
--- ---- what `who` answers
+-- ---- the answer to `who`
 
--- the reply that tells a standing is told
+-- the reply of a standing is one that a client gets
 tells_standing : (answer : Reply) (said : Standing) → answer ≡ standing_reply said → IsTold answer
 tells_standing answer (standing.Leader term leader) is = subst IsTold (sym is) tt
 tells_standing answer (standing.Undecided term) is = subst IsTold (sym is) tt
 
--- so a step of `who` has a reply that is told
+-- so a step of `who` has such a reply
 tells_step : (name : List ℕ) (node : ℕ) (old new : Object Any) (answer : Reply) → StepOf any_two_way any_greatest old (Who name node) answer new → IsTold answer
 tells_step name node old new reply.Done step = tt
 tells_step name node old new (reply.Leader term leader) step = tt
@@ -80,7 +80,7 @@ module _ (session : ℕ) (group : List ℕ) (number : ℕ) where
     silent = refl;
   }
 
-  -- questions and then others
+  -- questions, and then others
   pub adds_more : (mine mid now : List (Entry Any)) → AddsQuestions session group number mine mid → AddsQuestions session group number mid now → AddsQuestions session group number mine now
   adds_more mine mid now a b = record {
     added = a.added ++ b.added;
@@ -91,7 +91,7 @@ module _ (session : ℕ) (group : List ℕ) (number : ℕ) where
 
   -- ---- whether there is a leader to follow
 
-  -- no term has begun: what a start becomes
+  -- no term has begun: the result of a start
   pub finds_no_term : (mine mid now : List (Entry Any)) (result : Found) → mid ≡ mine ++ Call session (Terms group) (reply.Terms []) ∷ [] → Starts session group number mid result now → Finds session group number mine result now
   finds_no_term mine mid now result asked starts = go result starts
     where
@@ -108,7 +108,7 @@ module _ (session : ℕ) (group : List ℕ) (number : ℕ) where
       go found.Follows s = inr (s.0, behind s.0 s.1, s.2)
       go (found.Refused refusal) gained = behind (reply.Refused refusal) gained
 
-  -- what is known of a leader
+  -- the result of a question about a leader
   pub finds_leader : (mine mid now : List (Entry Any)) (result : Found) (leaders : List (Option ℕ)) (leader : ℕ) → mid ≡ mine ++ Call session (Terms group) (reply.Terms (leaders ++ Some leader ∷ [])) ∷ []
       → Seeks session group number leader mid result now → Finds session group number mine result now
   finds_leader mine mid now result leaders leader asked seeks = go result seeks
@@ -141,7 +141,7 @@ module _ (session : ℕ) (group : List ℕ) (number : ℕ) where
       go found.Follows (inr s) = inr (s.0, behind s.0 s.1, s.2)
       go (found.Refused refusal) on = behind (reply.Refused refusal) on
 
-  -- a start, where the leader is no member any more
+  -- a start, if the leader is no member any more
   pub seeks_start : (mine mid now : List (Entry Any)) (result : Found) (leader : ℕ) (members : List ℕ) → list_any (has_number leader) members ≡ false
       → mid ≡ mine ++ Call session (Members group) (reply.Members members) ∷ [] → Starts session group number mid result now → Seeks session group number leader mine result now
   seeks_start mine mid now result leader members gone asked starts = go result starts
@@ -163,7 +163,7 @@ module _ (session : ℕ) (group : List ℕ) (number : ℕ) where
 
   -- ---- looks
 
-  -- questions behind those since the join
+  -- questions after those since the join
   more_questions : (at : Bool) (during added : List (Entry Any)) → All (IsQuestion session group number) added → IsAt session group number at during → IsAt session group number at (during ++ added)
   more_questions false during added more all = All-append (IsQuestion session group number) during added all more
   more_questions true during added more (inl all) = inl (All-append (IsQuestion session group number) during added all more)
@@ -178,7 +178,7 @@ module _ (session : ℕ) (group : List ℕ) (number : ℕ) where
         questions = All-append (IsQuestion session group number) once.later added once.questions more;
       })
 
-  -- questions that found nobody, behind others
+  -- questions that found no leader, after others
   more_nobody : (during asked : List (Entry Any)) → All (IsQuestion session group number) during → FindNobody session group number asked → FindNobody session group number (during ++ asked)
   more_nobody during asked all nobody = (All-append (IsQuestion session group number) during asked all nobody.0, go nobody.1)
     where
@@ -196,7 +196,7 @@ module _ (session : ℕ) (group : List ℕ) (number : ℕ) where
             gone = lost.gone;
           })
 
-  -- a start behind questions that found nobody
+  -- a start after questions that found no leader
   start_behind : (during asked : List (Entry Any)) (answer : Reply) → FindNobody session group number asked → All (IsQuestion session group number) during → Looks session group number (during ++ (asked ++ Call session (Start group) answer ∷ []))
   start_behind during asked answer nobody all =
       inr
@@ -227,7 +227,7 @@ module _ (session : ℕ) (group : List ℕ) (number : ℕ) where
   }
   looks_up at mine now (look.Last refusal) asks = absurd asks
 
-  -- one look after a step that tells nothing
+  -- one look after a step from which the client gets nothing
   looks_then : (old mid new : Bool) (mine between now : List (Entry Any)) (result : Look) (added : List (Entry Any)) → between ≡ mine ++ added → flat_map told_of added ≡ []
       → ((during : List (Entry Any)) → IsAt session group number old during → IsAt session group number mid (during ++ added)) → AddsWho session group number between result now → mid ≡ new
       → AddsLook session group number old mine result new now
@@ -254,7 +254,7 @@ module _ (session : ℕ) (group : List ℕ) (number : ℕ) where
       }
   looks_then old mid new mine between now (look.Last refusal) added gained silent at asks same = absurd asks
 
-  -- nothing is known of a leader
+  -- the leader is not known
   pub looks_unknown : (mine between now : List (Entry Any)) (result : Look) → Finds session group number mine found.Unknown between → AddsWho session group number between result now → AddsLook session group number false mine result false now
   looks_unknown mine between now result finds asks =
       looks_then false false false mine between now result finds.added finds.gained finds.silent (λ during is. more_questions false during finds.added finds.questions is) asks refl

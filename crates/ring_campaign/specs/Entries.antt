@@ -1,5 +1,5 @@
--- What a campaign adds to the entries of its seat: its join, then questions about its group, and last its leave. Here
--- they are those of a session, for a group and for the number of its member.
+-- The entries that a campaign adds to its seat: its join, then questions about its group, and last
+-- its leave. Here they are those of a session, for a group and for the number of its member.
 use Rattle.std.specs.Prelude.{◌≡◌, ◌⊎◌, ◌==◌, ℕ, Bool, true, false, List, [], ◌∷◌, ◌++◌, Option, Some, All}
 use Rattle.std.specs.List.{list_any}
 use Rattle.ring_id.specs.Identity.{number_of}
@@ -12,7 +12,7 @@ use Rattle.ring_events.specs.declared.reply.Reply.TheVariants as reply
 use Rattle.ring_table.specs.declared.entry.Entry.{Entry}
 use Rattle.ring_table.specs.declared.entry.Entry.TheVariants.{Call}
 
--- whether this member has to be followed once it has gone: it leads the last term, or has not heard who does
+-- whether the member may lead the last term: it leads it, or does not know its leader
 abbrev pub may_lead : ℕ → Reply → Bool
 may_lead number (Leader term leader) = number_of leader == number
 may_lead number (Undecided term) = true
@@ -21,7 +21,8 @@ may_lead number _ = false
 module _ (session : ℕ) (group : List ℕ) (number : ℕ) where
   -- a question about this group, or about this member
   abbrev pub IsQuestion : Entry Any → Type 0
-  IsQuestion (Call caller (Who name node) answer) = (caller ≡ session) × (name ≡ group) × (node ≡ number)
+  IsQuestion (Call caller (Who name node) answer) =
+      (caller ≡ session) × (name ≡ group) × (node ≡ number)
   IsQuestion (Call caller (Members name) answer) = (caller ≡ session) × (name ≡ group)
   IsQuestion (Call caller (Terms name) answer) = (caller ≡ session) × (name ≡ group)
   IsQuestion _ = ⊥
@@ -32,7 +33,9 @@ module _ (session : ℕ) (group : List ℕ) (number : ℕ) where
     pub leaders : List (Option ℕ)
     pub leader : ℕ
     pub members : List ℕ
-    pub whole : asked ≡ earlier ++ Call session (Terms group) (reply.Terms (leaders ++ Some leader ∷ [])) ∷ Call session (Members group) (reply.Members members) ∷ []
+    pub whole : asked ≡ earlier ++ Call session (Terms group)
+        (reply.Terms (leaders ++ Some leader ∷ []))
+        ∷ Call session (Members group) (reply.Members members) ∷ []
     pub gone : list_any (has_number leader) members ≡ false
 
   -- The last answer says that no term has begun.
@@ -44,7 +47,7 @@ module _ (session : ℕ) (group : List ℕ) (number : ℕ) where
   abbrev pub FindNobody : List (Entry Any) → Type 0
   FindNobody asked = All IsQuestion asked × (HasNoTerm asked ⊎ HasLostLeader asked)
 
-  -- One start, behind questions that found nobody. Questions follow it.
+  -- One start, after questions that found no leader. Questions follow it.
   pub record StartsOnce (entries : List (Entry Any)) : Type 0 where
     pub asked : List (Entry Any)
     pub answer : Reply
@@ -57,7 +60,7 @@ module _ (session : ℕ) (group : List ℕ) (number : ℕ) where
   abbrev pub Looks : List (Entry Any) → Type 0
   Looks entries = All IsQuestion entries ⊎ StartsOnce entries
 
-  -- a start exactly if there may be a leader to follow no more
+  -- a start exactly if the member may have been the leader
   abbrev pub StartsIf : Bool → List (Entry Any) → Type 0
   StartsIf true entries = (answer : Reply) × (entries ≡ Call session (Start group) answer ∷ [])
   StartsIf false entries = entries ≡ []
@@ -67,7 +70,8 @@ module _ (session : ℕ) (group : List ℕ) (number : ℕ) where
     pub left : Reply
     pub told : Reply
     pub again : List (Entry Any)
-    pub whole : entries ≡ Call session (Leave group number) left ∷ Call session (Who group number) told ∷ again
+    pub whole : entries ≡ Call session (Leave group number) left
+        ∷ Call session (Who group number) told ∷ again
     pub starts : StartsIf (may_lead number told) again
 
 module _ (session : ℕ) (mine now : List (Entry Any)) where
@@ -89,6 +93,6 @@ module _ (session : ℕ) (mine now : List (Entry Any)) where
     pub looks : Looks session group (number_of node) during
     pub leaves : Leaves session group (number_of node) ending
 
-  -- what a campaign adds to the entries of its seat
+  -- the entries that a campaign adds to those of its seat
   abbrev pub GainsCampaign : Type 0
   GainsCampaign = (now ≡ mine) ⊎ GainsRefusal ⊎ GainsMember

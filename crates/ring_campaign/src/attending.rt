@@ -1,4 +1,4 @@
-//! What a candidate does between its join and its leave.
+//! The turns of a candidate between its join and its leave.
 ghost use Rattle.std.specs.Prelude.{◌≡◌, ◌≤◌, ℕ, IfOk, List, length};
 ghost use Rattle.ring_lines.specs.Ends.{goes_on, reading};
 ghost use Rattle.ring_campaign.specs.private.Telling.{Attends, Turns};
@@ -11,19 +11,19 @@ use ring_table::Access;
 use std::sync::Wait;
 use std::time::Clock;
 
-/// What comes of a turn.
+/// The result of a turn.
 pub(crate) enum Turn {
     /// The campaign goes on.
     On,
-    /// A start was refused, and the client was told.
+    /// A start was refused, and the client got the refusal.
     Over,
     /// The writer failed.
     Failed,
 }
 
 impl<A: Access<Any> + Drop, R: Wait + Clock> Candidate<'_, A, R> {
-    /// Tells the client what the member knows of its leader, each time that it changes, until the campaign is
-    /// over. The client was told that it has joined.
+    /// Writes to the client what the member knows of its leader, each time that it changes, until
+    /// the campaign is over. The client has the reply to its join.
     pub(crate) fn attend<I: Intake, O: Outlet>(
         &self,
         seat: &mut A::Seat,
@@ -33,7 +33,9 @@ impl<A: Access<Any> + Drop, R: Wait + Clock> Candidate<'_, A, R> {
     )
         requires { A.has_seat self.now.access.now seat.old }
         ensures seat { A.has_seat self.now.access.now seat.new }
-        ensures attends { Attends I.read_gives O.write_gives self.now.session self.now.group self.now.number (A.mine seat.old) reader.old writer.old (A.mine seat.new) reader.new writer.new }
+        ensures attends { Attends I.read_gives O.write_gives self.now.session self.now.group
+            self.now.number (A.mine seat.old) reader.old writer.old (A.mine seat.new) reader.new
+            writer.new }
     {
         let mut last = Reply::Done;
         let mut follows = false;
@@ -50,7 +52,7 @@ impl<A: Access<Any> + Drop, R: Wait + Clock> Candidate<'_, A, R> {
         unreachable!()
     }
 
-    // Looks once, and tells what is to be told.
+    // Looks once, and writes what the look found, if the client does not have it yet.
     fn turn<O: Outlet>(
         &self,
         seat: &mut A::Seat,
@@ -61,7 +63,9 @@ impl<A: Access<Any> + Drop, R: Wait + Clock> Candidate<'_, A, R> {
     ) -> Turn
         requires { A.has_seat self.now.access.now seat.old }
         ensures seat { A.has_seat self.now.access.now seat.new }
-        ensures turns { Turns O.write_gives self.now.session self.now.group self.now.number follows.old last.old (A.mine seat.old) writer.old result follows.new last.new (A.mine seat.new) writer.new }
+        ensures turns { Turns O.write_gives self.now.session self.now.group self.now.number
+            follows.old last.old (A.mine seat.old) writer.old result follows.new last.new
+            (A.mine seat.new) writer.new }
     {
         match self.look(seat, follows) {
             Look::Nothing => Turn::On,
@@ -79,9 +83,10 @@ impl<A: Access<Any> + Drop, R: Wait + Clock> Candidate<'_, A, R> {
     }
 }
 
-// Whether a read call may follow one with this answer.
+// Returns whether a read call may follow one with this answer.
 fn may_go_on(answer: Result<usize, ReadFault>) -> bool
-    ensures { (bytes : List ℕ) → IfOk answer (λ n. n ≤ length bytes) → goes_on (reading answer bytes) ≡ result }
+    ensures { (bytes : List ℕ) → IfOk answer (λ n. n ≤ length bytes)
+        → goes_on (reading answer bytes) ≡ result }
 {
     match answer {
         Ok(count) => count > 0,

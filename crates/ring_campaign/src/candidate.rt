@@ -1,4 +1,4 @@
-//! A candidate, and what it asks.
+//! A candidate, and its questions.
 ghost use Rattle.ring_campaign.specs.private.Looking.{AddsLook, AddsWho, Asks};
 
 use crate::finding::Found;
@@ -8,11 +8,11 @@ use ring_id::{GroupName, NodeNo, Refusal};
 use ring_table::{Access, Answer};
 use std::sync::Wait;
 
-/// What is told after a look.
+/// What the client gets after a look.
 pub(crate) enum Look {
     /// Nothing.
     Nothing,
-    /// This reply, if it is another one than the last.
+    /// This reply, unless it equals the last one.
     Tell(Reply),
     /// This refusal, and nothing after it.
     Last(Refusal),
@@ -29,11 +29,12 @@ pub(crate) struct Candidate<'a, A: Drop, R> {
 }
 
 impl<A: Access<Any> + Drop, R: Wait> Candidate<'_, A, R> {
-    /// The reply to a command, if it is placed.
+    /// Returns the reply to a command, or `None` if it is not placed.
     pub(crate) fn ask(&self, seat: &mut A::Seat, command: &Command<Any>) -> Option<Reply>
         requires { A.has_seat self.now.access.now seat.old }
         ensures seat { A.has_seat self.now.access.now seat.new }
-        ensures asks { Asks self.now.session command.now (A.mine seat.old) result (A.mine seat.new) }
+        ensures asks { Asks self.now.session command.now (A.mine seat.old) result
+            (A.mine seat.new) }
     {
         match self.access.call(self.rt, seat, self.session, *command) {
             Answer::Placed { reply, place: _ } => Some(reply),
@@ -41,11 +42,13 @@ impl<A: Access<Any> + Drop, R: Wait> Candidate<'_, A, R> {
         }
     }
 
-    /// Looks for a leader to follow, until one was found, and asks what the member knows of its leader.
+    /// Looks for a leader to follow, unless one was found before. Then asks what the member knows
+    /// of its leader.
     pub(crate) fn look(&self, seat: &mut A::Seat, follows: &mut bool) -> Look
         requires { A.has_seat self.now.access.now seat.old }
         ensures seat { A.has_seat self.now.access.now seat.new }
-        ensures looks { AddsLook self.now.session self.now.group self.now.number follows.old (A.mine seat.old) result follows.new (A.mine seat.new) }
+        ensures looks { AddsLook self.now.session self.now.group self.now.number follows.old
+            (A.mine seat.old) result follows.new (A.mine seat.new) }
     {
         if *follows {
             return self.look_up(seat);
@@ -67,7 +70,8 @@ impl<A: Access<Any> + Drop, R: Wait> Candidate<'_, A, R> {
     fn look_up(&self, seat: &mut A::Seat) -> Look
         requires { A.has_seat self.now.access.now seat.old }
         ensures seat { A.has_seat self.now.access.now seat.new }
-        ensures asks { AddsWho self.now.session self.now.group self.now.number (A.mine seat.old) result (A.mine seat.new) }
+        ensures asks { AddsWho self.now.session self.now.group self.now.number (A.mine seat.old)
+            result (A.mine seat.new) }
     {
         let who = Command::Who(self.group, self.number);
         match self.access.call(self.rt, seat, self.session, who) {

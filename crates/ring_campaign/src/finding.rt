@@ -1,4 +1,4 @@
-//! Whether there is a leader to follow.
+//! The search for a leader to follow.
 ghost use Rattle.ring_campaign.specs.private.Looking.{Finds, Seeks, Starts};
 
 use crate::candidate::Candidate;
@@ -9,9 +9,9 @@ use ring_id::{NodeId, Refusal};
 use ring_table::Access;
 use std::sync::Wait;
 
-/// What the leaders of a group's terms say of the last one.
+/// The last term, by a list of the leaders of a group's terms.
 pub(crate) enum Last {
-    /// It is undecided, or nothing was said.
+    /// It is undecided, or there is no such list.
     Unknown,
     /// No term has begun.
     NoTerm,
@@ -19,7 +19,7 @@ pub(crate) enum Last {
     Leader(NodeId),
 }
 
-/// Whether there is a leader to follow.
+/// The result of a search for a leader to follow.
 pub(crate) enum Found {
     /// Not known yet.
     Unknown,
@@ -30,12 +30,13 @@ pub(crate) enum Found {
 }
 
 impl<A: Access<Any> + Drop, R: Wait> Candidate<'_, A, R> {
-    /// Looks for a leader to follow. If there is none, a term is started. All is asked in one turn of the
-    /// seat, if it has turns that do so.
+    /// Looks for a leader to follow. If there is none, starts a term. The seat keeps the table
+    /// meanwhile, so all questions are in one turn if the access has turns.
     pub(crate) fn find(&self, seat: &mut A::Seat) -> Found
         requires { A.has_seat self.now.access.now seat.old }
         ensures seat { A.has_seat self.now.access.now seat.new }
-        ensures finds { Finds self.now.session self.now.group self.now.number (A.mine seat.old) result (A.mine seat.new) }
+        ensures finds { Finds self.now.session self.now.group self.now.number (A.mine seat.old)
+            result (A.mine seat.new) }
     {
         let queued = self.access.queue(self.rt);
         self.access.keep(seat);
@@ -49,7 +50,8 @@ impl<A: Access<Any> + Drop, R: Wait> Candidate<'_, A, R> {
     fn find_now(&self, seat: &mut A::Seat) -> Found
         requires { A.has_seat self.now.access.now seat.old }
         ensures seat { A.has_seat self.now.access.now seat.new }
-        ensures finds { Finds self.now.session self.now.group self.now.number (A.mine seat.old) result (A.mine seat.new) }
+        ensures finds { Finds self.now.session self.now.group self.now.number (A.mine seat.old)
+            result (A.mine seat.new) }
     {
         let Some(terms) = self.ask(seat, &Command::Terms(self.group)) else {
             return Found::Unknown;
@@ -63,11 +65,12 @@ impl<A: Access<Any> + Drop, R: Wait> Candidate<'_, A, R> {
         }
     }
 
-    // Looks whether this leader is a member, and starts a term if it is none.
+    // Looks whether this leader is a member, and starts a term if it is not.
     fn find_leader(&self, seat: &mut A::Seat, leader: NodeId) -> Found
         requires { A.has_seat self.now.access.now seat.old }
         ensures seat { A.has_seat self.now.access.now seat.new }
-        ensures seeks { Seeks self.now.session self.now.group self.now.number leader (A.mine seat.old) result (A.mine seat.new) }
+        ensures seeks { Seeks self.now.session self.now.group self.now.number leader
+            (A.mine seat.old) result (A.mine seat.new) }
     {
         let Some(members) = self.ask(seat, &Command::Members(self.group)) else {
             return Found::Unknown;
@@ -85,7 +88,8 @@ impl<A: Access<Any> + Drop, R: Wait> Candidate<'_, A, R> {
     fn start(&self, seat: &mut A::Seat) -> Found
         requires { A.has_seat self.now.access.now seat.old }
         ensures seat { A.has_seat self.now.access.now seat.new }
-        ensures starts { Starts self.now.session self.now.group self.now.number (A.mine seat.old) result (A.mine seat.new) }
+        ensures starts { Starts self.now.session self.now.group self.now.number (A.mine seat.old)
+            result (A.mine seat.new) }
     {
         let Some(reply) = self.ask(seat, &Command::Start(self.group)) else {
             return Found::Unknown;

@@ -1,4 +1,4 @@
-//! How a candidate leaves.
+//! The leave of a candidate.
 ghost use Rattle.std.specs.Prelude.{◌≡◌, ◌++◌, ◌∷◌, []};
 ghost use Rattle.ring_table.specs.declared.entry.Entry.TheVariants as entry;
 ghost use Rattle.ring_campaign.specs.private.Telling.{AddsLeave};
@@ -12,16 +12,17 @@ use std::sync::Wait;
 use std::thread;
 use std::time::{Clock, Duration};
 
-// After how many milliseconds a command that was not placed is given again.
+// the pause before a command that was not placed is tried again, in milliseconds
 const PAUSE: u64 = 10;
 
 impl<A: Access<Any> + Drop, R: Wait + Clock> Candidate<'_, A, R> {
-    /// Takes the member out, and then starts a term exactly if the member may lead the last one. Each command is
-    /// given again until it is placed.
+    /// Takes the member out, and then starts a term exactly if the member may lead the last one.
+    /// Each command is tried again until it is placed.
     pub(crate) fn leave(&self, seat: &mut A::Seat)
         requires { A.has_seat self.now.access.now seat.old }
         ensures seat { A.has_seat self.now.access.now seat.new }
-        ensures leaves { AddsLeave self.now.session self.now.group self.now.number (A.mine seat.old) (A.mine seat.new) }
+        ensures leaves { AddsLeave self.now.session self.now.group self.now.number (A.mine seat.old)
+            (A.mine seat.new) }
     {
         let left = self.insist(seat, &Command::Leave(self.group, self.number));
         drop(left);
@@ -33,11 +34,12 @@ impl<A: Access<Any> + Drop, R: Wait + Clock> Candidate<'_, A, R> {
         }
     }
 
-    // The reply to a command, which is given again until it is placed.
+    // Returns the reply to a command, which is tried again until it is placed.
     fn insist(&self, seat: &mut A::Seat, command: &Command<Any>) -> Reply
         requires { A.has_seat self.now.access.now seat.old }
         ensures seat { A.has_seat self.now.access.now seat.new }
-        ensures entry { A.mine seat.new ≡ A.mine seat.old ++ entry.Call self.now.session command.now result ∷ [] }
+        ensures entry { A.mine seat.new
+            ≡ A.mine seat.old ++ entry.Call self.now.session command.now result ∷ [] }
     {
         for _ in self.rt.forever() {
             if let Some(reply) = self.ask(seat, command) {

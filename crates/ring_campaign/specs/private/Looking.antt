@@ -1,4 +1,4 @@
--- What a candidate asks, and what it finds.
+-- The questions of a candidate, and their results.
 use Rattle.std.specs.Prelude.{◌≡◌, ◌⊎◌, ℕ, Bool, true, false, List, [], ◌∷◌, ◌++◌, Option, Some, None, All}
 use Rattle.std.specs.List.{flat_map, list_any}
 use Rattle.ring_roster.specs.Ring.{has_number}
@@ -19,7 +19,7 @@ use Rattle.ring_campaign.specs.declared.finding.Last.TheVariants as last
 use Rattle.ring_campaign.specs.declared.candidate.Look.{Look}
 use Rattle.ring_campaign.specs.declared.candidate.Look.TheVariants as look
 
--- a reply that a client is told while it campaigns
+-- a reply that a client gets while it campaigns
 abbrev pub IsTold : Reply → Type 0
 IsTold Done = Unit {0}
 IsTold (Leader term leader) = Unit {0}
@@ -32,27 +32,31 @@ abbrev pub Asks : ℕ → Command Any → List (Entry Any) → Option Reply → 
 Asks session command mine (Some answer) now = now ≡ mine ++ Call session command answer ∷ []
 Asks session command mine None now = now ≡ mine
 
--- what the list of leaders says of the last term
+-- the last term by a list of leaders
 abbrev pub SaysLast : Reply → Last → Type 0
 SaysLast answer last.Unknown = Unit {0}
 SaysLast answer last.NoTerm = answer ≡ reply.Terms []
-SaysLast answer (last.Leader leader) = (leaders : List (Option ℕ)) × (answer ≡ reply.Terms (leaders ++ Some leader ∷ []))
+SaysLast answer (last.Leader leader) =
+    (leaders : List (Option ℕ)) × (answer ≡ reply.Terms (leaders ++ Some leader ∷ []))
 
--- what the list of members says of one of them
+-- whether a list of members has the number of this leader
 abbrev pub SaysMember : ℕ → Reply → Option Bool → Type 0
 SaysMember leader answer None = Unit {0}
-SaysMember leader answer (Some there) = (members : List ℕ) × (answer ≡ reply.Members members) × (there ≡ list_any (has_number leader) members)
+SaysMember leader answer (Some there) =
+    (members : List ℕ) × (answer ≡ reply.Members members)
+    × (there ≡ list_any (has_number leader) members)
 
 module _ (session : ℕ) (group : List ℕ) (number : ℕ) where
-  -- Questions of which nothing is told were added.
+  -- Questions whose answers the client does not get were added.
   pub record AddsQuestions (mine now : List (Entry Any)) : Type 0 where
     pub added : List (Entry Any)
     pub gained : now ≡ mine ++ added
     pub questions : All (IsQuestion session group number) added
     pub silent : flat_map told_of added ≡ []
 
-  -- Questions that found nobody were added, and a start behind them.
-  pub record AddsStart (mine : List (Entry Any)) (answer : Reply) (now : List (Entry Any)) : Type 0 where
+  -- Questions that found no leader were added, and a start after them.
+  pub record AddsStart (mine : List (Entry Any)) (answer : Reply)
+      (now : List (Entry Any)) : Type 0 where
     pub asked : List (Entry Any)
     pub gained : now ≡ mine ++ (asked ++ Call session (Start group) answer ∷ [])
     pub nobody : FindNobody session group number asked
@@ -61,52 +65,67 @@ module _ (session : ℕ) (group : List ℕ) (number : ℕ) where
   -- whether there is a leader to follow, or a term was started
   abbrev pub Finds : List (Entry Any) → Found → List (Entry Any) → Type 0
   Finds mine found.Unknown now = AddsQuestions mine now
-  Finds mine found.Follows now = AddsQuestions mine now ⊎ ((answer : Reply) × AddsStart mine answer now × (told_of (Call session (Start group) answer) ≡ []))
+  Finds mine found.Follows now =
+      AddsQuestions mine now
+      ⊎ ((answer : Reply) × AddsStart mine answer now
+      × (told_of (Call session (Start group) answer) ≡ []))
   Finds mine (found.Refused refusal) now = AddsStart mine (Refused refusal) now
 
-  -- This leader is no member any more, and a start was placed behind the question.
-  pub record SeeksOn (leader : ℕ) (mine : List (Entry Any)) (answer : Reply) (now : List (Entry Any)) : Type 0 where
+  -- This leader is no member any more, and a start was placed after the question.
+  pub record SeeksOn (leader : ℕ) (mine : List (Entry Any)) (answer : Reply)
+      (now : List (Entry Any)) : Type 0 where
     pub members : List ℕ
     pub gone : list_any (has_number leader) members ≡ false
-    pub gained : now ≡ mine ++ Call session (Members group) (reply.Members members) ∷ Call session (Start group) answer ∷ []
+    pub gained : now ≡ mine ++ Call session (Members group) (reply.Members members)
+        ∷ Call session (Start group) answer ∷ []
 
   -- whether this leader is a member, or a term was started
   abbrev pub Seeks : ℕ → List (Entry Any) → Found → List (Entry Any) → Type 0
   Seeks leader mine found.Unknown now = AddsQuestions mine now
-  Seeks leader mine found.Follows now = AddsQuestions mine now ⊎ ((answer : Reply) × SeeksOn leader mine answer now × (told_of (Call session (Start group) answer) ≡ []))
+  Seeks leader mine found.Follows now =
+      AddsQuestions mine now
+      ⊎ ((answer : Reply) × SeeksOn leader mine answer now
+      × (told_of (Call session (Start group) answer) ≡ []))
   Seeks leader mine (found.Refused refusal) now = SeeksOn leader mine (Refused refusal) now
 
   -- a start, given the entries before it
   abbrev pub Starts : List (Entry Any) → Found → List (Entry Any) → Type 0
   Starts mine found.Unknown now = now ≡ mine
-  Starts mine found.Follows now = (answer : Reply) × (now ≡ mine ++ Call session (Start group) answer ∷ []) × (told_of (Call session (Start group) answer) ≡ [])
-  Starts mine (found.Refused refusal) now = now ≡ mine ++ Call session (Start group) (Refused refusal) ∷ []
+  Starts mine found.Follows now =
+      (answer : Reply) × (now ≡ mine ++ Call session (Start group) answer ∷ [])
+      × (told_of (Call session (Start group) answer) ≡ [])
+  Starts mine (found.Refused refusal) now =
+      now ≡ mine ++ Call session (Start group) (Refused refusal) ∷ []
 
   -- the entries since the join, before a term to follow was found and after that
   abbrev pub IsAt : Bool → List (Entry Any) → Type 0
   IsAt false entries = All (IsQuestion session group number) entries
   IsAt true entries = Looks session group number entries
 
-  -- what is told after a look
+  -- the replies that the client gets after a look
   abbrev pub tells : Look → List Reply
   tells look.Nothing = []
   tells (look.Tell answer) = answer ∷ []
   tells (look.Last refusal) = Refused refusal ∷ []
 
-  -- what is so of a look besides
+  -- what else holds after a look
   abbrev pub IsLook : Look → List (Entry Any) → Type 0
   IsLook look.Nothing added = Unit {0}
   IsLook (look.Tell answer) added = IsTold answer
-  IsLook (look.Last refusal) added = (before : List (Entry Any)) × (added ≡ before ++ Call session (Start group) (Refused refusal) ∷ [])
+  IsLook (look.Last refusal) added =
+      (before : List (Entry Any))
+      × (added ≡ before ++ Call session (Start group) (Refused refusal) ∷ [])
 
-  -- The member's question was placed, or nothing was.
+  -- The member's question was placed, or no entry was added.
   abbrev pub AddsWho : List (Entry Any) → Look → List (Entry Any) → Type 0
   AddsWho mine look.Nothing now = now ≡ mine
-  AddsWho mine (look.Tell answer) now = (now ≡ mine ++ Call session (Who group number) answer ∷ []) × IsTold answer
+  AddsWho mine (look.Tell answer) now =
+      (now ≡ mine ++ Call session (Who group number) answer ∷ []) × IsTold answer
   AddsWho mine (look.Last refusal) now = ⊥
 
-  -- A look adds entries behind those since the join.
-  pub record AddsLook (old : Bool) (mine : List (Entry Any)) (result : Look) (new : Bool) (now : List (Entry Any)) : Type 0 where
+  -- A look adds entries after those since the join.
+  pub record AddsLook (old : Bool) (mine : List (Entry Any)) (result : Look) (new : Bool)
+      (now : List (Entry Any)) : Type 0 where
     pub added : List (Entry Any)
     pub gained : now ≡ mine ++ added
     pub at : (during : List (Entry Any)) → IsAt old during → IsAt new (during ++ added)

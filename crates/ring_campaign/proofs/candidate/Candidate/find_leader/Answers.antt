@@ -1,4 +1,4 @@
--- A start, where the leader is no member any more.
+-- A start, if the leader is no member any more.
 use Rattle.std.proofs.Common.{sym, ◌∙◌}
 use Rattle.ring_campaign.proofs.Looking.{seeks_start}
 use Rattle.ring_campaign.proofs.candidate.Candidate.find_leader.Goals as goal

@@ -1,4 +1,4 @@
--- What is found of the leader of the last term.
+-- The result of a question about the leader of the last term.
 use Rattle.ring_campaign.proofs.Looking.{finds_leader, finds_no_term}
 use Rattle.ring_campaign.proofs.candidate.Candidate.find_now.Goals as goal
 
