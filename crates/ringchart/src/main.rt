@@ -5,9 +5,9 @@
 //! knew the leader, and the packets that were in flight at the end.
 //!
 //! Its exit status is 0 if all was drawn. It is 1, with one line on standard error, if a line is
-//! not valid, a reply is another than its line asks for, the schedule starts no term, or reading,
-//! writing or an allocation failed. It is 2 if the command line is refused or asks for help, with
-//! clap's text on standard error.
+//! not valid or gets another reply than it asks for. It is also 1 if the schedule starts no term,
+//! or if reading, writing or an allocation failed. It is 2 if the command line is refused or asks
+//! for help, with clap's text on standard error.
 #![tactic(auto)]
 
 ghost use Rattle.std.specs.Prelude.{◌≡◌, MatchResult};

@@ -1,4 +1,4 @@
-//! The words of the command line, and what they ask for.
+//! The words of the command line, and the order that they give.
 use clap::error::ErrorKind;
 use clap::{Arg, ArgAction, ArgMatches, Command};
 use std::alloc::{AllocError, Global};
@@ -19,7 +19,7 @@ ringchart prints one SVG with a picture of each term, in the order in which the 
 With --into it writes each picture to a file DIR/GROUP-TERM.svg, and prints the names of the
 files. With --text it draws with characters.";
 
-/// What the words ask the program to do.
+/// The order that the words give.
 #[derive(Drop)]
 pub struct Order {
     /// The file of the schedule; if there is none, standard input.

@@ -5,10 +5,10 @@
 //! group starts, and when its leader becomes known. `ringctl campaign G N` keeps a member in its
 //! group for as long as it runs, and prints what the member knows.
 //!
-//! Its exit status is 0 if all was done. It is 1 if the command was refused, with the word of the
-//! refusal on standard error, or if its own input, output or memory failed. It is 2 if the command
-//! line is refused or asks for help, with clap's text on standard error. It is 3 if no service
-//! answers.
+//! Its exit status is 0 if all was done. It is 1 if the command was refused, and standard error has
+//! the word of the refusal. It is also 1 if its own input, output or memory failed. It is 2 if the
+//! command line is refused or asks for help, with clap's text on standard error. It is 3 if no
+//! service answers.
 #![tactic(auto)]
 
 ghost use Rattle.std.specs.Prelude.{◌≡◌, MatchResult};
@@ -33,7 +33,7 @@ use std::rt::Env;
 use std::time::Clock;
 use words::{Asked, Order, WordsFault, not_text, read_words};
 
-// Returns what the words of the command line ask for. The first word is the program's name.
+// Returns the order of the command line. The first word is the program's name.
 fn asked_by(rt: &(impl Env + AllocGlobal)) -> Result<Asked, WordsFault> {
     match std::env::args(rt) {
         Ok(words) => {
@@ -45,7 +45,7 @@ fn asked_by(rt: &(impl Env + AllocGlobal)) -> Result<Asked, WordsFault> {
     }
 }
 
-// Does what the words ask for. At a terminal a session has a prompt.
+// Carries out the order. At a terminal a session has a prompt.
 fn obey<R>(rt: &R, asked: &Asked, at_terminal: bool) -> Result<(), Fault>
 where
     R: Input + Print + Clock + AllocGlobal + Net<Stream = TcpStream>,
@@ -63,7 +63,9 @@ where
 
 // Returns status 0, or prints the fault and returns its status.
 fn ended(rt: &impl Eprint, done: Result<(), Fault>) -> ExitCode
-    ensures { MatchResult done (λ _. exit_status result ≡ 0) (λ fault. exit_status result ≡ status_of fault) }
+    ensures { MatchResult done
+        (λ _. exit_status result ≡ 0)
+        (λ fault. exit_status result ≡ status_of fault) }
 {
     match done {
         Ok(()) => ExitCode::SUCCESS,

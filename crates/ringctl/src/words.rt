@@ -1,4 +1,4 @@
-//! The words of the command line, and what they ask for.
+//! The words of the command line, and the orders that they give.
 ghost use Rattle.std.specs.Prelude.{◌≡◌, ℕ, IfNone, IfSome, string_bytes};
 ghost use Rattle.ringctl.specs.private.Words.{IsAsk, IsCampaign, SpellsNoCommand, SpellsNoJoin, joins};
 
@@ -54,7 +54,7 @@ pub struct Asked {
     pub order: Order,
 }
 
-/// What the words ask the program to do.
+/// The order that the words give.
 #[derive(Drop)]
 pub enum Order {
     /// Send each line of standard input.
@@ -154,7 +154,7 @@ pub fn read_words(alloc: Global, words: &[String]) -> Result<Asked, WordsFault> 
     }
 }
 
-// Returns what the words ask for, or the message of their refusal.
+// Returns the order of the words, or the message of their refusal.
 fn asked_of(
     alloc: Global,
     matches: &ArgMatches<'_>,
