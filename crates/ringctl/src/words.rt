@@ -4,6 +4,7 @@ ghost use Rattle.ringctl.specs.private.Words.{IsAsk, IsCampaign, SpellsNoCommand
 
 use clap::error::ErrorKind;
 use clap::{Arg, ArgMatches, Command};
+use command_line::WordsFault;
 use ring_any::Any;
 use ring_events::Command as Asking;
 use ring_grammar::{one_spelling, parse_command};
@@ -66,31 +67,6 @@ pub enum Order {
     /// Print the terms of a group for `seconds` seconds; if there is none, until the process is
     /// ended.
     Watch { group: String, seconds: Option<u32> },
-}
-
-/// Why the words give no order.
-#[derive(Drop)]
-pub enum WordsFault {
-    /// The command line was refused, or asks for help. The text is clap's.
-    Usage(clap::Error),
-    /// An allocation failed.
-    NoMemory,
-}
-
-impl From<clap::Error> for WordsFault {
-    fn from(error: clap::Error) -> WordsFault {
-        if error.kind() == ErrorKind::OutOfMemory {
-            WordsFault::NoMemory
-        } else {
-            WordsFault::Usage(error)
-        }
-    }
-}
-
-impl From<AllocError> for WordsFault {
-    fn from(_error: AllocError) -> WordsFault {
-        WordsFault::NoMemory
-    }
 }
 
 // The program's command line.
