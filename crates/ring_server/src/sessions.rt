@@ -1,5 +1,6 @@
 //! The service that the program runs, and its sessions over sockets.
 ghost use Rattle.std.specs.Prelude.{◌≡◌, ◌⊎◌, ◌<◌, ◌≤◌, ◌*◌, ◌+◌, ◌-◌, ◌/◌, ◌^◌, ◌↔◌, All, IfErr, IfOk, IfSome, IsTrue, ℕ, MatchOption, vec_len};
+ghost use Rattle.ring_service.specs.Handing.{AllHand};
 ghost use Rattle.ring_service.specs.Places.{ServesPlaced};
 ghost use Rattle.ring_service.specs.Sessions.{Serves};
 ghost use Rattle.ring_turn.specs.Seats.{Settled};
@@ -139,7 +140,8 @@ pub fn close<R: Threads + Wait, T: Tabled<Any> + Send + Sync + Drop + 'static>(
     rt: &R,
     service: Service<T>,
 ) -> Closing<T>
-    ensures { result.access.value ≡ service }
+    ensures access { result.access.value ≡ service }
+    ensures handed { AllHand result.handed.items }
 {
     service.close(rt)
 }
