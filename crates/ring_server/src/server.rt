@@ -60,14 +60,9 @@ where
         } = self;
         let seats = seats_for(limits.sessions, campaigns.is_some());
         let served = match open(rt, &config, seats, table, charters) {
-            Ok((service, seats)) => {
-                let front = sessions::front(&service);
-                let served = serve(
-                    rt, front, listener, campaigns, seats, base, limits, &handshake,
-                );
-                let _ = sessions::close(rt, service);
-                served
-            }
+            Ok((service, seats)) => serve_open(
+                rt, service, listener, campaigns, seats, base, limits, &handshake,
+            ),
             Err(fault) => {
                 drop(listener);
                 drop(campaigns);
@@ -104,6 +99,33 @@ where
         return Err(ProgramFault::NoMemory);
     }
     Ok((service, seats))
+}
+
+// Serves by a service that is open, and then closes it.
+fn serve_open<R, L, T>(
+    rt: &R,
+    service: Service<T>,
+    listener: L,
+    campaigns: Option<L>,
+    seats: Vec<Seat<T>>,
+    base: usize,
+    limits: Limits,
+    handshake: &Handshake,
+) -> Result<(), ProgramFault>
+where
+    R: Threads + Wait + AllocGlobal + Eprint + Clock + Sync,
+    L: OpenListener<Stream = TcpStream> + Send + Drop,
+    T: Tabled<Any> + Send + Sync + Drop + 'static,
+    requires seats { All (λ seat. seat.lock ≡ service.id) seats.items }
+    requires base { base + T.most ≤ 2 ^ 64 }
+    ensures fault { IfErr result IsOfStart }
+{
+    let front = sessions::front(&service);
+    let served = serve(
+        rt, front, listener, campaigns, seats, base, limits, handshake,
+    );
+    let _ = sessions::close(rt, service);
+    served
 }
 
 // Says that the service is open, and lets guests of its table serve once they may.
