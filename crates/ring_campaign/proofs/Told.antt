@@ -1,4 +1,4 @@
--- What a client is told, one answer after another, and what a campaign adds up to.
+-- The replies that a client gets, one after another, and the entries of a campaign put together.
 use Rattle.std.proofs.Common.{◌≡◌, ◌⊎◌, ℕ, Bool, true, false, List, [], ◌∷◌, ◌++◌, Result, Ok, Err, refl, ap, sym, ◌∙◌, subst, append_assoc, append-nil, inl, inr}
 use Rattle.std.specs.List.{flat_map, list_all}
 use Rattle.std.specs.Result.{OnErr, OnOk}
@@ -33,7 +33,7 @@ use Rattle.ring_campaign.specs.private.Telling.{AddsLeave, Asked, Attends, HasTu
 
 -- ---- the first line
 
--- a line that came asks what it asks
+-- a line that came has its content
 pub asked_line : {S : Type 0} (reading : S → Reading → S → Type 0) (from to : S) (line : List ℕ) (first : First) → GivesFirst reading from (next.Line line) to → IsWish line first → Asked reading from first to
 asked_line reading from to line first.NoLine gives wish = absurd wish
 asked_line reading from to line first.NoJoin gives wish = (next.Line line, wish, gives)
@@ -41,7 +41,7 @@ asked_line reading from to line (first.Join wish) gives spelled = record { line 
 
 -- ---- one answer after another
 
--- a text was written or a front of it, whatever writing answered
+-- a text was written or a prefix of it, whatever the writer answered
 pub given_either : {V : Type 0} (writing : V → Writing → V → Type 0) (from : V) (text : List ℕ) (to : V) (answer : Result (Unit {0}) WriteFailed) → OnOk answer (Wrote writing from text to) → OnErr answer (WroteFront writing from text to)
     → Given writing from text to
 given_either writing from text to (Ok done) ok err = inl ok
@@ -52,7 +52,7 @@ pub is_over : (result : Turn) → (result ≡ turn.Over) ⊎ (result ≡ turn.Fa
 is_over result (inl over) on = let never : turn.Over ≡ turn.On = sym over ∙ on in cc
 is_over result (inr failed) on = let never : turn.Failed ≡ turn.On = sym failed ∙ on in cc
 
--- what differs from the one before, in two lists
+-- the answers that differ from the one before, in two lists
 changes_then : (a b c : Reply) (first second told more : List Reply) → Changes a first told b → Changes b second more c → Changes a (first ++ second) (told ++ more) c
 changes_then a b c [] second told more x y =
     subst (λ (l : List Reply). Changes a second (l ++ more) c) (sym x.0) (subst (λ (r : Reply). Changes r second more c) x.1 y)
@@ -75,15 +75,15 @@ calls_more reading reader calls call mid reader_now led went_on step on =
     (Calls-append reading reader mid reader_now calls (call ∷ []) led (reader_now, step, refl), list_all-append goes_on calls (call ∷ []) ∙ rw (went_on, on) refl)
 
 module _ {V : Type 0} (writing : V → Writing → V → Type 0) where
-  -- nothing is told of no answer
+  -- no reply follows from no answer
   pub tells_none : (last : Reply) (from : V) → Tells writing last from [] true last from
   tells_none last from = record { told = []; changes = (refl, refl); puts = wrote_none writing from }
 
-  -- nor of one that is the last one again
+  -- no reply follows from an answer that equals the last one
   pub tells_again : (last : Reply) (from : V) (answer : Reply) → answer ≡ last → Tells writing last from (answer ∷ []) true last from
   tells_again last from answer same = record { told = []; changes = inl (same, (refl, refl)); puts = wrote_none writing from }
 
-  -- another one is told
+  -- another answer is a reply
   pub tells_one : (last : Reply) (from to : V) (answer : Reply) (all : Bool) → (answer ≡ last → ⊥) → Puts writing from (reply_line answer) all to → Tells writing last from (answer ∷ []) all answer to
   tells_one last from to answer all other puts = record {
     told = answer ∷ [];
@@ -91,12 +91,12 @@ module _ {V : Type 0} (writing : V → Writing → V → Type 0) where
     puts = subst (λ (text : List ℕ). Puts writing from text all to) (sym (one_text answer)) puts;
   }
 
-  -- one text and then another, or a front of it
+  -- one text and then another, or a prefix of it
   puts_then : (from mid to : V) (first second : List ℕ) (all : Bool) → Wrote writing from first mid → Puts writing mid second all to → Puts writing from (first ++ second) all to
   puts_then from mid to first second true a b = wrote_then a b
   puts_then from mid to first second false a b = wrote_next a b
 
-  -- what is told of answers, and then of others
+  -- the replies to answers, and then to others
   tells_then : (a b c : Reply) (from mid to : V) (answers others : List Reply) (all : Bool) → Tells writing a from answers true b mid → Tells writing b mid others all c to → Tells writing a from (answers ++ others) all c to
   tells_then a b c from mid to answers others all x y = record {
     told = x.told ++ y.told;
@@ -122,7 +122,7 @@ module _ {V : Type 0} (writing : V → Writing → V → Type 0) where
           (tells_then Done last last_now from between to (flat_map told_of a.during) (flat_map told_of b.added) (is_heard result) a.tells b.tells);
     }
 
-    -- before a term to follow was found, there are questions alone
+    -- before a term to follow was found, all entries are questions
     looks_at : (at : Bool) (during : List (Entry Any)) → IsAt session group number at during → Looks session group number during
     looks_at false during all = inl all
     looks_at true during is = inr is
@@ -189,13 +189,13 @@ joined session group node mine now (Placed answer place) a done = subst (λ (r :
 joined session group node mine now (Unplaced refusal) a done = let never : Refused refusal ≡ Done = done in cc
 
 module _ {S V : Type 0} (reading : S → Reading → S → Type 0) (writing : V → Writing → V → Type 0) (session : ℕ) (group : List ℕ) (node : ℕ) (mine : List (Entry Any)) (reader : S) (writer : V) where
-  -- all that was told, and the join's own reply before it
+  -- all replies, with the join's own before them
   over_told : (calls : List Reading) (during : List (Entry Any)) (mid to : V) (text : List ℕ) → Wrote writing writer (reply_line Done) mid → IsOver writing calls during mid text to → IsOver writing calls during writer (reply_line Done ++ text) to
   over_told calls during mid to text ok (inl a) = inl (wrote_then ok a.0, a.1)
   over_told calls during mid to text ok (inr (inl a)) = inr (inl (wrote_next ok a.0, a.1))
   over_told calls during mid to text ok (inr (inr a)) = inr (inr (wrote_then ok a.0, a.1, a.2))
 
-  -- a campaign that was told of its join
+  -- a campaign whose client got the reply to its join
   pub campaigned : (joined mid now : List (Entry Any)) (reader_now : S) (told to : V) → joined ≡ mine ++ Call session (Join group node) Done ∷ [] → Wrote writing writer (reply_line Done) told
       → Attends reading writing session group (number_of node) joined reader told mid reader_now to → AddsLeave session group (number_of node) mid now → HasCampaigned reading writing session group node mine reader writer now reader_now to
   campaigned joined mid now reader_now told to join ok attends leaves = record {
@@ -215,7 +215,7 @@ module _ {S V : Type 0} (reading : S → Reading → S → Type 0) (writing : V 
     over = over_told attends.calls attends.during told to (text_of reply_line attends.told) ok attends.over;
   }
 
-  -- one that could not be told
+  -- a campaign whose client did not get that reply
   pub campaigned_unheard : (joined now : List (Entry Any)) (to : V) → joined ≡ mine ++ Call session (Join group node) Done ∷ [] → WroteFront writing writer (reply_line Done) to
       → AddsLeave session group (number_of node) joined now → HasCampaigned reading writing session group node mine reader writer now reader to
   campaigned_unheard joined now to join front leaves = record {
@@ -232,7 +232,7 @@ module _ {S V : Type 0} (reading : S → Reading → S → Type 0) (writing : V 
     over = inr (inl (subst (λ (text : List ℕ). WroteFront writing writer text to) (sym (one_text Done)) front, refl));
   }
 
--- ---- what the seat gained
+-- ---- the entries of the seat
 
 -- a join that was not done adds its refusal, or nothing
 turned_gains : (session : ℕ) (group : List ℕ) (node : ℕ) (mine now : List (Entry Any)) (answer : Answer) → AnswersAtSeat any_winner any_two_way any_greatest session (Join group node) mine answer now → (reply_of answer ≡ Done → ⊥)
@@ -240,7 +240,7 @@ turned_gains : (session : ℕ) (group : List ℕ) (node : ℕ) (mine now : List 
 turned_gains session group node mine now (Placed answer place) a refused = inr (inl (record { group = group; node = node; answer = answer; refused = refused; gained = a.1 }))
 turned_gains session group node mine now (Unplaced refusal) a refused = inl a.1
 
--- whatever was read and told, the seat gained what a campaign adds
+-- whatever was read and written, the seat gained the entries of a campaign
 pub campaign_gains : {S V : Type 0} (reading : S → Reading → S → Type 0) (writing : V → Writing → V → Type 0) (session : ℕ) (mine now : List (Entry Any)) (reader reader_now : S) (writer writer_now : V)
     → Campaigns reading writing session mine reader writer now reader_now writer_now → GainsCampaign session mine now
 campaign_gains reading writing session mine now reader reader_now writer writer_now (inl none) = inl none.same

@@ -1,6 +1,7 @@
--- Campaigns: a client is a member of a group for as long as its connection lasts. However its reader and its writer
--- end, a member that joined is taken out. What it was told is its join's reply, and then each answer to `who` that
--- differs from the one before, in the order of the entries of its seat.
+-- Campaigns: a client is a member of a group for as long as its connection lasts. However its
+-- reader and its writer end, a member that joined is taken out. The client gets the reply to its
+-- join, and then each answer to `who` that differs from the one before. They come in the order of
+-- the entries of the seat.
 use Rattle.std.specs.Prelude.{◌≡◌, ◌⊎◌, ℕ, true, false, List, [], ◌∷◌, ◌++◌}
 use Rattle.std.specs.List.{flat_map, list_all}
 use Rattle.ring_id.specs.Identity.{number_of}
@@ -26,30 +27,32 @@ use Rattle.ring_table.specs.declared.entry.Entry.{Entry}
 use Rattle.ring_table.specs.declared.entry.Entry.TheVariants.{Call}
 use Rattle.ring_campaign.specs.Entries.{Leaves, Looks}
 
--- what the client is told of an entry: each answer to `who`, and the refusal of a start
+-- the replies that the client gets for an entry: each answer to `who`, and the refusal of a start
 abbrev pub told_of : Entry Any → List Reply
 told_of (Call session (Who group number) answer) = answer ∷ []
 told_of (Call session (Start group) (Refused refusal)) = Refused refusal ∷ []
 told_of _ = []
 
--- Of these answers those are told that differ from the one before, the first from `last`. Behind them `now` is the
--- one before.
+-- The answers that differ from the one before, with `last` before the first. `now` is the last of
+-- all answers, or `last` if there are none.
 abbrev pub Changes : Reply → List Reply → List Reply → Reply → Type 0
 Changes last [] told now = (told ≡ []) × (now ≡ last)
 Changes last (answer ∷ answers) told now =
     ((answer ≡ last) × Changes last answers told now)
-    ⊎ ((answer ≡ last → ⊥) × (rest : List Reply) × (told ≡ answer ∷ rest) × Changes answer answers rest now)
+    ⊎ ((answer ≡ last → ⊥) × (rest : List Reply) × (told ≡ answer ∷ rest)
+    × Changes answer answers rest now)
 
 -- the buffer of lines before the first read call
 abbrev pub no_line_yet : BufferView
 no_line_yet = record { held = []; reads = 4294967295; phase = phase.Open }
 
 -- The first line that the reader gives leads from one of its states to another.
-pub record GivesFirst {S : Type 0} (reading : S → Reading → S → Type 0) (from : S) (first : Next) (to : S) : Type 0 where
+pub record GivesFirst {S : Type 0} (reading : S → Reading → S → Type 0) (from : S) (first : Next)
+    (to : S) : Type 0 where
   pub buffer : BufferView
   pub gives : GivesNext reading from no_line_yet first to buffer
 
--- the writer was given this text: it took all of it, or failed after a front of it
+-- the writer got this text: it took all of it, or failed after a prefix of it
 abbrev pub Given : {V : Type 0} → (V → Writing → V → Type 0) → V → List ℕ → V → Type 0
 Given writing from text to = Wrote writing from text to ⊎ WroteFront writing from text to
 
@@ -72,7 +75,8 @@ IsNoLine (next.Fault fault) = Unit {0}
 IsNoLine _ = ⊥
 
 -- The first line spells the join of this member.
-pub record AsksJoin {S : Type 0} (reading : S → Reading → S → Type 0) (from : S) (group : List ℕ) (node : ℕ) (to : S) : Type 0 where
+pub record AsksJoin {S : Type 0} (reading : S → Reading → S → Type 0) (from : S) (group : List ℕ)
+    (node : ℕ) (to : S) : Type 0 where
   pub line : List ℕ
   pub read : GivesFirst reading from (next.Line line) to
   pub spelled : Spells line (Client (Join group node))
@@ -85,24 +89,30 @@ pub record EndsRefused (entries : List (Entry Any)) : Type 0 where
   pub refusal : Refusal
   pub whole : entries ≡ before ++ Call session (Start group) (Refused refusal) ∷ []
 
--- why a campaign is over: no read call may follow the last one, the writer failed, or a start was refused
-abbrev pub IsOver : {V : Type 0} → (V → Writing → V → Type 0) → List Reading → List (Entry Any) → V → List ℕ → V → Type 0
+-- why a campaign is over: no read call may follow the last one, the writer failed, or a start was
+-- refused
+abbrev pub IsOver : {V : Type 0} → (V → Writing → V → Type 0) → List Reading → List (Entry Any) → V
+    → List ℕ → V → Type 0
 IsOver writing calls during from text to =
     (Wrote writing from text to × HasEnded calls)
     ⊎ (WroteFront writing from text to × (list_all goes_on calls ≡ true))
     ⊎ (Wrote writing from text to × (list_all goes_on calls ≡ true) × EndsRefused during)
 
-module _ {S V : Type 0} (reading : S → Reading → S → Type 0) (writing : V → Writing → V → Type 0) (session : ℕ) where
-  module _ (group : List ℕ) (node : ℕ) (mine : List (Entry Any)) (reader : S) (writer : V) (now : List (Entry Any)) (reader_now : S) (writer_now : V) where
-    -- The join was not done. Its reply is all that was told.
+module _ {S V : Type 0} (reading : S → Reading → S → Type 0) (writing : V → Writing → V → Type 0)
+    (session : ℕ) where
+  module _ (group : List ℕ) (node : ℕ) (mine : List (Entry Any)) (reader : S) (writer : V)
+      (now : List (Entry Any)) (reader_now : S) (writer_now : V) where
+    -- The join was not done. The client got its reply and nothing else.
     pub record IsTurnedAway : Type 0 where
       pub answer : Answer
-      pub answered : AnswersAtSeat any_winner any_two_way any_greatest session (Join group node) mine answer now
+      pub answered : AnswersAtSeat any_winner any_two_way any_greatest session (Join group node)
+          mine answer now
       pub refused : reply_of answer ≡ Done → ⊥
       pub unread : reader_now ≡ reader
       pub told : Given writing writer (reply_line (reply_of answer)) writer_now
 
-    -- The join was done. Whatever was read, and however reading and writing ended, the member left at last.
+    -- The join was done. Whatever was read, and however reading and writing ended, the member left
+    -- at last.
     pub record HasCampaigned : Type 0 where
       pub during : List (Entry Any)
       pub ending : List (Entry Any)
@@ -116,23 +126,25 @@ module _ {S V : Type 0} (reading : S → Reading → S → Type 0) (writing : V 
       pub changes : Changes Done (flat_map told_of during) told last
       pub over : IsOver writing calls during writer (text_of reply_line (Done ∷ told)) writer_now
 
-    -- what became of a join
+    -- the result of a join
     abbrev pub Joins : Type 0
     Joins = IsTurnedAway ⊎ HasCampaigned
 
-  module _ (mine : List (Entry Any)) (reader : S) (writer : V) (now : List (Entry Any)) (reader_now : S) (writer_now : V) where
-    -- Memory was refused before anything was read.
+  module _ (mine : List (Entry Any)) (reader : S) (writer : V) (now : List (Entry Any))
+      (reader_now : S) (writer_now : V) where
+    -- An allocation failed before the first read call.
     pub record HasNoMemory : Type 0 where
       pub same : now ≡ mine
       pub unread : reader_now ≡ reader
       pub silent : writer_now ≡ writer
 
-    -- No first line came, or it spells no join and is answered so. The seat gained no entry.
+    -- No first line came, or it spells no join and is refused. The seat gained no entry.
     pub record AsksNoJoin : Type 0 where
       pub same : now ≡ mine
       pub first : Next
       pub read : GivesFirst reading reader first reader_now
-      pub answered : (IsNoLine first × (writer_now ≡ writer)) ⊎ (IsNoJoin first × Given writing writer (reply_line (Refused BadLine)) writer_now)
+      pub answered : (IsNoLine first × (writer_now ≡ writer))
+          ⊎ (IsNoJoin first × Given writing writer (reply_line (Refused BadLine)) writer_now)
 
     -- The first line spells a join.
     pub record HasAsked : Type 0 where

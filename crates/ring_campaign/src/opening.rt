@@ -19,40 +19,44 @@ use std::alloc::Global;
 use std::sync::Wait;
 use std::time::Clock;
 
-// How many read calls are made for the first line at most.
+// the most read calls for the first line
 const READS: u32 = u32::MAX;
 
-// How many bytes a line of a reply has at most that is told without further memory.
+// the longest line of a reply that needs no further allocation, in bytes
 const ROOM: usize = 128;
 
-/// The member that a client wishes to be.
+/// The member that a client asks to be.
 #[derive(Clone, Copy)]
 pub(crate) struct Wish {
     pub(crate) group: GroupName,
     pub(crate) node: NodeId,
 }
 
-/// What a client's first line asks.
+/// The content of a client's first line.
 pub(crate) enum First {
     /// There is no line.
     NoLine,
     /// It spells no join.
     NoJoin,
-    /// To be this member.
+    /// It spells the join of this member.
     Join(Wish),
 }
 
-/// One campaign: the client is a member from its first line, which spells a join, to the end of its connection.
+/// Runs one campaign: the client is a member from its first line, which spells a join, to the end
+/// of its connection.
 ///
-/// The reply to the join is told. After each read call, and before the first, the client is told the reply to
-/// `who` for its member, if it is another one than the last that was told. What is read after the first line is
-/// dropped. So a read call that is interrupted after some milliseconds is how the campaign notices a change.
+/// The client gets the reply to the join. Before the first read call and after each, it gets the
+/// reply to `who` for its member, unless that equals the last one. Bytes after the first line are
+/// dropped. The campaign notices a change when a read call is interrupted, so the reader should
+/// interrupt a call after some milliseconds.
 ///
-/// If there is no leader to follow, since no term has begun or the leader of the last one is no member any more,
-/// a term is started. If that is refused, the refusal is told and the campaign ends. It ends when a read call
-/// fails or finds the end of the input, or when writing fails. Then the member leaves, and a term is started if
-/// the member led the last one or had not heard of its leader. These commands are given again until they are
-/// placed. Nothing is told before all that it was given from is kept for good.
+/// A leader is missed if no term has begun, or if the leader of the last one is no member any more.
+/// Then a term is started. If that is refused, the client gets the refusal and the campaign ends.
+/// It also ends when a read call fails or finds the end of the input, or when a write fails.
+///
+/// Then the member leaves. A term is started if the member led the last one or did not know its
+/// leader. These commands are tried again until they are placed. Before a reply is written, all
+/// entries that it was given from are kept for good.
 pub fn campaign<A, R, I, O>(
     rt: &R,
     alloc: Global,
@@ -69,14 +73,15 @@ where
     O: Outlet,
     requires { A.has_seat access.now seat.old }
     ensures seat { A.has_seat access.now seat.new }
-    ensures campaigns { Campaigns I.read_gives O.write_gives session (A.mine seat.old) reader.old writer.old (A.mine seat.new) reader.new writer.new }
+    ensures campaigns { Campaigns I.read_gives O.write_gives session (A.mine seat.old) reader.old
+        writer.old (A.mine seat.new) reader.new writer.new }
     ensures gained { GainsCampaign session (A.mine seat.old) (A.mine seat.new) }
     ensures told { (seat.new ≡ seat.old) ⊎ A.is_settled seat.new }
 {
     begin(rt, alloc, access, seat, session, reader, writer);
 }
 
-// The same, without the clause that follows from the others.
+// Runs a campaign, without the clause that follows from the others.
 fn begin<A, R, I, O>(
     rt: &R,
     alloc: Global,
@@ -93,7 +98,8 @@ where
     O: Outlet,
     requires { A.has_seat access.now seat.old }
     ensures seat { A.has_seat access.now seat.new }
-    ensures campaigns { Campaigns I.read_gives O.write_gives session (A.mine seat.old) reader.old writer.old (A.mine seat.new) reader.new writer.new }
+    ensures campaigns { Campaigns I.read_gives O.write_gives session (A.mine seat.old) reader.old
+        writer.old (A.mine seat.new) reader.new writer.new }
     ensures told { (seat.new ≡ seat.old) ⊎ A.is_settled seat.new }
 {
     let Ok(mut text) = Vec::with_capacity(alloc, ROOM) else {
@@ -124,7 +130,7 @@ where
     }
 }
 
-// What the first line of a reader asks.
+// Reads the first line, and returns its content.
 fn first_line<I: Intake>(lines: &mut LineBuffer, reader: &mut I) -> First
     requires { lines.old ≡ no_line_yet }
     ensures { Asked I.read_gives reader.old result reader.new }
@@ -137,7 +143,7 @@ fn first_line<I: Intake>(lines: &mut LineBuffer, reader: &mut I) -> First
     }
 }
 
-// What a line asks.
+// Returns the member whose join a line spells, or `NoJoin` if it spells none.
 fn wish_in(line: &[u8]) -> First
     ensures { IsWish line.now result }
 {
@@ -147,7 +153,7 @@ fn wish_in(line: &[u8]) -> First
     }
 }
 
-// What a command asks, if it is a join.
+// Returns the member that a command joins, or `NoJoin` if it is no join.
 fn wish_of(command: Command<Any>) -> First
     ensures { Wishes command result }
 {

@@ -1,4 +1,4 @@
-//! What replies say to a candidate.
+//! The meaning of replies for a candidate.
 ghost use Rattle.std.specs.Prelude.{◌≡◌, ◌↔◌, IsTrue};
 ghost use Rattle.std.specs.List.{list_any};
 ghost use Rattle.ring_roster.specs.Ring.{has_number};
@@ -10,7 +10,8 @@ use crate::finding::Last;
 use ring_events::Reply;
 use ring_id::{NodeId, NodeNo, Refusal, TermNo};
 
-/// Whether the member with this number has to be followed once it has gone.
+/// Returns whether the member with this number may lead the last term, by a reply to `who`. If so,
+/// its leave starts a new term.
 pub(crate) fn may_lead(number: NodeNo, reply: &Reply) -> bool
     ensures { result ≡ may_lead number reply.now }
 {
@@ -21,7 +22,7 @@ pub(crate) fn may_lead(number: NodeNo, reply: &Reply) -> bool
     }
 }
 
-/// Whether a command was done.
+/// Returns whether a command was done.
 pub(crate) fn is_done(reply: &Reply) -> bool
     ensures { IsTrue result ↔ (reply.now ≡ variant.Done) }
 {
@@ -31,7 +32,7 @@ pub(crate) fn is_done(reply: &Reply) -> bool
     }
 }
 
-/// Whether a reply is the last one again.
+/// Returns whether a reply equals the last one.
 pub(crate) fn is_same(last: &Reply, reply: &Reply) -> bool
     requires { IsTold reply.now }
     ensures { IsTrue result ↔ (reply.now ≡ last.now) }
@@ -45,7 +46,7 @@ pub(crate) fn is_same(last: &Reply, reply: &Reply) -> bool
     }
 }
 
-// Whether a reply names this leader of this term.
+// Returns whether a reply names this leader of this term.
 fn is_leader(reply: &Reply, term: TermNo, leader: NodeId) -> bool
     ensures { IsTrue result ↔ (reply.now ≡ variant.Leader term leader) }
 {
@@ -55,7 +56,7 @@ fn is_leader(reply: &Reply, term: TermNo, leader: NodeId) -> bool
     }
 }
 
-// Whether a reply says that this term is undecided.
+// Returns whether a reply says that this term is undecided.
 fn is_undecided(reply: &Reply, term: TermNo) -> bool
     ensures { IsTrue result ↔ (reply.now ≡ variant.Undecided term) }
 {
@@ -65,7 +66,7 @@ fn is_undecided(reply: &Reply, term: TermNo) -> bool
     }
 }
 
-// Whether a reply is this refusal.
+// Returns whether a reply is this refusal.
 fn is_refused(reply: &Reply, refusal: Refusal) -> bool
     ensures { IsTrue result ↔ (reply.now ≡ variant.Refused refusal) }
 {
@@ -75,7 +76,7 @@ fn is_refused(reply: &Reply, refusal: Refusal) -> bool
     }
 }
 
-/// What the list of leaders says of the last term.
+/// Returns the last term by the list of leaders in a reply.
 pub(crate) fn last_in(reply: &Reply) -> Last
     ensures { SaysLast reply.now result }
 {
@@ -85,7 +86,7 @@ pub(crate) fn last_in(reply: &Reply) -> Last
     }
 }
 
-// What leaders say of the last term.
+// Returns the last term by a list of leaders.
 fn last_of(leaders: &[Option<NodeId>]) -> Last
     ensures { SaysLast (variant.Terms leaders.now) result }
 {
@@ -98,7 +99,8 @@ fn last_of(leaders: &[Option<NodeId>]) -> Last
     }
 }
 
-/// Whether a list of members has the number of this one, if it is such a list.
+/// Returns whether a list of members has the number of this one, or `None` if the reply is no such
+/// list.
 pub(crate) fn member_in(leader: NodeId, reply: &Reply) -> Option<bool>
     ensures { SaysMember leader reply.now result }
 {
@@ -108,7 +110,7 @@ pub(crate) fn member_in(leader: NodeId, reply: &Reply) -> Option<bool>
     }
 }
 
-// Whether one of the members has the number of this one.
+// Returns whether one of the members has the number of this one.
 fn has_member(members: &[NodeId], leader: NodeId) -> bool
     ensures { result ≡ list_any (has_number leader) members.now }
 {

@@ -1,4 +1,4 @@
-//! What a candidate tells its client.
+//! The replies that a candidate writes to its client.
 ghost use Rattle.std.specs.Prelude.{◌≡◌, ◌∷◌, [], OnErr, OnOk, false, true};
 ghost use Rattle.ring_grammar.specs.Spelling.{reply_line};
 ghost use Rattle.ring_campaign.specs.private.Looking.{IsTold};
@@ -15,12 +15,12 @@ use std::sync::Wait;
 use std::thread;
 use std::time::{Clock, Duration};
 
-// How many milliseconds it waits for memory.
+// the pause before an allocation is tried again, in milliseconds
 const PAUSE: u64 = 10;
 
 impl<A: Access<Any> + Drop, R: Wait + Clock> Candidate<'_, A, R> {
-    /// Tells a reply, if it is another one than the last, which it is then. All that it was given from is kept
-    /// for good before that.
+    /// Writes a reply, unless it equals the last one. It is the last one from then on. Before that,
+    /// all entries that it was given from are kept for good.
     pub(crate) fn tell<O: Outlet>(
         &self,
         seat: &mut A::Seat,
@@ -33,8 +33,10 @@ impl<A: Access<Any> + Drop, R: Wait + Clock> Candidate<'_, A, R> {
         requires told { IsTold reply }
         ensures seat { A.has_seat self.now.caller.access.now seat.new }
         ensures entries { A.mine seat.new ≡ A.mine seat.old }
-        ensures ok { OnOk result (Tells O.write_gives last.old writer.old (reply ∷ []) true last.new writer.new) }
-        ensures err { OnErr result (Tells O.write_gives last.old writer.old (reply ∷ []) false last.new writer.new) }
+        ensures ok { OnOk result
+            (Tells O.write_gives last.old writer.old (reply ∷ []) true last.new writer.new) }
+        ensures err { OnErr result
+            (Tells O.write_gives last.old writer.old (reply ∷ []) false last.new writer.new) }
     {
         if is_same(last, &reply) {
             drop(reply);
@@ -46,7 +48,8 @@ impl<A: Access<Any> + Drop, R: Wait + Clock> Candidate<'_, A, R> {
         put
     }
 
-    /// Writes the line of a reply. All that the seat's answers were given from is kept for good.
+    /// Writes the line of a reply. All entries from which the seat's answers were given are kept
+    /// for good.
     pub(crate) fn put<O: Outlet>(
         &self,
         seat: &A::Seat,
@@ -55,15 +58,17 @@ impl<A: Access<Any> + Drop, R: Wait + Clock> Candidate<'_, A, R> {
         writer: &mut O,
     ) -> Result<(), WriteFailed>
         requires { A.is_settled seat.now }
-        ensures ok { OnOk result (Wrote O.write_gives writer.old (reply_line reply.now) writer.new) }
-        ensures err { OnErr result (WroteFront O.write_gives writer.old (reply_line reply.now) writer.new) }
+        ensures ok { OnOk result
+            (Wrote O.write_gives writer.old (reply_line reply.now) writer.new) }
+        ensures err { OnErr result
+            (WroteFront O.write_gives writer.old (reply_line reply.now) writer.new) }
     {
         spell(self.caller.rt, reply, text);
         put(writer, text)
     }
 }
 
-/// Spells the line of a reply. It waits while memory is refused.
+/// Spells the line of a reply. If an allocation fails, waits and tries again.
 pub(crate) fn spell<R: Wait + Clock>(rt: &R, reply: &Reply, text: &mut Vec<u8>)
     ensures { text.new.items ≡ reply_line reply.now }
 {

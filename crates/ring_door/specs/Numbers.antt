@@ -1,4 +1,4 @@
--- How sessions are numbered.
+-- The numbers of sessions.
 use Rattle.std.specs.Prelude.{◌==◌, ◌+◌, ℕ, if◌then◌else◌}
 
 -- the number of the session after this one: one more, and 1 after the greatest

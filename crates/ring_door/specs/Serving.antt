@@ -1,4 +1,4 @@
--- Why clients are served no more.
+-- Why no more clients are served.
 use Rattle.std.specs.Prelude.{◌≡◌, ◌⊎◌}
 use Rattle.ring_door.specs.declared.fault.ProgramFault.{ProgramFault}
 use Rattle.ring_door.specs.declared.fault.ProgramFault.TheVariants.{Accept, Thread}

@@ -1,4 +1,4 @@
--- What standard output is told of a service that listens and closes.
+-- The lines on standard output of a service that listens and closes.
 use Rattle.std.specs.Prelude.{ℕ, List, [], ◌∷◌, ◌++◌, codes}
 use Rattle.std.specs.Fmt.{decimal}
 

@@ -1,4 +1,4 @@
-//! A door at which clients come in, and those that serve them.
+//! A door that accepts clients, and the threads that serve them.
 ghost use Rattle.std.specs.Prelude.{◌≡◌, IfErr, MatchOption, false, true};
 ghost use Rattle.ring_door.specs.Numbers.{next_number};
 
@@ -10,31 +10,31 @@ use std::thread;
 use std::thread::Threads;
 use std::time::{Clock, Duration};
 
-/// How sessions are held.
+/// The limits of sessions.
 #[derive(Clone, Copy, Debug, PartialEq, Eq)]
 pub struct Limits {
     /// How many clients are served at a time.
     pub sessions: u32,
-    /// After how many seconds in which nothing comes or goes a session ends; never at 0.
+    /// After how many seconds without a byte read or written a session ends; 0 is never.
     pub idle: u32,
-    /// Whether each reply is told with its place.
+    /// Whether the place of each reply is written.
     pub places: bool,
 }
 
-/// Where clients come in, one after another.
+/// A door: it accepts one client after another.
 #[derive(Drop)]
 pub struct Door<L> {
     listener: L,
-    /// Whether clients are let in.
+    /// Whether clients are admitted.
     pub is_open: bool,
     /// The number of the last session; 0 before the first.
     pub last: u32,
-    // whether a failed accept was told
+    // whether a failed accept was reported
     has_told: bool,
 }
 
 impl<L: OpenListener<Stream = TcpStream>> Door<L> {
-    /// A door that is shut, through which nobody has come.
+    /// Returns a door that is shut, and through which no client has come.
     pub fn new(listener: L) -> Door<L>
         ensures shut { result.is_open ≡ false }
         ensures none { result.last ≡ 0 }
@@ -48,10 +48,11 @@ impl<L: OpenListener<Stream = TcpStream>> Door<L> {
         }
     }
 
-    /// Lets the next client in and numbers its session. If the door is shut, it lets nobody in.
+    /// Admits the next client and numbers its session. Returns `None` if the door is shut.
     pub fn admit<R: Wait + Eprint + Clock>(&mut self, rt: &R) -> Option<(u32, TcpStream)>
         ensures guest { MatchOption result (self.old.is_open ≡ false) (λ guest.
-            (self.old.is_open ≡ true) × (guest.0 ≡ next_number self.old.last) × (self.new.last ≡ guest.0) × (self.new.is_open ≡ self.old.is_open)) }
+            (self.old.is_open ≡ true) × (guest.0 ≡ next_number self.old.last)
+            × (self.new.last ≡ guest.0) × (self.new.is_open ≡ self.old.is_open)) }
         ensures told { self.old.has_told ≡ true → self.new.has_told ≡ true }
     {
         if !self.is_open {
@@ -62,7 +63,7 @@ impl<L: OpenListener<Stream = TcpStream>> Door<L> {
         Some((self.last, stream))
     }
 
-    // Accepts a client, however often it takes.
+    // Accepts a client. A failed accept is tried again after a pause.
     fn accept<R: Wait + Eprint + Clock>(&mut self, rt: &R) -> TcpStream
         ensures number { self.new.last ≡ self.old.last }
         ensures open { self.new.is_open ≡ self.old.is_open }
@@ -78,7 +79,7 @@ impl<L: OpenListener<Stream = TcpStream>> Door<L> {
         unreachable!()
     }
 
-    // Tells a failed accept on standard error, if it is the first.
+    // Reports a failed accept on standard error, unless one was reported before.
     fn tell_once<R: Eprint>(&mut self, rt: &R)
         ensures number { self.new.last ≡ self.old.last }
         ensures open { self.new.is_open ≡ self.old.is_open }
@@ -91,10 +92,10 @@ impl<L: OpenListener<Stream = TcpStream>> Door<L> {
     }
 }
 
-/// Starts a thread for each guest, and opens the door once they are there.
+/// Starts a thread for each guest, and opens the door once all threads are started.
 ///
-/// Each guest serves one client after another until the door is shut. A guest whose seat is spent gives way
-/// to a spare one, as long as there is one.
+/// Each guest serves one client after another until the door is shut. If a guest's seat is spent, a
+/// spare guest takes its place, as long as there is one.
 pub fn attend_all<R, L, G>(
     rt: &R,
     door: &Mutex<Door<L>>,
@@ -126,19 +127,20 @@ where
     )
 }
 
-/// Where clients come in, and those that serve them: some from the start, and others in their place once their
-/// seats are spent.
+/// A door, and the spare guests of its threads. A spare guest takes the place of a guest whose seat
+/// is spent.
 #[derive(Drop)]
 pub struct Entrance<L: Drop, G: Drop> {
-    /// Where clients come in.
+    /// The door.
     pub door: Mutex<Door<L>>,
-    /// Those that take the place of others.
+    /// The spare guests.
     pub spare: Mutex<Vec<G>>,
 }
 
-/// Starts a thread for each guest of two entrances, and opens both doors once all are there.
+/// Starts a thread for each guest of two entrances, and opens both doors once all threads are
+/// started.
 ///
-/// Each guest serves one client after another, as those of `attend_all` do. If a thread cannot be started,
+/// Each guest serves one client after another, as in `attend_all`. If a thread cannot be started,
 /// neither door is opened.
 pub fn attend_both<R, L, G, H>(
     rt: &R,
@@ -182,7 +184,7 @@ where
     )
 }
 
-// Serves one client after another by this guest's seat, as long as the door lets them in.
+// Serves one client after another by this guest's seat, until the door is shut.
 fn attend<R, L, G>(rt: &R, door: &Mutex<Door<L>>, spare: &Mutex<Vec<G>>, guest: G, limits: Limits)
 where
     R: Wait + Eprint + Clock,
@@ -200,7 +202,7 @@ where
     }
 }
 
-// The guest itself, or a spare one where its seat is spent and there is one.
+// Returns the guest, or a spare one if the guest's seat is spent and there is one.
 fn with_turns<R: Wait, G: Serving>(rt: &R, guest: G, spare: &Mutex<Vec<G>>) -> G {
     if !guest.is_spent() {
         return guest;

@@ -4,7 +4,7 @@ use ring_lines::LineFault;
 use std::alloc::AllocError;
 use thiserror::Error;
 
-/// A fault that ends the program with status 1. Its text is the one line that standard error gets.
+/// A fault that ends the program with status 1. Its text is the one line on standard error.
 #[derive(Clone, Copy, Debug, PartialEq, Eq, Error)]
 pub enum ProgramFault {
     /// Standard input could not be read.
@@ -16,13 +16,13 @@ pub enum ProgramFault {
     /// Standard output could not be written, or took no byte.
     #[error("ringd: write failed")]
     Write,
-    /// A growth was refused.
+    /// An allocation failed.
     #[error("ringd: no memory")]
     NoMemory,
     /// The configuration's file could not be read, or is too long.
     #[error("ringd: config unreadable")]
     Unreadable,
-    /// The configuration's text is none.
+    /// The text of the configuration is not valid.
     #[error("ringd: config bad")]
     Bad,
     /// The port could not be listened on.
@@ -60,7 +60,7 @@ pub enum JournalFault {
     /// A write, a sync or a rename failed.
     #[error("ringd: journal failed")]
     Failed,
-    /// It has had all its lives: it was begun anew as often as it can be.
+    /// It has no life left: it was begun anew as often as it can be.
     #[error("ringd: journal has no life left")]
     Lives,
 }

@@ -1,9 +1,9 @@
-//! Clients over sockets: who lets them in, what serves them, and what is told of it.
+//! Clients over sockets: accepting them, serving them, and the lines on standard output.
 //!
-//! `accept_all` serves so many clients, each in a thread of its own. A `Door` lets clients in until the process is
-//! ended, and `attend_all` has so many threads serve those who come. What serves a client is any `Serving`. A
-//! `ProgramFault` is why the program ends before its work is done, and its text is the line that standard error
-//! gets.
+//! `accept_all` serves one client for each guest, each in a thread of its own. A `Door` accepts
+//! clients until the process ends, and `attend_all` serves them on one thread for each guest. A
+//! `Serving` serves one client after another. A `ProgramFault` is why the program ends before its
+//! work is done; its text is the line on standard error.
 #![tactic(auto)]
 
 mod door;

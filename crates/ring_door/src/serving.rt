@@ -1,4 +1,4 @@
-//! What serves clients, one session in a thread of its own for each.
+//! Serving clients, each session in a thread of its own.
 ghost use Rattle.std.specs.Prelude.{◌≡◌, MatchResult, vec_len};
 ghost use Rattle.ring_door.specs.Numbers.{next_number};
 ghost use Rattle.ring_door.specs.Serving.{IsOfConnections};
@@ -10,25 +10,25 @@ use std::thread;
 use std::thread::Threads;
 use std::time::{Clock, Duration};
 
-/// What serves one client after another.
+/// A value that serves one client after another.
 pub trait Serving: Drop {
-    /// Whether it has no turn left for its clients.
+    /// Returns whether it has no turn left for its clients.
     fn is_spent(&self) -> bool;
 
-    /// One session over a socket: each line of the client is answered by one line, told with its place where
-    /// places are asked for.
+    /// Serves one session over a socket: each line of the client is answered by one line. With
+    /// `places`, the place of each reply is written before it.
     ///
-    /// It ends when the client has sent all, when reading or writing fails, and when memory is refused
-    /// before its first line. Every reply goes out at once. The session's number stands in the history with
-    /// each of its commands; no reply tells it.
+    /// It ends when the client has sent all, when reading or writing fails, or when an allocation
+    /// fails before its first line. Every reply goes out at once. The session's number is in the
+    /// history with each of its commands; no reply has it.
     fn serve<R: Wait + Clock>(&mut self, rt: &R, session: u32, stream: &TcpStream, places: bool);
 }
 
-/// Accepts a connection for each guest, and waits for their sessions. The answer is how many were accepted,
-/// which is one for each guest.
+/// Accepts a connection for each guest, and waits for their sessions. Returns how many were
+/// accepted: one for each guest.
 ///
-/// Each session is in a thread of its own, and they are numbered from 1 in the order of their accepts. If an
-/// accept fails or a thread cannot be started, no further connection is accepted.
+/// Each session is in a thread of its own, and they are numbered from 1 in the order of their
+/// accepts. If an accept fails or a thread cannot be started, no further connection is accepted.
 pub fn accept_all<R, L, G>(rt: &R, listener: L, guests: Vec<G>) -> Result<usize, ProgramFault>
 where
     R: Threads + Wait + Clock + Sync,
@@ -60,14 +60,14 @@ where
     )
 }
 
-// The number of the session after this one: one more, and 1 after the greatest.
+// Returns the number of the session after this one: one more, and 1 after the greatest.
 pub(crate) fn number_after(last: u32) -> u32
     ensures { result ≡ next_number last }
 {
     if last == u32::MAX { 1 } else { last + 1 }
 }
 
-// Has a session end where its client sends nothing, or takes no reply, for so many seconds; never at 0.
+// Ends a session whose client sends nothing, or takes no reply, for `seconds` seconds; 0 is never.
 pub(crate) fn limit_silence(stream: &TcpStream, seconds: u32) {
     if seconds > 0 {
         let longest = Some(Duration::from_secs(u64::from(seconds)));

@@ -1,4 +1,4 @@
-//! What standard output is told.
+//! The lines on standard output.
 ghost use Rattle.std.specs.Prelude.{◌≡◌, IfOk, MatchResult, string_bytes};
 ghost use Rattle.ring_lines.specs.Ends.{Wrote, WroteFront};
 ghost use Rattle.ring_door.specs.Telling.{closed_line, listening_line};
@@ -7,14 +7,14 @@ use crate::fault::ProgramFault;
 use ring_lines::{Outlet, put};
 use std::alloc::{AllocError, Global};
 
-/// The line that says where the program listens.
+/// Returns the line with the address on which the program listens.
 pub fn say_listening(alloc: Global, port: u16) -> Result<String, AllocError>
     ensures { IfOk result (λ line. string_bytes line ≡ listening_line port) }
 {
     format!(in alloc; "listening 127.0.0.1:{port}\n")
 }
 
-/// The line that says that all sessions have ended.
+/// Returns the line with the number of sessions, all of which have ended.
 pub fn say_closed(alloc: Global, connections: u32) -> Result<String, AllocError>
     ensures { IfOk result (λ line. string_bytes line ≡ closed_line connections) }
 {
@@ -25,7 +25,8 @@ pub fn say_closed(alloc: Global, connections: u32) -> Result<String, AllocError>
 pub fn tell<O: Outlet>(out: &mut O, line: &str) -> Result<(), ProgramFault>
     ensures { MatchResult result
         (λ _. Wrote O.write_gives out.old line.now out.new)
-        (λ fault. (fault ≡ ProgramFault.Write) × WroteFront O.write_gives out.old line.now out.new) }
+        (λ fault. (fault ≡ ProgramFault.Write)
+            × WroteFront O.write_gives out.old line.now out.new) }
 {
     match put(out, line.as_bytes()) {
         Ok(()) => Ok(()),

@@ -1,4 +1,5 @@
-use ring_words::{Order, WordsFault, asks_version, not_text, read_words};
+use command_line::WordsFault;
+use ring_words::{Order, asks_version, not_text, read_words};
 use std::alloc::{AllocError, Global};
 
 // The words of a command line, as the program gets them.

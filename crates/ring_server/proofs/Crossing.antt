@@ -1,4 +1,4 @@
--- What a guest of a table takes along to a thread: its seat, and what all sessions share.
+-- A guest of a table may go to a thread: its seat, and the front that all sessions share.
 use denote.RattleType.{RattleType}
 use denote.Param.Send.{AllSend, IsSend, IsSync, recorded_send, sendable, struct_send}
 use denote.Struct.Declared.{Declared, shape}

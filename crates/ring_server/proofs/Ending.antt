@@ -1,4 +1,4 @@
--- What was told of a service with a journal, from its beginning and its end.
+-- The text of a service with a journal, from its beginning and its end.
 use Rattle.std.proofs.Common.{List, ℕ, Result, Ok, Err, inl, inr, refl, subst, sym}
 use Rattle.std.specs.Prelude.{IfErr, MatchResult}
 use Rattle.ring_lines.specs.Ends.{Writing, Wrote}
@@ -22,7 +22,7 @@ module _ {V : Type 0} (gives : V → Writing → V → Type 0) (from to : V) (fi
   begun_at program.Listen told = absurd told
   begun_at (program.Journal fault) told = absurd told
 
-  -- the end, once the first line was told
+  -- the end, once the first line was written
   pub ended_at : {A : Type 0} (answer : Result A ProgramFault) → Wrote gives from first to → IfErr answer IsOfEnd
       → MatchResult answer (λ _. Wrote gives from first to) (λ fault. ResumedAt gives from first fault to)
   ended_at (Ok done) told ends = told

@@ -1,4 +1,4 @@
--- What a session adds to the entries of its seat: calls of its own, line by line.
+-- The entries that a session adds to those of its seat: calls of its own, line by line.
 use Rattle.std.proofs.Common.{◌∙◌, ℕ, inl, inr, List, [], ◌∷◌, ◌++◌, All, ap, refl, subst, sym}
 use Rattle.std.proofs.lemmas.List.{append_assoc, append-nil}
 use Rattle.std.proofs.lemmas.List.Elements.{All-append, All-cons, All-nil}
@@ -9,7 +9,7 @@ use Rattle.ring_service.specs.Sessions.{AnswersIn, RepliesTo}
 use Rattle.ring_table.specs.declared.entry.Entry.{Entry}
 use Rattle.ring_server.specs.Sessions.{GainsCalls, IsCallOf}
 
--- what a line adds
+-- the entries that a line adds
 reply_gains : (session : ℕ) (line : List ℕ) (answer : Reply) (gained : List (Entry Any)) → RepliesTo session line answer gained → All (IsCallOf session) gained
 reply_gains session line answer gained (inl placed) = subst (All (IsCallOf session)) (sym placed.entry) (All-cons (IsCallOf session) _ [] refl (All-nil (IsCallOf session)))
 reply_gains session line answer gained (inr (inl out)) = subst (All (IsCallOf session)) (sym out.none) (All-nil (IsCallOf session))
@@ -19,7 +19,7 @@ pub answer_gains : (session : ℕ) (line : List ℕ) (mine : List (Entry Any)) (
 answer_gains session line mine answer now answers = record { gained = answers.0; behind = answers.2; theirs = reply_gains session line answer answers.0 answers.1 }
 
 module _ {A B : Type 0} (session : ℕ) (mine : A → List (Entry Any)) (answers : List ℕ → A → B → A → Type 0) (each : (line : List ℕ) (old : A) (answer : B) (new : A) → answers line old answer new → GainsCalls session (mine old) (mine new)) where
-  -- what lines add, one after another
+  -- the entries that lines add, one after another
   pub run_gains : (lines : List (List ℕ)) (given : List B) (old new : A) → RunOf answers old lines given new → GainsCalls session (mine old) (mine new)
   run_gains [] [] old new run = record { gained = []; behind = ap mine run ∙ sym (append-nil (mine old)); theirs = All-nil (IsCallOf session) }
   run_gains [] (answer ∷ given) old new run = absurd run

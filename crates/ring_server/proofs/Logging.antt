@@ -18,7 +18,7 @@ calls_logged (call ∷ calls) before =
     (before ++ call ∷ [], refl, subst (λ log. CallsLead Adds (before ++ call ∷ []) calls log) (append_assoc before (call ∷ []) calls) (calls_logged calls (before ++ call ∷ [])))
 
 module _ {S V : Type 0} (reading : S → Reading → S → Type 0) (writing : V → Writing → V → Type 0) where
-  -- a text, and a front of one
+  -- a text, and a prefix of one
   wrote_logged : (from to : V) (text : List ℕ) (before : List Writing) → (wrote : Wrote writing from text to) → Wrote Adds before text (before ++ wrote.log)
   wrote_logged from to text before wrote = record { log = wrote.log; calls = calls_logged wrote.log before; taken = wrote.taken; went_on = wrote.went_on }
 
@@ -42,7 +42,7 @@ module _ {S V : Type 0} (reading : S → Reading → S → Type 0) (writing : V 
       let before : (written : List Writing) × Rounds Adds Adds [] [] earlier (calls_of earlier) written = rounds_logged earlier reader made.0 writer made.1 made.2 in
       (before.0 ++ made.4.log, (calls_of earlier, before.0, before.1, refl, wrote_logged made.1 writer_now round.text before.0 made.4))
 
-  -- what was written of a text
+  -- the calls that wrote a text
   writes_logged : (rounds : List Round) (text : List ℕ) (result : Result ℕ LineFault) (reader reader_now : S) (writer writer_now : V) → Writes reading writing reader writer rounds text result reader_now writer_now
       → (written : List Writing) × Writes Adds Adds [] [] rounds text result (calls_of rounds) written
   writes_logged rounds text (Ok count) reader reader_now writer writer_now writes =
@@ -97,7 +97,7 @@ module _ {S V : Type 0} (reading : S → Reading → S → Type 0) (writing : V 
       let logged = answers_logged _ _ _ reader reader_now writer writer_now old new reads result served in
       record { result = result; read = logged.0; written = logged.1; served = logged.2 }
 
-  -- the same under another name of the base
+  -- the session under another name of the base
   pub session_logged_as : (base told : Option ℕ) (most session reads : ℕ) (old new : SeatView Any) (reader reader_now : S) (writer writer_now : V) (result : Result ℕ LineFault) → told ≡ base
       → MatchOption told
       (Serves reading writing (λ (seat : SeatView Any). seat.mine) session old reader writer reads result new reader_now writer_now)

@@ -1,4 +1,4 @@
--- Two lines told one after the other, and what was written where a fault came between.
+-- Two lines, one after the other, and the text if a fault came between.
 use Rattle.std.proofs.Common.{◌≡◌, ◌++◌, List, ℕ, Result, Ok, Err, inr, subst, sym}
 use Rattle.std.specs.Prelude.{MatchResult}
 use Rattle.ring_lines.specs.Ends.{Writing, Wrote, WroteFront}

@@ -1,4 +1,4 @@
--- With what faults a service does not start.
+-- The faults with which a service does not start.
 use Rattle.std.specs.Prelude.{◌≡◌, ◌⊎◌}
 use Rattle.ring_door.specs.declared.fault.ProgramFault.{ProgramFault}
 use Rattle.ring_door.specs.declared.fault.ProgramFault.TheVariants as program

@@ -1,4 +1,4 @@
--- What standard output was told at a fault of a service with a journal.
+-- The line on standard output at a fault of a service with a journal.
 use Rattle.std.specs.Prelude.{◌≡◌, List, ℕ}
 use Rattle.ring_lines.specs.Ends.{Writing, Wrote}
 use Rattle.ring_door.specs.declared.fault.JournalFault.TheVariants.{Failed}
@@ -6,8 +6,9 @@ use Rattle.ring_door.specs.declared.fault.ProgramFault.{ProgramFault}
 use Rattle.ring_door.specs.declared.fault.ProgramFault.TheVariants.{Journal}
 use Rattle.ring_server.specs.Running.{FirstOrNone}
 
--- What was written at a fault: the first line, if the journal failed. Else it is what a service without
--- a journal says.
-abbrev pub ResumedAt : {V : Type 0} → (V → Writing → V → Type 0) → V → List ℕ → ProgramFault → V → Type 0
+-- The text that was written at a fault. If the journal failed, it is the first line. Else it is
+-- that of a service without a journal.
+abbrev pub ResumedAt : {V : Type 0} → (V → Writing → V → Type 0) → V → List ℕ → ProgramFault → V
+    → Type 0
 ResumedAt gives from first (Journal fault) to = (fault ≡ Failed) × Wrote gives from first to
 ResumedAt gives from first fault to = FirstOrNone gives from first fault to

@@ -1,4 +1,4 @@
--- What a session over a socket serves, and what it adds to the entries of its seat.
+-- A session over a socket, and the entries that it adds to those of its seat.
 use Rattle.std.specs.Prelude.{◌≡◌, ℕ, Bool, true, false, List, [], ◌∷◌, ◌++◌, Option, Some, None, Result, All, MatchOption}
 use Rattle.ring_any.specs.declared.any.Any.{Any}
 use Rattle.ring_lines.specs.Ends.{Reading, Writing}
@@ -20,21 +20,25 @@ pub record GainsCalls (session : ℕ) (mine now : List (Entry Any)) : Type 0 whe
   pub behind : now ≡ mine ++ gained
   pub theirs : All (IsCallOf session) gained
 
--- a call was added to the list of those that were made
+-- a call was added to the list of calls
 abbrev pub Adds : {A : Type 0} → List A → A → List A → Type 0
 Adds log call now = now ≡ log ++ call ∷ []
 
--- the base of the places that are told, if they are
+-- the base of the places, if places are written
 abbrev pub base_if : Bool → ℕ → Option ℕ
 base_if true base = Some base
 base_if false base = None
 
--- A session was served, with places from a base or without them. Of a socket nothing is known but the calls that were made and their
--- answers: these read calls and these write calls are those of the session.
-pub record HasServed (base : Option ℕ) (most session reads : ℕ) (old new : SeatView Any) : Type 0 where
+-- A session was served, with places from a base or without places. Nothing is known of a socket but
+-- the calls that were made and their answers. These read calls and write calls are those of the
+-- session.
+pub record HasServed (base : Option ℕ) (most session reads : ℕ)
+    (old new : SeatView Any) : Type 0 where
   pub result : Result ℕ LineFault
   pub read : List Reading
   pub written : List Writing
   pub served : MatchOption base
       (Serves Adds Adds (λ seat. seat.mine) session old [] [] reads result new read written)
-      (λ base. ServesPlaced Adds Adds (λ seat. seat.mine) base most session old [] [] reads result new read written)
+      (λ base.
+          ServesPlaced Adds Adds (λ seat. seat.mine) base most session old [] [] reads result new
+          read written)

@@ -1,4 +1,4 @@
-//! Those that serve the clients of a running service.
+//! The guests and hosts that serve the clients of a running service.
 ghost use Rattle.std.specs.Prelude.{◌≡◌, ◌≤◌, ◌+◌, ◌^◌, All, IfErr, IfOk};
 ghost use Rattle.atomic_table.specs.Seated.{TableId};
 ghost use Rattle.ring_door.specs.declared.fault.ProgramFault.TheVariants.{NoMemory};
@@ -15,11 +15,11 @@ use std::sync::{Mutex, Wait};
 use std::thread::Threads;
 use std::time::Clock;
 
-// How many seats there are for each session that may run.
+// the number of seats for each session that may run
 const SEATS_EACH: u32 = 16;
 
-/// How many seats there are for the clients of a service that serves so many sessions at a time, and as many
-/// campaigns if it serves those.
+/// Returns how many seats a service needs that serves `sessions` sessions at a time. If it serves
+/// campaigns, it serves as many of them.
 pub(crate) fn seats_for(sessions: u32, campaigns: bool) -> u32 {
     let seats = sessions.saturating_mul(SEATS_EACH);
     if campaigns {
@@ -29,8 +29,8 @@ pub(crate) fn seats_for(sessions: u32, campaigns: bool) -> u32 {
     }
 }
 
-/// Those that serve sessions and those that serve campaigns. Some of each serve from the start, and the others
-/// in their place once their seats are spent.
+/// Guests for sessions and hosts for campaigns. Some of each serve from the start. The spare ones
+/// take the place of others whose seats are spent.
 #[derive(Drop)]
 pub(crate) struct Crowd<'a, T: Tabled<Any> + Drop> {
     guests: Vec<Guest<'a, T>>,
@@ -39,8 +39,9 @@ pub(crate) struct Crowd<'a, T: Tabled<Any> + Drop> {
     spare_hosts: Vec<Host<'a, T>>,
 }
 
-/// Those that serve by these seats: half of the seats are for campaigns, if there are any. Places are told from
-/// `base`, and a campaign's client may be silent for `idle` seconds. Fails only if an allocation fails.
+/// Returns guests and hosts for these seats. If there are campaigns, half of the seats are for
+/// them. Places are counted from `base`, and a campaign's client may be silent for `idle` seconds.
+/// Fails only if an allocation fails.
 pub(crate) fn gather<T: Tabled<Any> + Drop>(
     alloc: Global,
     front: &Front<T>,
@@ -69,13 +70,15 @@ pub(crate) fn gather<T: Tabled<Any> + Drop>(
     })
 }
 
-// The seats for sessions and those for campaigns.
+// Returns the seats for sessions and the seats for campaigns.
 fn part<T: Tabled<Any> + Drop>(
     seats: Vec<Seat<T>>,
     campaigns: bool,
 ) -> Result<(Vec<Seat<T>>, Vec<Seat<T>>), ProgramFault>
-    ensures ours { (id : TableId) → All (λ seat. seat.lock ≡ id) seats.items → IfOk result (λ parts. All (λ seat. seat.lock ≡ id) parts.0.items) }
-    ensures theirs { (id : TableId) → All (λ seat. seat.lock ≡ id) seats.items → IfOk result (λ parts. All (λ seat. seat.lock ≡ id) parts.1.items) }
+    ensures ours { (id : TableId) → All (λ seat. seat.lock ≡ id) seats.items
+        → IfOk result (λ parts. All (λ seat. seat.lock ≡ id) parts.0.items) }
+    ensures theirs { (id : TableId) → All (λ seat. seat.lock ≡ id) seats.items
+        → IfOk result (λ parts. All (λ seat. seat.lock ≡ id) parts.1.items) }
     ensures fault { IfErr result (λ fault. fault ≡ NoMemory) }
 {
     let mut ours = seats;
@@ -83,7 +86,7 @@ fn part<T: Tabled<Any> + Drop>(
     Ok((ours, theirs))
 }
 
-// How many of so many seats are for sessions.
+// Returns how many of `seats` seats are for sessions.
 fn kept_of(seats: usize, campaigns: bool) -> usize
     ensures { result ≤ seats }
 {
@@ -91,7 +94,7 @@ fn kept_of(seats: usize, campaigns: bool) -> usize
 }
 
 impl<'a, T: Tabled<Any> + Send + Sync + Drop> Crowd<'a, T> {
-    /// Serves the clients that come in by a listener, and the campaigns that come in by another, if there is one.
+    /// Serves the clients of a listener, and the campaigns of another listener if there is one.
     pub(crate) fn serve<R, L>(
         self,
         rt: &R,

@@ -1,28 +1,28 @@
-//! What the thread that serves and the one that waits for it say to each other before clients come.
+//! The words between the thread that serves and the thread that waits for it, before clients come.
 
 use ring_door::ProgramFault;
 use ring_service::StartFault;
 use std::sync::{Condvar, Mutex, Wait};
 
-// How far the thread that serves is.
+// The state of the thread that serves.
 #[derive(Clone, Copy, Debug, PartialEq, Eq)]
 enum Stage {
     // It opens the service.
     Opening,
-    // The service is open, and nobody has said yet whether to serve.
+    // The service is open, and it is not decided yet whether to serve.
     Open,
     // The service cannot be opened.
     Refused(StartFault),
-    // Clients are to be served.
+    // It serves clients.
     Serving,
-    // They are not.
+    // It serves no clients.
     Leaving,
 }
 
-/// A word from one thread to another, and one back.
+/// A message from one thread to another, and one back.
 ///
-/// The thread that serves says that the service is open or cannot be opened. Then the other one says whether to
-/// serve.
+/// The thread that serves says that the service is open or cannot be opened. If it is open, the
+/// other thread says whether to serve.
 #[derive(Drop)]
 pub(crate) struct Handshake {
     stage: Mutex<Stage>,
@@ -30,7 +30,7 @@ pub(crate) struct Handshake {
 }
 
 impl Handshake {
-    /// Returns a handshake before the first word. Does not allocate.
+    /// Returns a handshake before the first message. Does not allocate.
     pub(crate) fn new() -> Handshake {
         Handshake {
             stage: Mutex::new(Stage::Opening),
@@ -38,13 +38,13 @@ impl Handshake {
         }
     }
 
-    /// Says that the service is open, and waits for the other word. Returns whether to serve.
+    /// Says that the service is open, and waits for the other message. Returns whether to serve.
     pub(crate) fn open<R: Wait>(&self, rt: &R) -> bool {
         self.set(rt, Stage::Open);
         self.wait_past(rt, Stage::Open) == Stage::Serving
     }
 
-    /// Says that the service cannot be opened, if it was not said that it is open.
+    /// Says that the service cannot be opened, unless it was said to be open.
     pub(crate) fn refuse<R: Wait>(&self, rt: &R, fault: ProgramFault) {
         let fault = match fault {
             ProgramFault::NoMemory => StartFault::NoMemory,
@@ -58,7 +58,7 @@ impl Handshake {
         self.moved.notify_all();
     }
 
-    /// Waits for the first word. Returns why the service cannot be opened, if it cannot.
+    /// Waits for the first message. Fails if the service cannot be opened.
     pub(crate) fn wait_open<R: Wait>(&self, rt: &R) -> Result<(), StartFault> {
         match self.wait_past(rt, Stage::Opening) {
             Stage::Refused(fault) => Err(fault),
@@ -84,7 +84,7 @@ impl Handshake {
         self.moved.notify_all();
     }
 
-    // Waits until the stage is another one, and returns that.
+    // Waits until the stage is another one, and returns it.
     fn wait_past<R: Wait>(&self, rt: &R, past: Stage) -> Stage {
         let mut stage = self.stage.lock(rt);
         for _ in rt.forever() {

@@ -26,8 +26,8 @@ pub struct Host<'a, T: Tabled<Any> + Drop = Table<Any>> {
     ghost of_front: { seat.lock ≡ front.now.id },
 }
 
-/// A host for each seat, whose clients may be silent for `idle` seconds; for as long as they like at 0. Fails
-/// only if an allocation fails.
+/// Returns a host for each seat. Its clients may be silent for `idle` seconds, or without end if
+/// `idle` is 0. Fails only if an allocation fails.
 pub fn hosts<T: Tabled<Any> + Drop>(
     alloc: Global,
     front: &Front<T>,
@@ -74,7 +74,7 @@ impl<T: Tabled<Any> + Drop> Serving for Host<'_, T> {
     }
 }
 
-// One campaign by a seat.
+// Runs one campaign by a seat.
 fn run_campaign<R: Wait + Clock, I: Intake, O: Outlet, T: Tabled<Any> + Drop>(
     rt: &R,
     alloc: Global,

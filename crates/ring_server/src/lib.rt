@@ -1,9 +1,9 @@
-//! The server: the service that the program runs, and its sessions over sockets.
+//! The server: the service of a program, and its sessions over sockets.
 //!
-//! `accept_loop` serves so many clients and ends after them. `run_loop` serves clients until the process is ended,
-//! so many at a time. `resume_loop` does so by a table that was recovered from its journal. All serve what a
-//! configuration describes, and say on an outlet that they listen. Each session reaches the table by a seat of the
-//! turn lock.
+//! `accept_loop` serves `connections` clients, then returns. `run_loop` serves clients until the
+//! process ends, `sessions` at a time. `resume_loop` does so with a table that was recovered from
+//! its journal. Each serves by a configuration, and prints the line that it listens. Each session
+//! reaches the table by a seat of the turn lock.
 #![tactic(auto)]
 
 mod base;

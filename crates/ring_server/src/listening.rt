@@ -1,4 +1,4 @@
-//! Accepts clients, as many as were asked for, each with a session in a thread of its own.
+//! Serves a given number of clients, each in a thread of its own.
 ghost use Rattle.std.specs.Prelude.{◌≡◌, ◌++◌, All, MatchResult, vec_len};
 ghost use Rattle.ring_lines.specs.Ends.{Wrote};
 ghost use Rattle.ring_door.specs.Telling.{closed_line, listening_line};
@@ -16,16 +16,18 @@ use std::sync::Wait;
 use std::thread::Threads;
 use std::time::Clock;
 
-// How many read calls a session makes at most.
+// the most read calls of a session
 const READS: u32 = 1_000_000_000;
 
-/// Makes the service, says that it listens, accepts so many connections, waits for their sessions to end,
-/// closes the service and says that it closed.
+/// Makes the service, prints that it listens, and accepts `connections` connections. Waits for
+/// their sessions to end, closes the service, and prints that it closed.
 ///
-/// Each connection is a session in a thread of its own, numbered from 1 in the order of their accepts. A
-/// session makes at most 1000000000 read calls. A session's fault ends that session alone. After a failed
-/// accept, a thread that could not be started or a failed write, the sessions that run are waited for and
-/// the service is closed before the fault is answered. The listener is let go after the last accept, so that later clients are refused.
+/// Each connection is a session in a thread of its own, numbered from 1 in the order of their
+/// accepts. A session makes at most 1000000000 read calls. A session's fault ends that session
+/// alone. The listener is dropped after the last accept, so later clients are refused.
+///
+/// After a failed accept, a thread that could not be started or a failed write, the running
+/// sessions are waited for. The service is closed before the fault is returned.
 pub fn accept_loop<R, L, O>(
     rt: &R,
     listener: L,
@@ -38,8 +40,11 @@ where
     L: OpenListener<Stream = TcpStream> + Drop,
     O: Outlet,
     ensures { MatchResult result
-        (λ _. Wrote O.write_gives out.old (listening_line config.now.port ++ closed_line connections) out.new)
-        (λ fault. BothAt O.write_gives out.old (listening_line config.now.port) (closed_line connections) fault out.new) }
+        (λ _. Wrote O.write_gives out.old
+            (listening_line config.now.port ++ closed_line connections) out.new)
+        (λ fault.
+            BothAt O.write_gives out.old (listening_line config.now.port) (closed_line connections)
+            fault out.new) }
 {
     let alloc = rt.alloc();
     let listening = say_listening(alloc, config.port)?;
@@ -60,7 +65,8 @@ where
     }
 }
 
-// Says that it listens, and serves all connections. The answer is how many there were: one for each seat.
+// Prints that it listens, and serves all connections. Returns how many there were: one for each
+// seat.
 fn serve_all<R, L, O>(
     rt: &R,
     front: &Front,

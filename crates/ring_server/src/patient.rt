@@ -4,13 +4,13 @@ use std::io::{ErrorKind, Read};
 use std::net::TcpStream;
 use std::time::{Clock, Duration, Instant};
 
-// How many milliseconds a read call waits for a byte. The system may round it up.
+// the longest wait of a read call for a byte, in milliseconds; the system may round it up
 const LOOK: u64 = 4;
 
-/// What comes from a client over a socket.
+/// A reader of a client's socket.
 ///
-/// A read call that waited for some milliseconds in vain counts as interrupted. Once nothing has come for as
-/// many seconds as were said, a read call fails. That is tested, not proved.
+/// A read call that waited in vain counts as interrupted. If nothing has come for the client's
+/// number of seconds, a read call fails. This is tested, not proved.
 #[derive(Drop)]
 pub(crate) struct Patient<'a, R> {
     rt: &'a R,
@@ -22,8 +22,8 @@ pub(crate) struct Patient<'a, R> {
 }
 
 impl<'a, R: Clock> Patient<'a, R> {
-    /// A reader of this socket, whose client may be silent for so many seconds; for as long as it likes at 0.
-    /// Returns `None` if the socket cannot be told how long to wait.
+    /// Returns a reader of this socket. Its client may be silent for `idle` seconds, or without end
+    /// if `idle` is 0. Returns `None` if the socket cannot get a time limit.
     pub(crate) fn new(rt: &'a R, stream: &'a TcpStream, idle: u32) -> Option<Patient<'a, R>> {
         let look = Some(Duration::from_millis(LOOK));
         let Ok(()) = stream.set_read_timeout(look) else {
@@ -42,7 +42,7 @@ impl<'a, R: Clock> Patient<'a, R> {
         })
     }
 
-    // Whether the client was silent for too long.
+    // Returns whether the client was silent for too long.
     fn is_silent(&mut self) -> bool {
         let Some(idle) = self.idle else {
             return false;

@@ -9,16 +9,16 @@ use ring_recovery::{Alarm, Life, Written};
 use ring_table::Recorded;
 use std::sync::Arc;
 
-/// A table over its journal, and what has to be done before it is asked again.
+/// A table over its journal, with all that its service needs to go on.
 #[derive(Drop)]
 pub struct Resumed<D: Medium + Drop> {
     /// The table. All its entries are kept for good.
     pub table: Recorded<Any, Written<D>>,
-    /// The charters of the terms that run, which are begun again.
+    /// The charters of the running terms, which begin again.
     pub charters: Vec<Arc<Charter<Any>>>,
-    /// The alarm that is rung if the journal fails.
+    /// The alarm, which is rung if the journal fails.
     pub alarm: Arc<Alarm>,
-    /// The life of the journal. Places are told from its base.
+    /// The life of the journal. Places are counted from its base.
     pub life: Life,
     ghost kept: { length table.history ≤ table.sure },
     ghost running: { map (λ charter. charter.value) charters.items ≡ running_charters table.book },

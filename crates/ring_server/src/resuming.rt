@@ -26,13 +26,14 @@ use std::thread;
 use std::thread::{JoinHandle, Threads};
 use std::time::Clock;
 
-/// Makes the service over a table that was recovered, begins its running terms again, says that it
-/// listens, and serves clients as `run_loop` does, until the process is ended or the journal fails.
+/// Makes the service over a table that was recovered, and begins its running terms again. Prints
+/// that it listens, and serves clients as `run_loop` does, until the process ends or the journal
+/// fails.
 ///
-/// If there is a listener for campaigns, all members of the life before are taken out first, since none of
+/// If there is a listener for campaigns, all members of the life before are taken out first. None of
 /// their connections is left.
 ///
-/// If the journal fails, no reply goes out any more, and the fault is returned at once. The threads are
+/// If the journal fails, no more replies go out, and the fault is returned at once. The threads are
 /// not joined then, and end with the process. If the service could not begin, the fault is that of
 /// `run_loop`.
 pub fn resume_loop<R, L, D, O>(
@@ -84,7 +85,7 @@ where
     }
 }
 
-// A handshake, for the one who waits and the one who serves.
+// Returns a handshake: one handle for the thread that waits, one for the thread that serves.
 fn handshakes(alloc: Global) -> Result<(Arc<Handshake>, Arc<Handshake>), ProgramFault>
     ensures { IfErr result (λ fault. fault ≡ ProgramFault.NoMemory) }
 {
@@ -95,7 +96,7 @@ fn handshakes(alloc: Global) -> Result<(Arc<Handshake>, Arc<Handshake>), Program
     Ok((handshake, theirs))
 }
 
-// Starts the thread that serves. It returns whether all its own threads were started.
+// Starts the thread that serves. Its result is whether all its own threads were started.
 fn start<R, L, T>(rt: &R, server: Server<L, T>) -> Result<JoinHandle<bool>, ProgramFault>
 where
     R: Threads + Wait + AllocGlobal + Eprint + Clock + Copy + Send + Sync + Drop + 'static,
@@ -113,7 +114,7 @@ where
     }
 }
 
-// Waits until the service is open, says that it listens, and has it serve.
+// Waits until the service is open, prints that it listens, and lets it serve.
 fn begin<R: Wait, O: Outlet>(
     rt: &R,
     handshake: &Handshake,
@@ -135,7 +136,7 @@ fn begin<R: Wait, O: Outlet>(
     }
 }
 
-// Waits until the alarm is rung, and says why it was.
+// Waits until the alarm is rung. Fails if the journal failed, or as `joined` does.
 fn wait_for_end<R: Threads + Wait>(
     rt: &R,
     alarm: &Alarm,
@@ -149,7 +150,7 @@ fn wait_for_end<R: Threads + Wait>(
     }
 }
 
-// Waits for the thread that served, and says how it ended.
+// Waits for the thread that served. Fails if one of its threads could not be started.
 fn joined<R: Threads>(rt: &R, thread: JoinHandle<bool>) -> Result<(), ProgramFault>
     ensures { IfErr result (λ fault. fault ≡ ProgramFault.Thread) }
 {

@@ -1,4 +1,4 @@
-//! Serves clients until the process is ended, so many at a time.
+//! Serves clients until the process ends, `sessions` at a time.
 ghost use Rattle.std.specs.Prelude.{◌≡◌, All, IfErr, MatchResult};
 ghost use Rattle.ring_lines.specs.Ends.{Wrote};
 ghost use Rattle.ring_door.specs.Telling.{listening_line};
@@ -20,19 +20,22 @@ use std::sync::{Mutex, Wait};
 use std::thread::Threads;
 use std::time::Clock;
 
-// The table: its history is not kept, so that questions take no memory for good.
+// The table. Its history is not kept, so that questions do not fill the memory.
 type Forgetful = Recorded<Any, Unkept<Any>>;
 
-/// Makes the service, says that it listens, and serves clients until the process is ended.
+/// Makes the service, prints that it listens, and serves clients until the process ends.
 ///
-/// As many threads as there may be sessions accept one client after another, so a further client waits until
-/// a session has ended. Each thread has a seat of the table for its sessions. A session that comes when the
-/// seat is spent gets one of those that are kept for that. Sessions are numbered from 1 in the order of their
-/// accepts, and from 1 again after 4294967295. A session's fault ends that session alone. A failed accept, as
-/// for want of descriptors or memory, is told on standard error the first time, and is tried again after
-/// 100 ms. If there is a listener for campaigns, as many threads accept those there, with seats of their own.
-/// So it returns only where it could not begin: where memory was refused, a write failed or a thread
-/// could not be started.
+/// `sessions` threads accept one client after another, so a further client waits until a session
+/// has ended. Each thread has a seat of the table for its sessions. If the seat is spent, a spare
+/// seat takes its place. Sessions are numbered from 1 in the order of their accepts, and from 1
+/// again after 4294967295. A session's fault ends that session alone.
+///
+/// The first failed accept, for want of a descriptor or of memory, is reported on standard error. A
+/// failed accept is tried again after 100 ms. If there is a listener for campaigns, as many threads
+/// accept those there, with seats of their own.
+///
+/// It returns only if it could not begin: an allocation or a write failed, or a thread could not be
+/// started.
 pub fn run_loop<R, L, O>(
     rt: &R,
     listener: L,
@@ -47,7 +50,8 @@ where
     O: Outlet,
     ensures { MatchResult result
         (λ _. Wrote O.write_gives out.old (listening_line config.now.port) out.new)
-        (λ fault. FirstOrNone O.write_gives out.old (listening_line config.now.port) fault out.new) }
+        (λ fault.
+            FirstOrNone O.write_gives out.old (listening_line config.now.port) fault out.new) }
 {
     let alloc = rt.alloc();
     let listening = say_listening(alloc, config.port)?;
@@ -68,14 +72,14 @@ where
     begun
 }
 
-// What the sessions of the service share.
+// Returns the front, which the sessions of the service share.
 fn front_of(service: &Service<Forgetful>) -> &Front<Forgetful>
     ensures { result.now ≡ service.now }
 {
     service.front()
 }
 
-// Says that it listens, and has the threads serve.
+// Prints that it listens, and lets the threads serve.
 fn begin<R, L, O>(
     rt: &R,
     front: &Front<Forgetful>,
@@ -107,7 +111,7 @@ where
     crowd.serve(rt, listener, campaigns, limits)
 }
 
-/// Has guests of a table serve.
+/// Lets guests of a table serve at a door.
 pub(crate) fn seat_all<'a, R, L, T>(
     rt: &R,
     door: &Mutex<Door<L>>,
@@ -124,7 +128,7 @@ where
     attend_all(rt, door, spare, guests, limits)
 }
 
-/// Has guests of a table and its hosts serve, each at an entrance of their own.
+/// Lets guests of a table and its hosts serve, each at an entrance of their own.
 pub(crate) fn seat_both<'a, R, L, T>(
     rt: &R,
     first: &Entrance<L, Guest<'a, T>>,

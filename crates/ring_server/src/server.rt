@@ -1,4 +1,4 @@
-//! What the thread that serves has, and what it does.
+//! The thread that serves.
 ghost use Rattle.std.specs.Prelude.{◌≡◌, ◌≤◌, ◌+◌, ◌^◌, All, IfErr, IfOk};
 ghost use Rattle.ring_campaign.specs.Clearing.{Clears};
 ghost use Rattle.ring_turn.specs.Seats.{Settled};
@@ -20,21 +20,21 @@ use std::sync::{Arc, Wait};
 use std::thread::Threads;
 use std::time::Clock;
 
-/// What the thread that serves takes along.
+/// The values that move into the thread that serves.
 #[derive(Drop)]
 pub(crate) struct Server<L: Drop, T: Tabled<Any> + Drop> {
     pub(crate) listener: L,
-    // where campaigns come in, if they may
+    // the listener for campaigns, if they are served
     pub(crate) campaigns: Option<L>,
     pub(crate) config: Config,
     pub(crate) limits: Limits,
     pub(crate) table: T,
-    // the terms that run
+    // the charters of the running terms
     pub(crate) charters: Vec<Arc<Charter<Any>>>,
-    // what is added to each place that is told
+    // the number that is added to each place
     pub(crate) base: usize,
     pub(crate) handshake: Arc<Handshake>,
-    // it is rung when nobody is served any more
+    // rung when no client is served any more
     pub(crate) bell: Arc<Alarm>,
     ghost fits: { base + T.most ≤ 2 ^ 64 },
 }
@@ -44,7 +44,8 @@ where
     L: OpenListener<Stream = TcpStream> + Send + Drop,
     T: Tabled<Any> + Send + Sync + Drop + 'static,
 {
-    /// Opens the service, and serves once the handshake says so. Returns whether all its threads could be started.
+    /// Opens the service, and serves once the handshake says so. Returns whether all its threads
+    /// were started.
     pub(crate) fn run<R>(self, rt: &R) -> bool
     where
         R: Threads + Wait + AllocGlobal + Eprint + Clock + Copy + Send + Sync + Drop + 'static,
@@ -63,14 +64,9 @@ where
         // one more than serve, by which the members of an earlier life leave
         let seats = seats_for(limits.sessions, campaigns.is_some()).saturating_add(1);
         let served = match open(rt, &config, seats, table, charters) {
-            Ok((service, seats)) => {
-                let front = sessions::front(&service);
-                let served = serve(
-                    rt, front, listener, campaigns, seats, base, limits, &handshake,
-                );
-                let _ = sessions::close(rt, service);
-                served
-            }
+            Ok((service, seats)) => serve_open(
+                rt, service, listener, campaigns, seats, base, limits, &handshake,
+            ),
             Err(fault) => {
                 drop(listener);
                 drop(campaigns);
@@ -109,7 +105,34 @@ where
     Ok((service, seats))
 }
 
-// Says that the service is open, and has guests of its table serve once they may.
+// Serves by a service that is open, and then closes it.
+fn serve_open<R, L, T>(
+    rt: &R,
+    service: Service<T>,
+    listener: L,
+    campaigns: Option<L>,
+    seats: Vec<Seat<T>>,
+    base: usize,
+    limits: Limits,
+    handshake: &Handshake,
+) -> Result<(), ProgramFault>
+where
+    R: Threads + Wait + AllocGlobal + Eprint + Clock + Sync,
+    L: OpenListener<Stream = TcpStream> + Send + Drop,
+    T: Tabled<Any> + Send + Sync + Drop + 'static,
+    requires seats { All (λ seat. seat.lock ≡ service.id) seats.items }
+    requires base { base + T.most ≤ 2 ^ 64 }
+    ensures fault { IfErr result IsOfStart }
+{
+    let front = sessions::front(&service);
+    let served = serve(
+        rt, front, listener, campaigns, seats, base, limits, handshake,
+    );
+    let _ = sessions::close(rt, service);
+    served
+}
+
+// Says that the service is open, and lets guests of its table serve once they may.
 fn serve<R, L, T>(
     rt: &R,
     front: &Front<T>,

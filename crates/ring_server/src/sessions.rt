@@ -1,5 +1,6 @@
 //! The service that the program runs, and its sessions over sockets.
 ghost use Rattle.std.specs.Prelude.{◌≡◌, ◌⊎◌, ◌<◌, ◌≤◌, ◌*◌, ◌+◌, ◌-◌, ◌/◌, ◌^◌, ◌↔◌, All, IfErr, IfOk, IfSome, IsTrue, ℕ, MatchOption, vec_len};
+ghost use Rattle.ring_service.specs.Handing.{AllHand};
 ghost use Rattle.ring_service.specs.Places.{ServesPlaced};
 ghost use Rattle.ring_service.specs.Sessions.{Serves};
 ghost use Rattle.ring_turn.specs.Seats.{Settled};
@@ -24,25 +25,25 @@ use std::sync::{Arc, Wait};
 use std::thread::Threads;
 use std::time::Clock;
 
-// How many read calls a guest makes at most in one session, unless it was made with another limit.
+// the most read calls of a guest in one session, unless it has another limit
 const READS: u32 = u32::MAX;
 
-/// How the sessions and workers of a program share its table.
+/// The lock by which the sessions and workers of a program share its table.
 pub type Access<T = Table<Any>> = TurnLock<Any, T>;
 
 /// The seat by which a session or a worker reaches the table.
 pub type Seat<T = Table<Any>> = ring_turn::Seat<Any, T>;
 
-/// What sessions share.
+/// The front that sessions share.
 pub type Front<T = Table<Any>> = ring_service::Front<Access<T>>;
 
 /// The service over a program's table.
 pub type Service<T = Table<Any>> = ring_service::Service<Access<T>>;
 
-/// What the service leaves when it is closed.
+/// The parts of a service that was closed.
 pub type Closing<T = Table<Any>> = ring_service::Closing<Access<T>>;
 
-/// A seat of the table, for one session after another, and how many read calls a session makes at most.
+/// A seat of the table, for one session after another. A session makes at most `reads` read calls.
 #[derive(Drop)]
 pub struct Guest<'a, T: Tabled<Any> + Drop = Table<Any>> {
     front: &'a Front<T>,
@@ -52,7 +53,8 @@ pub struct Guest<'a, T: Tabled<Any> + Drop = Table<Any>> {
     ghost of_front: { seat.lock ≡ front.now.id },
 }
 
-/// Opens the service that a configuration describes over this table, with `sessions` seats for sessions.
+/// Opens the service that a configuration describes over this table, with `sessions` seats for
+/// sessions.
 ///
 /// Workers and sessions have equal shares of the turns of a lock, of which there are 2^64 - 1.
 pub fn open<R, T>(
@@ -66,7 +68,8 @@ where
     T: Tabled<Any> + Send + Sync + Drop + 'static,
     ensures seats { IfOk result (λ opened. vec_len opened.1 ≡ sessions) }
     ensures theirs { IfOk result (λ opened. All (λ seat. seat.lock ≡ opened.0.id) opened.1.items) }
-    ensures turns { IfOk result (λ opened. All (λ seat. seat.left ≡ (2 ^ 64 - 1) / (config.now.workers + sessions)) opened.1.items) }
+    ensures turns { IfOk result (λ opened.
+        All (λ seat. seat.left ≡ (2 ^ 64 - 1) / (config.now.workers + sessions)) opened.1.items) }
     ensures workers { IfOk result (λ opened. opened.0.seats ≡ config.now.workers + sessions) }
     ensures opening { IfOk result (λ opened. opened.0.opening ≡ (T.shows table).history) }
     ensures fault { IfErr result IsOfStart }
@@ -78,8 +81,8 @@ where
     open_gated(rt, config, sessions, table, gate)
 }
 
-/// Opens the same service with this gate, which looks at each item of each worker. How much the inboxes
-/// hold is tested, not proved.
+/// Opens a service as `open` does. The gate looks at each item of each worker. The capacity of the
+/// inboxes is tested, not proved.
 pub fn open_gated<R, G, T>(
     rt: &R,
     config: &Config,
@@ -93,7 +96,8 @@ where
     G: Gate + Send + Sync + Drop + 'static,
     ensures seats { IfOk result (λ opened. vec_len opened.1 ≡ sessions) }
     ensures theirs { IfOk result (λ opened. All (λ seat. seat.lock ≡ opened.0.id) opened.1.items) }
-    ensures turns { IfOk result (λ opened. All (λ seat. seat.left ≡ (2 ^ 64 - 1) / (config.now.workers + sessions)) opened.1.items) }
+    ensures turns { IfOk result (λ opened.
+        All (λ seat. seat.left ≡ (2 ^ 64 - 1) / (config.now.workers + sessions)) opened.1.items) }
     ensures workers { IfOk result (λ opened. opened.0.seats ≡ config.now.workers + sessions) }
     ensures opening { IfOk result (λ opened. opened.0.opening ≡ (T.shows table).history) }
     ensures fault { IfErr result IsOfStart }
@@ -114,7 +118,7 @@ where
     }
 }
 
-// What the program tells of a service that could not be started.
+// Returns the program's fault for a service that could not be started.
 fn told_of_start(fault: StartFault) -> ProgramFault
     ensures { result ≡ start_told_as fault }
 {
@@ -124,25 +128,26 @@ fn told_of_start(fault: StartFault) -> ProgramFault
     }
 }
 
-/// What the sessions of a service share. Takes no memory.
+/// Returns the front that the sessions of a service share. Does not allocate.
 pub fn front<T: Tabled<Any> + Send + Sync + Drop + 'static>(service: &Service<T>) -> &Front<T>
     ensures { result.now ≡ service.now }
 {
     service.front()
 }
 
-/// Ends the service, and gives what it leaves.
+/// Ends the service, and returns its parts.
 pub fn close<R: Threads + Wait, T: Tabled<Any> + Send + Sync + Drop + 'static>(
     rt: &R,
     service: Service<T>,
 ) -> Closing<T>
-    ensures { result.access.value ≡ service }
+    ensures access { result.access.value ≡ service }
+    ensures handed { AllHand result.handed.items }
 {
     service.close(rt)
 }
 
-/// A guest for each seat, whose sessions make at most 4294967295 read calls each and tell places from
-/// `base`. Fails only if an allocation fails.
+/// Returns a guest for each seat. Its sessions make at most 4294967295 read calls each, and count
+/// places from `base`. Fails only if an allocation fails.
 pub fn guests<T: Tabled<Any> + Drop>(
     alloc: Global,
     front: &Front<T>,
@@ -159,8 +164,8 @@ pub fn guests<T: Tabled<Any> + Drop>(
     limited_guests(alloc, front, seats, base, READS)
 }
 
-/// A guest for each seat, whose sessions make at most `reads` read calls each and tell places from `base`.
-/// Fails only if an allocation fails.
+/// Returns a guest for each seat. Its sessions make at most `reads` read calls each, and count
+/// places from `base`. Fails only if an allocation fails.
 pub fn limited_guests<T: Tabled<Any> + Drop>(
     alloc: Global,
     front: &Front<T>,
@@ -201,7 +206,8 @@ impl<T: Tabled<Any> + Drop> Serving for Guest<'_, T> {
     }
 
     fn serve<R: Wait + Clock>(&mut self, rt: &R, session: u32, stream: &TcpStream, places: bool)
-        ensures served { HasServed (base_if places self.old.base.number) T.most session self.old.reads self.old.seat self.new.seat }
+        ensures served { HasServed (base_if places self.old.base.number) T.most session
+            self.old.reads self.old.seat self.new.seat }
         ensures gained { GainsCalls session self.old.seat.mine self.new.seat.mine }
         ensures told { (self.new.seat ≡ self.old.seat) ⊎ Settled self.new.seat }
     {
@@ -222,15 +228,16 @@ impl<T: Tabled<Any> + Drop> Serving for Guest<'_, T> {
     }
 }
 
-// The base of the places that a session tells, if it tells them.
+// Returns the base of the places of a session, or `None` if it writes none.
 fn told_base(places: bool, base: usize) -> Option<usize>
     ensures value { result ≡ base_if places base }
-    ensures within { (most : ℕ) → base + most ≤ 2 ^ 64 → IfSome result (λ base. base + most ≤ 2 ^ 64) }
+    ensures within { (most : ℕ) → base + most ≤ 2 ^ 64
+        → IfSome result (λ base. base + most ≤ 2 ^ 64) }
 {
     if places { Some(base) } else { None }
 }
 
-// One session by a seat. If there is a base, replies are told with their places, counted from it.
+// Serves one session by a seat. If there is a base, replies have their places, counted from it.
 fn answer<R: Wait, I: Intake, O: Outlet, T: Tabled<Any> + Drop>(
     rt: &R,
     front: &Front<T>,
@@ -247,8 +254,11 @@ fn answer<R: Wait, I: Intake, O: Outlet, T: Tabled<Any> + Drop>(
     ensures gained { GainsCalls session seat.old.mine seat.new.mine }
     ensures told { (seat.new ≡ seat.old) ⊎ Settled seat.new }
     ensures served { MatchOption base
-        (Serves I.read_gives O.write_gives (λ seat. seat.mine) session seat.old reader.old writer.old reads result seat.new reader.new writer.new)
-        (λ base. ServesPlaced I.read_gives O.write_gives (λ seat. seat.mine) base T.most session seat.old reader.old writer.old reads result seat.new reader.new writer.new) }
+        (Serves I.read_gives O.write_gives (λ seat. seat.mine) session seat.old reader.old
+            writer.old reads result seat.new reader.new writer.new)
+        (λ base.
+            ServesPlaced I.read_gives O.write_gives (λ seat. seat.mine) base T.most session seat.old
+            reader.old writer.old reads result seat.new reader.new writer.new) }
 {
     match base {
         Some(base) => front.serve_placed(rt, seat, base, session, reader, writer, reads),

@@ -63,7 +63,7 @@ joins_more all threads left thread handed after one some last added keeps =
 pub joins_all : (all threads : List (PromisedHandle (Handed Any AnyMsg AnyState) Work)) (handed : List (Handed Any AnyMsg AnyState)) → JoinsSome all threads handed → length threads ≡ 0 → Joins all handed
 joins_all all threads handed some none = record { count = omega (arith, some.count, none); each = some.each }
 
--- what the workers hand over, once all are joined
+-- the results of the workers, once all are joined
 pub all_hand : (threads : List (PromisedHandle (Handed Any AnyMsg AnyState) Work)) (handed : List (Handed Any AnyMsg AnyState)) → IsWhole threads → Joins threads handed → AllHand handed
 all_hand threads handed whole joins = record {
   inboxes = whole.inboxes;

@@ -37,7 +37,7 @@ opens_more {T} left receivers senders one own long fresh opened v receiver list 
       rw (get_or_push receivers one receiver v last, get_or_push senders own list v (omega (arith, last, long))) fresh
 ]
 
--- what has been taken of the lists so far, and what is left of them
+-- the elements that were taken of the lists so far, and the lists that are left
 pub record TakesSome {A : Type 0} (index : ℕ) (old now : List (Vec A Global)) (taken : List A) : Type 0 where
   pub lasts : (v : ℕ) (list : Vec A Global) (last : A) → v < index → (get_or old v list).items ≡ (get_or now v list).items ++ get_or taken v last ∷ []
   pub rest : (v : ℕ) (list : Vec A Global) → index ≤ v → get_or now v list ≡ get_or old v list

@@ -1,4 +1,4 @@
--- What an answer of an access says of a line, where its place is told too.
+-- The answer of an access to a line, with its place.
 use Rattle.std.proofs.Common.{◌+◌, ◌<◌, ℕ, List, refl}
 use Rattle.ring_id.specs.declared.refusal.Refusal.TheVariants.{BadLine}
 use Rattle.ring_any.specs.Any.{any_greatest, any_two_way, any_winner}
@@ -16,7 +16,7 @@ use Rattle.ring_table.specs.declared.entry.Entry.{Entry}
 use Rattle.ring_table.specs.declared.entry.Entry.TheVariants.{Call}
 use Rattle.ring_service.proofs.Replying.{answers_line, unread_line}
 
--- a line that spells a command is answered by what the access answers to it
+-- a line that spells a command is answered by the access's answer to it
 pub places_line : (base most session : ℕ) (line : List ℕ) (command : Command Any) (mine : List (Entry Any)) (answer : Answer) (now : List (Entry Any)) →
     Spells line (Client command) → AnswersAtSeat any_winner any_two_way any_greatest session command mine answer now → HasPlaceBelow most answer → PlacesIn base most session line mine (told_from base answer) now
 places_line base most session line command mine (Placed reply place) now spelled a below =

@@ -15,13 +15,13 @@ use Rattle.ring_service.specs.declared.posts.Waiting.{Waiting}
 use Rattle.ring_workers.specs.declared.item.Item.{Item}
 use Rattle.ring_workers.specs.declared.item.Item.TheVariants.{Begin}
 
--- one more at the end of all and of some
+-- one more at the end of the whole and of the first part
 make_up_some : {A : Type 0} (xs some others : List A) (x : A) → MakeUp xs some others → MakeUp (xs ++ x ∷ []) (some ++ x ∷ []) others
 make_up_some [] some others x m = inl ([], rw m.0 refl, (refl, m.1))
 make_up_some (y ∷ ys) some others x (inl m) = inl (m.0 ++ x ∷ [], rw m.1 refl, make_up_some ys m.0 others x m.2)
 make_up_some (y ∷ ys) some others x (inr m) = inr (m.0, m.1, make_up_some ys some m.0 x m.2)
 
--- one more at the end of all and of the others
+-- one more at the end of the whole and of the other part
 make_up_others : {A : Type 0} (xs some others : List A) (x : A) → MakeUp xs some others → MakeUp (xs ++ x ∷ []) some (others ++ x ∷ [])
 make_up_others [] some others x m = inr ([], rw m.1 refl, (m.0, refl))
 make_up_others (y ∷ ys) some others x (inl m) = inl (m.0, m.1, make_up_others ys m.0 others x m.2)
@@ -32,13 +32,13 @@ make_up_none : (waiting : List Waiting) → MakeUp waiting [] waiting
 make_up_none [] = (refl, refl)
 make_up_none (b ∷ waiting) = inr (waiting, refl, make_up_none waiting)
 
--- what a list has at a place after a write there
+-- the element at a place after a write there
 get-set_same : {A : Type 0} (xs : List A) (place : ℕ) (x y : A) → slice_get xs place ≡ Some x → slice_get (set xs place y) place ≡ Some y
 get-set_same [] place x y e = cc
 get-set_same (z ∷ xs) zero x y e = refl
 get-set_same (z ∷ xs) (suc place) x y e = get-set_same xs place x y e
 
--- and at another place
+-- the element at another place
 get-set_other : {A : Type 0} (xs : List A) (place : ℕ) (y : A) (v : ℕ) → (place ≡ v → ⊥) → slice_get (set xs place y) v ≡ slice_get xs v
 get-set_other [] place y v differ = refl
 get-set_other (z ∷ xs) zero y zero differ = absurd (differ refl)
@@ -46,13 +46,13 @@ get-set_other (z ∷ xs) zero y (suc v) differ = refl
 get-set_other (z ∷ xs) (suc place) y zero differ = refl
 get-set_other (z ∷ xs) (suc place) y (suc v) differ = get-set_other xs place y v (λ e. differ (ap suc e))
 
--- to write what stands there changes nothing
+-- a write of the element that is there changes nothing
 set_own : {A : Type 0} (xs : List A) (place : ℕ) (x : A) → slice_get xs place ≡ Some x → set xs place x ≡ xs
 set_own [] place x e = refl
 set_own (z ∷ xs) zero x e = let same : z ≡ x = cc in ap (λ a. a ∷ xs) (sym same)
 set_own (z ∷ xs) (suc place) x e = ap (λ l. z ∷ l) (set_own xs place x e)
 
--- while fewer than all have been tried, the first that waits is the next, and others are behind it
+-- while not all have been tried, the first that waits is the next, and others come after it
 record IsNext (waiting tried rest kept now : List Waiting) (b : Waiting) : Type 0 where
   others : List Waiting
   next : rest ≡ b ∷ others
@@ -65,11 +65,11 @@ is_next waiting tried (r ∷ rest) kept now b all order fewer =
     let behind : now ≡ rest ++ kept = cc in
     record { others = rest; next = rw first refl; behind = behind }
 
--- what all have, the first has
+-- a property of all elements is one of the first
 pub all_first : {A : Type 0} (P : A → Type 0) (xs after : List A) (x : A) → xs ≡ x ∷ after → All P xs → P x
 all_first {A} P xs after x is all = let each : All P (x ∷ after) = subst (λ (l : List A). All P l) is all in each 0 x (omega arith)
 
--- a list of no length is empty
+-- a list of length 0 is empty
 length-none : {A : Type 0} (xs : List A) → length xs ≡ 0 → xs ≡ []
 length-none [] none = refl
 length-none (x ∷ xs) none = absurd (omega arith)
@@ -87,7 +87,7 @@ says_more begins before charter copy worker same said =
     ∙ ap (λ (l : List (ℕ × Charter Any)). before ++ l) (sym (map-range_with_len_more begin 0 worker worker (omega arith)))
 
 module _ {M S : Type 0} where
-  -- one begin more is for its worker
+  -- one more begin for its worker
   begins_to_own : (begins : List Waiting) (b : Waiting) → begins_to {M = M} {S = S} b.worker (begins ++ b ∷ []) ≡ begins_to b.worker begins ++ Begin b.charter ∷ []
   begins_to_own [] b = rw (eq-eqb b.worker b.worker refl) refl
   begins_to_own (c ∷ begins) b =
@@ -96,7 +96,7 @@ module _ {M S : Type 0} where
         | inr differ ↦ rw (ne_eqb c.worker b.worker differ) (begins_to_own begins b)
       ]
 
-  -- and for no other
+  -- for any other worker it adds none
   begins_to_other : (begins : List Waiting) (b : Waiting) (v : ℕ) → (b.worker ≡ v → ⊥) → begins_to {M = M} {S = S} v (begins ++ b ∷ []) ≡ begins_to v begins
   begins_to_other [] b v differ = rw (ne_eqb b.worker v differ) refl
   begins_to_other (c ∷ begins) b v differ =
@@ -127,7 +127,8 @@ module _ {M S : Type 0} where
         ];
   }
 
-  -- the first so many of those that waited have been tried, and those that were not stored wait behind the others
+  -- the first begins that waited have been tried, and those that were not stored wait after the
+  -- others
   pub record TriesSome (count : ℕ) (waiting now : List Waiting) (old new : List (SenderLog (Item Any M S))) : Type 0 where
     pub tried : List Waiting
     pub rest : List Waiting
@@ -166,7 +167,7 @@ module _ {M S : Type 0} where
     };
   }
 
-  -- the next one is stored
+  -- the next begin is stored
   pub tries_stored : (count : ℕ) (waiting now after : List Waiting) (b : Waiting) (old mid : List (SenderLog (Item Any M S))) (pass new : SenderLog (Item Any M S))
       → TriesSome count waiting now old mid → now ≡ b ∷ after → count < length waiting
       → slice_get mid b.worker ≡ Some pass → new ≡ record pass { stored = pass.stored ++ Begin b.charter ∷ [] }
@@ -187,7 +188,7 @@ module _ {M S : Type 0} where
         };
       }
 
-  -- the next one is not stored and goes behind the others
+  -- the next begin is not stored and goes after the others
   pub tries_kept : (count : ℕ) (waiting now mid-waiting after : List Waiting) (b back : Waiting) (old mid : List (SenderLog (Item Any M S))) (pass new : SenderLog (Item Any M S))
       → TriesSome count waiting now old mid → now ≡ b ∷ mid-waiting → count < length waiting
       → slice_get mid b.worker ≡ Some pass → new ≡ pass → back ≡ b → after ≡ mid-waiting ++ back ∷ []

@@ -1,4 +1,4 @@
--- What an answer of an access says of the line that asked for it.
+-- The answer of an access, as the answer to a line.
 use Rattle.std.proofs.Common.{ℕ, List, [], ◌∷◌, map, refl, sym, ◌∙◌, append-nil, inl, inr}
 use Rattle.ring_id.specs.declared.refusal.Refusal.TheVariants.{BadLine}
 use Rattle.ring_any.specs.Any.{any_greatest, any_two_way, any_winner}
@@ -27,14 +27,14 @@ pub begins_answers : (session : ℕ) (group : List ℕ) (copies : ℕ) (mine : L
 begins_answers session group copies mine (Placed reply place) charters now b = (record { new = b.0.new; step = b.0.step }, b.1)
 begins_answers session group copies mine (Unplaced refusal) charters now b = (b.0, b.2)
 
--- so a start of which the workers were told
+-- so a start whose begins were put to the workers
 pub told_answers : {M S : Type 0} (session : ℕ) (group : List ℕ) (workers : ℕ) (mine : List (Entry Any)) (answer : Answer) (now : List (Entry Any)) (waiting after : List Waiting)
     (old new : List (SenderLog (Item Any M S))) → Begins any_winner any_two_way any_greatest session group workers mine answer now waiting after old new
     → AnswersAtSeat any_winner any_two_way any_greatest session (Start group) mine answer now
 told_answers session group workers mine answer now waiting after old new begins =
     begins_answers session group workers mine answer (map (λ charter. charter.value) begins.charters) now begins.gives
 
--- a line that spells a command is answered by what the access answers to it
+-- a line that spells a command is answered by the access's answer to it
 pub answers_line : (session : ℕ) (line : List ℕ) (command : Command Any) (mine : List (Entry Any)) (answer : Answer) (now : List (Entry Any)) →
     Spells line (Client command) → AnswersAtSeat any_winner any_two_way any_greatest session command mine answer now → AnswersIn session line mine (reply_of answer) now
 answers_line session line command mine (Placed reply place) now spelled a = (

@@ -15,7 +15,7 @@ use Rattle.ring_events.specs.declared.reply.Reply.TheVariants as reply
 use Rattle.ring_terms.specs.Steps.{StepOf}
 use Rattle.ring_table.specs.Tables.{Calls, TableView}
 
--- what is refused for this first reason is not refused as a bad line
+-- a refusal for this first reason is not that of a bad line
 record IsNoBadLine (first : Option Refusal) : Type 0 where
   never : (grows : Bool) → IsRefusal first grows refused.BadLine → ⊥
 
@@ -71,7 +71,7 @@ step_not two_way greatest old new (Members name) step = (in_groups name never_re
 step_not two_way greatest old new (Terms name) step = (in_groups name never_refused old (λ _. nothing)).never true step.1
 step_not two_way greatest old new Groups step = nothing.never true step.1
 
--- and so a table never answers a command as a bad line
+-- so a table never answers a command as a bad line
 pub call_not : {E : Type 0} (two_way greatest : E → Bool) (session : ℕ) (command : Command E) (old new : TableView E) (answer : Reply) → Calls two_way greatest session command old answer new → answer ≡ reply.Refused refused.BadLine → ⊥
 call_not two_way greatest session command old new answer (inl called) bad = step_not two_way greatest old.book new.book command (rw bad at called.call.step)
 call_not two_way greatest session command old new answer (inr lost) bad = let one : reply.Refused refused.NoMemory ≡ reply.Refused refused.BadLine = sym lost.refused ∙ bad in cc

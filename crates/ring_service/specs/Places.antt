@@ -1,4 +1,4 @@
--- Sessions whose replies are told with their places.
+-- Sessions that write the place of each reply.
 use Rattle.std.specs.Prelude.{◌≡◌, ◌<◌, ◌+◌, ℕ, List, [], ◌∷◌, ◌++◌, Result}
 use Rattle.ring_any.specs.declared.any.Any.{Any}
 use Rattle.ring_lines.specs.Ends.{Reading, Writing}
@@ -11,21 +11,28 @@ use Rattle.ring_table.specs.declared.access.Answer.{Answer}
 use Rattle.ring_table.specs.declared.access.Answer.TheVariants.{Placed, Unplaced}
 use Rattle.ring_table.specs.declared.entry.Entry.{Entry}
 
--- A place is told as the base and a place of the access, each of which is less than `most`.
+-- The place in an answer is the sum of the base and a place of the access, which is less than
+-- `most`.
 abbrev pub IsToldFrom : ℕ → ℕ → ℕ → Type 0
 IsToldFrom base most told = (place : ℕ) × (place < most) × (told ≡ base + place)
 
--- an answer tells a place exactly if the seat gained an entry
+-- an answer has a place exactly if the seat gained an entry
 abbrev pub GainsIfPlaced : ℕ → ℕ → List (Entry Any) → Answer → List (Entry Any) → Type 0
-GainsIfPlaced base most mine (Placed reply told) now = IsToldFrom base most told × ((entry : Entry Any) × (now ≡ mine ++ entry ∷ []))
+GainsIfPlaced base most mine (Placed reply told) now =
+    IsToldFrom base most told × ((entry : Entry Any) × (now ≡ mine ++ entry ∷ []))
 GainsIfPlaced base most mine (Unplaced refusal) now = now ≡ mine
 
--- the answer to a line of this session: its reply is that of a session without places
+-- The answer to a line of this session. Its reply is that of a session without places.
 abbrev pub PlacesIn : ℕ → ℕ → ℕ → List ℕ → List (Entry Any) → Answer → List (Entry Any) → Type 0
-PlacesIn base most session line mine answer now = AnswersIn session line mine (reply_of answer) now × GainsIfPlaced base most mine answer now
+PlacesIn base most session line mine answer now =
+    AnswersIn session line mine (reply_of answer) now × GainsIfPlaced base most mine answer now
 
--- A session with places: its lines are answered by rounds, each from where the lines before it left its seat.
--- Places are told from a base.
-abbrev pub ServesPlaced : {S V T : Type 0} → (S → Reading → S → Type 0) → (V → Writing → V → Type 0) → (T → List (Entry Any)) → ℕ → ℕ → ℕ → T → S → V → ℕ → Result ℕ LineFault → T → S → V → Type 0
-ServesPlaced reading writing mine base most session seat reader writer reads result seat_now reader_now writer_now =
-    AnswersLines reading writing (λ line old answer new. PlacesIn base most session line (mine old) answer (mine new)) placed_line has_reply reader writer seat reads result reader_now writer_now seat_now
+-- A session with places. Its lines are answered by rounds, and each line goes on from the seat that
+-- the lines before it left. Places are counted from a base.
+abbrev pub ServesPlaced : {S V T : Type 0} → (S → Reading → S → Type 0) → (V → Writing → V → Type 0)
+    → (T → List (Entry Any)) → ℕ → ℕ → ℕ → T → S → V → ℕ → Result ℕ LineFault → T → S → V → Type 0
+ServesPlaced reading writing mine base most session seat reader writer reads result seat_now
+    reader_now writer_now =
+    AnswersLines reading writing
+    (λ line old answer new. PlacesIn base most session line (mine old) answer (mine new))
+    placed_line has_reply reader writer seat reads result reader_now writer_now seat_now

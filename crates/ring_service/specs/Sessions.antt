@@ -1,5 +1,5 @@
--- Sessions over bytes: each line of the input is answered by one line. What a line adds to the list of
--- entries that the session's seat has is a call of this session, with the reply that the line got.
+-- Sessions over bytes: each line of the input is answered by one line. An entry that a line adds to
+-- those of the session's seat is a call of this session, with the line's reply.
 use Rattle.std.specs.Prelude.{◌≡◌, ◌⊎◌, ℕ, List, [], ◌∷◌, ◌++◌, Result}
 use Rattle.ring_id.specs.declared.refusal.Refusal.{Refusal}
 use Rattle.ring_id.specs.declared.refusal.Refusal.TheVariants.{BadLine}
@@ -17,17 +17,18 @@ use Rattle.ring_table.specs.Accesses.{HasStep, LeavesOut}
 use Rattle.ring_table.specs.declared.entry.Entry.{Entry}
 use Rattle.ring_table.specs.declared.entry.Entry.TheVariants.{Call}
 
--- A line that spells a client command, which was placed: the reply is that of a step, it is not that of
--- a bad line, and the call with this reply is the one entry that the seat gained.
-pub record IsPlaced (session : ℕ) (line : List ℕ) (answer : Reply) (gained : List (Entry Any)) : Type 0 where
+-- A line that spells a client command, and whose call was placed. The reply is that of a step, and
+-- not that of a bad line. The call with this reply is the one entry that the seat gained.
+pub record IsPlaced (session : ℕ) (line : List ℕ) (answer : Reply)
+    (gained : List (Entry Any)) : Type 0 where
   pub command : Command Any
   pub spelled : Spells line (Client command)
   pub step : HasStep any_winner any_two_way any_greatest command answer
   pub good : answer ≡ Refused BadLine → ⊥
   pub entry : gained ≡ Call session command answer ∷ []
 
--- A line that spells a client command, for which memory was refused, or the seat had used up its turns:
--- the reply says which, and the seat gained no entry.
+-- A line that spells a client command, but an allocation failed or the seat had used up its turns.
+-- The reply says which, and the seat gained no entry.
 pub record IsLeftOut (line : List ℕ) (answer : Reply) (gained : List (Entry Any)) : Type 0 where
   pub command : Command Any
   pub spelled : Spells line (Client command)
@@ -42,15 +43,21 @@ pub record IsUnread (line : List ℕ) (answer : Reply) (gained : List (Entry Any
   pub refused : answer ≡ Refused BadLine
   pub none : gained ≡ []
 
--- the reply to a line of this session, and what the seat gained by it
+-- the reply to a line of this session, and the entries that the seat gained by it
 abbrev pub RepliesTo : ℕ → List ℕ → Reply → List (Entry Any) → Type 0
-RepliesTo session line answer gained = IsPlaced session line answer gained ⊎ IsLeftOut line answer gained ⊎ IsUnread line answer gained
+RepliesTo session line answer gained =
+    IsPlaced session line answer gained ⊎ IsLeftOut line answer gained ⊎ IsUnread line answer gained
 
--- the same, given the seat's own entries before the line and after it
+-- the reply, given the seat's own entries before the line and after it
 abbrev pub AnswersIn : ℕ → List ℕ → List (Entry Any) → Reply → List (Entry Any) → Type 0
-AnswersIn session line mine answer now = (gained : List (Entry Any)) × RepliesTo session line answer gained × (now ≡ mine ++ gained)
+AnswersIn session line mine answer now =
+    (gained : List (Entry Any)) × RepliesTo session line answer gained × (now ≡ mine ++ gained)
 
--- A session: its lines are answered by rounds, each from where the lines before it left its seat.
-abbrev pub Serves : {S V T : Type 0} → (S → Reading → S → Type 0) → (V → Writing → V → Type 0) → (T → List (Entry Any)) → ℕ → T → S → V → ℕ → Result ℕ LineFault → T → S → V → Type 0
+-- A session. Its lines are answered by rounds, and each line goes on from the seat that the lines
+-- before it left.
+abbrev pub Serves : {S V T : Type 0} → (S → Reading → S → Type 0) → (V → Writing → V → Type 0)
+    → (T → List (Entry Any)) → ℕ → T → S → V → ℕ → Result ℕ LineFault → T → S → V → Type 0
 Serves reading writing mine session seat reader writer reads result seat_now reader_now writer_now =
-    AnswersLines reading writing (λ line old answer new. AnswersIn session line (mine old) answer (mine new)) reply_line IsLegalReply reader writer seat reads result reader_now writer_now seat_now
+    AnswersLines reading writing
+    (λ line old answer new. AnswersIn session line (mine old) answer (mine new)) reply_line
+    IsLegalReply reader writer seat reads result reader_now writer_now seat_now

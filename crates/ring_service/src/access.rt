@@ -1,4 +1,4 @@
-//! A front as an access to its table, whose starts the workers are told of.
+//! A front as an access to its table. Its starts also reach the workers.
 ghost use Rattle.std.specs.Prelude.{◌≡◌, map};
 ghost use Rattle.ring_any.specs.Any.{any_greatest, any_two_way, any_winner};
 ghost use Rattle.ring_table.specs.Accesses.{AnswersAtSeat, BeginsAtSeat, Reports};
@@ -13,8 +13,8 @@ use ring_node::{Charter, Report};
 use ring_table::{Access, Answer, Filed};
 use std::sync::{Arc, Wait};
 
-/// A seat is one of the access to the table. A call of `Start` puts a begin to each worker, as a session's start
-/// does; `begin` hands its charters to the caller alone.
+/// A seat is a seat of the front's access. A call of `Start` puts a begin to each worker, as a
+/// session's start does. `begin` hands its charters to the caller alone.
 impl<A: Access<Any> + Drop> Access<Any> for Front<A> {
     type Seat = A::Seat;
 
@@ -81,7 +81,8 @@ impl<A: Access<Any> + Drop> Access<Any> for Front<A> {
     fn report<R: Wait>(&self, rt: &R, seat: &mut A::Seat, report: &Report<Any>) -> Filed
         requires { A.has_seat self.now seat.old }
         ensures seat { A.has_seat self.now seat.new }
-        ensures entry { Reports any_winner any_greatest report.now (A.mine seat.old) result (A.mine seat.new) }
+        ensures entry { Reports any_winner any_greatest report.now (A.mine seat.old) result
+            (A.mine seat.new) }
     {
         self.access.report(rt, seat, report)
     }

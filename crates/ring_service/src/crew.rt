@@ -17,11 +17,11 @@ use std::thread;
 use std::thread::{Promise, PromisedHandle, Threads};
 use std::time::Clock;
 
-/// The receivers of the workers' inboxes, in the order of the workers, as contracts see them. It has no
-/// bytes.
+/// The receivers of the workers' inboxes, in the order of the workers, for contracts. The value has
+/// no bytes.
 pub(crate) type Inboxes = Snapshot<Vec<ReceiverPass<Item<Any>>>>;
 
-/// Whose work a thread does, among which inboxes. It has no bytes.
+/// The promise of a thread: its worker, and the inboxes of all workers. The value has no bytes.
 #[derive(Drop)]
 pub(crate) struct Work {
     worker: Snapshot<Worker<Any>>,
@@ -34,7 +34,7 @@ impl Promise<Handed<Any>> for Work {
     ghost kept_by = { Keeps };
 }
 
-/// The threads of the workers that were started, and room for what they hand over.
+/// The threads of the workers that were started, and room for their results.
 #[derive(Drop)]
 pub(crate) struct Crew {
     pub(crate) threads: Vec<PromisedHandle<Handed<Any>, Work>>,
@@ -46,9 +46,11 @@ pub(crate) struct Crew {
 impl Crew {
     ghost use Rattle.ring_service.specs.private.Crews.{Joins, StartsOne};
 
-    /// No threads, and room for so many.
+    /// Returns no threads, with room for `workers` of them. Fails only if an allocation fails.
     pub(crate) fn new(alloc: Global, workers: usize) -> Result<Crew, NoMemory>
-        ensures { IfOk result (λ crew. (vec_len crew.threads ≡ 0) × (workers ≤ vec_capacity crew.threads) × (workers ≤ vec_capacity crew.handed)) }
+        ensures { IfOk result (λ crew.
+            (vec_len crew.threads ≡ 0) × (workers ≤ vec_capacity crew.threads)
+            × (workers ≤ vec_capacity crew.handed)) }
     {
         let Ok(threads) = Vec::with_capacity(alloc, workers) else {
             return Err(NoMemory);
@@ -59,9 +61,9 @@ impl Crew {
         Ok(Crew { threads, handed })
     }
 
-    /// Starts a worker in a thread of its own. It has the receiver of its own inbox, and at each place a
-    /// sender of the inbox of the worker with that number. Where no thread can be made, what it would have
-    /// had is let go.
+    /// Starts a worker in a thread of its own. The kit has the receiver of the worker's own inbox
+    /// and a sender of each worker's inbox, in the order of the workers. If no thread can be made,
+    /// the kit is dropped.
     pub(crate) fn start<
         A: Access<Any> + Send + Sync + Drop + 'static,
         G: Gate + Send + Sync + Drop + 'static,
@@ -69,14 +71,20 @@ impl Crew {
     >(&mut self, kit: Kit<A, G, R>, inboxes: &Inboxes) -> Result<(), StartFault>
     where
         A::Seat: Send + 'static,
-        requires receiver { slice_get inboxes.now.value.items kit.worker.owner.number ≡ Some kit.receiver }
-        requires senders { kit.senders.items ≡ map (λ receiver. fresh_sender receiver.inbox kit.worker.owner.number) inboxes.now.value.items }
+        requires receiver { slice_get inboxes.now.value.items kit.worker.owner.number
+            ≡ Some kit.receiver }
+        requires senders { kit.senders.items
+            ≡ map (λ receiver. fresh_sender receiver.inbox kit.worker.owner.number)
+            inboxes.now.value.items }
         requires threads { vec_len self.old.threads < vec_capacity self.old.threads }
         requires handed { vec_len self.old.threads < vec_capacity self.old.handed }
-        ensures started { OnOk result (StartsOne inboxes.now.value.items kit.worker.owner.number self.old.threads.items self.new.threads.items) }
+        ensures started { OnOk result
+            (StartsOne inboxes.now.value.items kit.worker.owner.number self.old.threads.items
+            self.new.threads.items) }
         ensures refused { IfErr result (λ fault. fault ≡ StartFault.Thread) }
         ensures same { OnErr result (self.new.threads.items ≡ self.old.threads.items) }
-        ensures room { (vec_capacity self.new.threads ≡ vec_capacity self.old.threads) × (vec_capacity self.new.handed ≡ vec_capacity self.old.handed) }
+        ensures room { (vec_capacity self.new.threads ≡ vec_capacity self.old.threads)
+            × (vec_capacity self.new.handed ≡ vec_capacity self.old.handed) }
     {
         let rt = kit.rt;
         let work = Work {
@@ -89,15 +97,16 @@ impl Crew {
                 Ok(())
             }
             Err(refused) => {
-                // by one call: what is dropped without one is dropped part by part, down to the inbox's
+                // one `drop` call: an implicit drop would be proved field by field, down to the
+                // inbox's
                 drop(refused);
                 Err(StartFault::Thread)
             }
         }
     }
 
-    /// Waits for each thread to end, from the last one that was started to the first: what they hand over.
-    /// Takes no memory.
+    /// Waits for each thread to end, from the last that was started to the first, and returns what
+    /// they hand over. Does not allocate.
     pub(crate) fn join<R: Threads + Wait>(self, rt: &R) -> Vec<Handed<Any>>
         ensures { Joins self.threads.items result.items }
     {
@@ -110,7 +119,7 @@ impl Crew {
     }
 }
 
-/// What a worker's thread takes with it.
+/// The values that move into a worker's thread.
 #[derive(Drop)]
 pub(crate) struct Kit<A: Access<Any> + Drop, G: Drop, R: Drop> {
     pub(crate) rt: R,
@@ -123,9 +132,10 @@ pub(crate) struct Kit<A: Access<Any> + Drop, G: Drop, R: Drop> {
 }
 
 impl<A: Access<Any> + Drop, G: Gate + Drop, R: Wait + Clock + Drop> Kit<A, G, R> {
-    // Runs the worker to its end, and lets its passes go.
+    // Runs the worker to its end, and drops its passes.
     fn run(self) -> Handed<Any>
-        ensures { HandsFrom self.worker.owner.number self.worker.owner.workers self.receiver self.senders.items result }
+        ensures { HandsFrom self.worker.owner.number self.worker.owner.workers self.receiver
+            self.senders.items result }
     {
         let Kit {
             rt,
@@ -138,13 +148,13 @@ impl<A: Access<Any> + Drop, G: Gate + Drop, R: Wait + Clock + Drop> Kit<A, G, R>
         let (mut receiver, mut senders) = (receiver, senders);
         let handed = run_worker(&rt, worker, &mut receiver, &mut senders, &*gate, desk);
         drop(senders);
-        // by one call, as what a refused thread would have had is dropped
+        // one `drop` call, as for a kit without a thread
         drop(receiver);
         handed
     }
 }
 
-/// Where a worker files its reports: a seat of the access.
+/// The desk at which a worker files its reports: a seat of the access.
 #[derive(Drop)]
 pub(crate) struct SeatDesk<A: Access<Any> + Drop, R: Drop> {
     rt: R,
@@ -161,7 +171,7 @@ impl<A: Access<Any> + Drop, R: Drop> Model for SeatDesk<A, R> {
 }
 
 impl<A: Access<Any> + Drop, R: Drop> SeatDesk<A, R> {
-    /// The desk of this seat. Takes no memory.
+    /// Returns the desk of this seat. Does not allocate.
     pub(crate) fn new(rt: R, access: Arc<A>, seat: A::Seat) -> SeatDesk<A, R>
         requires { A.has_seat access.value seat }
         ensures { result ≡ access.value }

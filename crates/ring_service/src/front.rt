@@ -21,7 +21,8 @@ use std::marker::Model;
 use std::sync::atomic::{AtomicBool, Ordering};
 use std::sync::{Arc, Mutex, Wait};
 
-/// What the sessions of a service share: the access to its table, and its passes to the workers.
+/// The state that the sessions of a service share: the access to its table, and its passes to the
+/// workers.
 #[derive(Drop)]
 pub struct Front<A: Drop> {
     alloc: Global,
@@ -38,7 +39,7 @@ impl<A: Drop> Model for Front<A> {
 }
 
 impl<A: Access<Any> + Drop> Front<A> {
-    /// The front of this access, with these passes. Takes no memory.
+    /// Returns the front of this access, with these passes. Does not allocate.
     pub(crate) fn new(alloc: Global, access: Arc<A>, posts: Posts) -> Front<A>
         ensures { result ≡ access.value }
     {
@@ -50,7 +51,7 @@ impl<A: Access<Any> + Drop> Front<A> {
         }
     }
 
-    /// The access and the passes. Takes no memory.
+    /// Returns the access and the passes. Does not allocate.
     pub(crate) fn into_parts(self) -> (Arc<A>, Posts)
         ensures { result.0.value ≡ self }
     {
@@ -63,22 +64,24 @@ impl<A: Access<Any> + Drop> Front<A> {
         (access, posts.into_inner())
     }
 
-    /// One session: each line of the reader is answered by one line to the writer, by this seat.
+    /// Serves one session by this seat: the writer gets one line for each line of the reader.
     ///
-    /// A line that spells a client command is answered by the reply of the access, and any other line by
-    /// `no bad-line`, among them the lines of a schedule. The entries that the seat gains are the session's
-    /// commands with their replies, in the order of the lines, without those that were answered want of
-    /// memory or a spent seat. Before each read call exactly the replies to the lines that were read whole
-    /// are written. `Ok` is the number of lines, and comes at the end of the input alone. At `Read` and at
-    /// `Endless` the lines that an LF ends are answered; at `Write` a front of the replies was written; at
-    /// `NoMemory` nothing was read. Makes at most `reads` read calls. Waits for the access, and for the
-    /// reader and the writer.
+    /// The reply to a line that spells a client command is that of the access. The reply to any
+    /// other line is `no bad-line`, also to a line of a schedule. The seat gains the session's
+    /// commands with their replies, in the order of the lines. It gains no entry if an allocation
+    /// failed or the seat was spent. Before each read call, exactly the replies to all whole lines
+    /// that were read are written.
     ///
-    /// A start that begins a term is put to each worker. What a worker's inbox cannot store waits, and is
-    /// tried again before each later command of any session.
+    /// `Ok` has the number of lines, and is returned only at the end of the input. At `Read` and
+    /// `Endless`, every line that ends with an LF has its reply. At `Write`, a prefix of the
+    /// replies was written. At `NoMemory`, nothing was read. Makes at most `reads` read calls.
+    /// Waits for the access, the reader and the writer.
     ///
-    /// Before replies are written, all that they were given from is kept for good. However the session ends,
-    /// the seat that it leaves is settled, or it is as it was.
+    /// A start that begins a term is put to each worker. If a worker's inbox cannot store it, it
+    /// waits, and is tried again before each later command of any session.
+    ///
+    /// Before replies are written, all entries that they were given from are kept for good. However
+    /// the session ends, its seat is then settled or unchanged.
     pub fn serve<R: Wait, I: Intake, O: Outlet>(
         &self,
         rt: &R,
@@ -90,7 +93,8 @@ impl<A: Access<Any> + Drop> Front<A> {
     ) -> Result<u64, LineFault>
         requires { A.has_seat self.now seat.old }
         ensures seat { A.has_seat self.now seat.new }
-        ensures served { Serves I.read_gives O.write_gives A.mine session seat.old reader.old writer.old reads result seat.new reader.new writer.new }
+        ensures served { Serves I.read_gives O.write_gives A.mine session seat.old reader.old
+            writer.old reads result seat.new reader.new writer.new }
         ensures told { (seat.new ≡ seat.old) ⊎ A.is_settled seat.new }
     {
         let session = Session {
@@ -101,8 +105,9 @@ impl<A: Access<Any> + Drop> Front<A> {
         answer_lines(self.alloc, &session, seat, reader, writer, reads)
     }
 
-    /// The same session, where each reply is told with its place: before the reply stands the place of its
-    /// call, counted from `base`, and a space, or `-` and a space where the seat gained no entry by the line.
+    /// Serves a session as `serve` does, and writes the place of each reply before it. The place is
+    /// that of the call, counted from `base`, and a space follows it. If the seat gained no entry
+    /// by the line, `-` and a space are written instead.
     pub fn serve_placed<R: Wait, I: Intake, O: Outlet>(
         &self,
         rt: &R,
@@ -116,7 +121,8 @@ impl<A: Access<Any> + Drop> Front<A> {
         requires seat { A.has_seat self.now seat.old }
         requires base { base + A.most ≤ 2 ^ 64 }
         ensures seat { A.has_seat self.now seat.new }
-        ensures served { ServesPlaced I.read_gives O.write_gives A.mine base A.most session seat.old reader.old writer.old reads result seat.new reader.new writer.new }
+        ensures served { ServesPlaced I.read_gives O.write_gives A.mine base A.most session seat.old
+            reader.old writer.old reads result seat.new reader.new writer.new }
         ensures told { (seat.new ≡ seat.old) ⊎ A.is_settled seat.new }
     {
         let session = PlacedSession {
@@ -130,12 +136,12 @@ impl<A: Access<Any> + Drop> Front<A> {
         answer_lines(self.alloc, &session, seat, reader, writer, reads)
     }
 
-    /// Waits where the access's callers queue, if they do.
+    /// Waits for the head of the access's queue, if it has one.
     pub(crate) fn queue<R: Wait>(&self, rt: &R) -> Queued<'_> {
         self.access.queue(rt)
     }
 
-    /// Has the seat keep the access's table until it rests, where it can.
+    /// Lets the seat keep the table until `rest`, if the access can do so.
     pub(crate) fn keep(&self, seat: &mut A::Seat)
         requires { A.has_seat self.now seat.old }
         ensures { seat.new ≡ seat.old }
@@ -143,7 +149,7 @@ impl<A: Access<Any> + Drop> Front<A> {
         self.access.keep(seat);
     }
 
-    /// Has the seat keep the table no more.
+    /// Lets the seat keep the table no longer.
     pub(crate) fn rest(&self, seat: &mut A::Seat)
         requires { A.has_seat self.now seat.old }
         ensures { seat.new ≡ seat.old }
@@ -151,8 +157,8 @@ impl<A: Access<Any> + Drop> Front<A> {
         self.access.rest(seat);
     }
 
-    /// Has all that the seat's answers were given from kept for good. It may wait, and does not return if
-    /// that cannot be kept.
+    /// Has all entries kept for good from which the seat's answers were given. It may wait, and
+    /// does not return if they cannot be kept.
     #[inline(always)]
     pub(crate) fn settle<R: Wait>(&self, rt: &R, seat: &mut A::Seat)
         requires { A.has_seat self.now seat.old }
@@ -163,7 +169,8 @@ impl<A: Access<Any> + Drop> Front<A> {
         self.access.settle(rt, seat);
     }
 
-    /// The access's answer to a command of a session. What waits for the workers is tried first.
+    /// Returns the access's answer to a command of a session. The begins that wait for the workers
+    /// are tried first.
     #[inline(always)]
     pub(crate) fn answer<R: Wait>(
         &self,
@@ -187,8 +194,8 @@ impl<A: Access<Any> + Drop> Front<A> {
         }
     }
 
-    // A start, of which each worker is told. The room for that is found before the command, and no other
-    // session tells the workers anything until it is done.
+    // Starts a term, and puts its begins to the workers. The lock on the posts is held until they
+    // are put: no other session puts begins meanwhile.
     #[tactic(auto, using(crate::proofs::Replying::told_answers))]
     fn begin<R: Wait>(&self, rt: &R, seat: &mut A::Seat, session: u32, group: GroupName) -> Answer
         requires { A.has_seat self.now seat.old }
@@ -203,7 +210,7 @@ impl<A: Access<Any> + Drop> Front<A> {
         answer
     }
 
-    // The same start, by the passes that the lock guards. If it begins a term, a begin for each worker is
+    // Starts a term, by the passes that the lock guards. If it begins, a begin for each worker is
     // stored by the pass to that worker, or waits.
     fn begin_by<R: Wait>(
         &self,
@@ -218,7 +225,8 @@ impl<A: Access<Any> + Drop> Front<A> {
         ensures place { HasPlaceBelow A.most result }
         ensures begins { Begins any_winner any_two_way any_greatest session group
             (vec_len posts.old.passes) (A.mine seat.old) result (A.mine seat.new)
-            posts.old.waiting.items posts.new.waiting.items posts.old.passes.items posts.new.passes.items }
+            posts.old.waiting.items posts.new.waiting.items posts.old.passes.items
+            posts.new.passes.items }
     {
         posts.try_waiting(rt);
         let Ok(()) = posts.find_room() else {
@@ -230,8 +238,8 @@ impl<A: Access<Any> + Drop> Front<A> {
         answer
     }
 
-    /// Puts a begin for each of these terms to each worker, as a start of the term does. If an allocation
-    /// fails, none is put.
+    /// Puts a begin for each of these terms to each worker, as a start of the term does. If an
+    /// allocation fails, none is put.
     pub(crate) fn resume<R: Wait>(
         &self,
         rt: &R,
@@ -244,7 +252,7 @@ impl<A: Access<Any> + Drop> Front<A> {
         added
     }
 
-    // Tries the begins that wait, if any may.
+    // Tries the begins that wait, if there may be any.
     fn try_waiting<R: Wait>(&self, rt: &R) {
         if self.waits.load(Ordering::SeqCst) {
             let mut posts = self.posts.lock(rt);

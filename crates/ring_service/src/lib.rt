@@ -1,8 +1,8 @@
-//! The service: sessions that are answered from a table, and workers that run its elections.
+//! The service: sessions over a table, and workers that run its elections.
 //!
-//! A `Service` serves sessions over any access to a table, in as many threads as there are sessions, and
-//! tells its workers of each term that a session starts. These run in threads of their own, and file what
-//! their nodes come to know.
+//! A `Service` serves sessions over any access to a table, each in the thread that calls `serve`.
+//! When a session starts a term, the service puts a begin to each worker. The workers run in
+//! threads of their own, and file reports of what their nodes know.
 #![tactic(auto)]
 
 mod access;

@@ -14,16 +14,18 @@ pub(crate) struct Mesh {
     pub(crate) senders: Vec<Vec<SenderPass<Item<Any>>>>,
 }
 
-/// As many inboxes as workers, of this capacity, each with a sender for each worker and one for the
+/// Returns `workers` inboxes of this capacity. Each has a sender for each worker, and one for the
 /// service.
 pub(crate) fn open(alloc: Global, workers: usize, capacity: usize) -> Result<Mesh, NoMemory>
     requires capacity { 0 < capacity }
     requires workers { workers < 2 ^ 32 }
     ensures receivers { IfOk result (λ mesh. vec_len mesh.receivers ≡ workers) }
     ensures senders { IfOk result (λ mesh. vec_len mesh.senders ≡ workers) }
-    ensures left { IfOk result (λ mesh. SendersOf (workers + 1) mesh.receivers.items mesh.senders.items) }
+    ensures left { IfOk result (λ mesh.
+        SendersOf (workers + 1) mesh.receivers.items mesh.senders.items) }
     ensures fresh { IfOk result (λ mesh. All IsFresh mesh.receivers.items) }
-    ensures capacity { IfOk result (λ mesh. All (λ receiver. receiver.inbox.capacity ≡ capacity) mesh.receivers.items) }
+    ensures capacity { IfOk result (λ mesh.
+        All (λ receiver. receiver.inbox.capacity ≡ capacity) mesh.receivers.items) }
 {
     let Ok(mut receivers) = Vec::with_capacity(alloc, workers) else {
         return Err(NoMemory);

@@ -11,11 +11,11 @@ use ring_table::{Access, Answer};
 use std::alloc::Global;
 use std::sync::Wait;
 
-/// A session whose answers are told with their places.
+/// A session that writes the place of each answer.
 #[derive(Drop)]
 pub(crate) struct PlacedSession<'a, A: Drop, R> {
     pub(crate) session: Session<'a, A, R>,
-    // what is added to each place
+    // the number that is added to each place
     pub(crate) base: usize,
 }
 
@@ -31,11 +31,13 @@ impl<A: Access<Any> + Drop, R: Wait> Answerer for PlacedSession<'_, A, R> {
 
     type Answer = Answer;
 
-    ghost holds = { λ placed seat. A.has_seat placed.session.front.now seat × (placed.base + A.most ≤ 2 ^ 64) };
+    ghost holds = { λ placed seat.
+        A.has_seat placed.session.front.now seat × (placed.base + A.most ≤ 2 ^ 64) };
 
     ghost asks = { AsksCommand };
 
-    ghost answers = { λ placed line seat answer now. PlacesIn placed.base A.most placed.session.number line (A.mine seat) answer (A.mine now) };
+    ghost answers = { λ placed line seat answer now.
+        PlacesIn placed.base A.most placed.session.number line (A.mine seat) answer (A.mine now) };
 
     ghost settles = { λ _ seat now. A.mine now ≡ A.mine seat };
 
@@ -76,10 +78,11 @@ impl<A: Access<Any> + Drop, R: Wait> Answerer for PlacedSession<'_, A, R> {
         self.session.settle(state);
     }
 
-    ghost settles_behind = { λ placed. stays_settled A.mine (PlacesIn placed.base A.most placed.session.number) };
+    ghost settles_behind = { λ placed.
+        stays_settled A.mine (PlacesIn placed.base A.most placed.session.number) };
 }
 
-// An answer as it is told, its place counted from this base.
+// Returns the answer with its place counted from this base.
 fn told(answer: Answer, base: usize) -> Answer
     requires { (most : ℕ) × HasPlaceBelow most answer × (base + most ≤ 2 ^ 64) }
     ensures { result ≡ told_from base answer }

@@ -13,7 +13,7 @@ use std::collections::VecDeque;
 use std::sync::{Arc, Wait};
 use std::thread;
 
-/// A term whose begin the inbox of this worker has not stored.
+/// A begin that the inbox of this worker has not stored.
 #[derive(Drop)]
 pub struct Waiting {
     /// The worker's number.
@@ -22,7 +22,7 @@ pub struct Waiting {
     pub charter: Arc<Charter<Any>>,
 }
 
-/// The service's pass to the inbox of each worker, and the begins that wait for one.
+/// The service's pass to the inbox of each worker, and the begins that wait.
 #[derive(Drop)]
 pub(crate) struct Posts {
     passes: Vec<SenderPass<Item<Any>>>,
@@ -31,7 +31,7 @@ pub(crate) struct Posts {
 }
 
 impl Posts {
-    /// Nothing waits for these passes. Takes no memory.
+    /// Returns posts with these passes, for which no begin waits. Does not allocate.
     pub(crate) fn new(alloc: Global, passes: Vec<SenderPass<Item<Any>>>) -> Posts
         ensures waiting { result.waiting.items ≡ [] }
         ensures passes { result.passes ≡ passes }
@@ -42,25 +42,26 @@ impl Posts {
         }
     }
 
-    /// How many workers there are. Takes no memory.
+    /// Returns how many workers there are. Does not allocate.
     pub(crate) fn workers(&self) -> usize
         ensures { result ≡ vec_len self.now.passes }
     {
         self.passes.len()
     }
 
-    /// Whether nothing waits. Takes no memory.
+    /// Returns whether no begin waits. Does not allocate.
     pub(crate) fn is_idle(&self) -> bool
         ensures { IsTrue result ↔ (self.now.waiting.items ≡ []) }
     {
         self.waiting.is_empty()
     }
 
-    /// Finds room for one more begin for each worker.
+    /// Finds room for one more begin for each worker. Fails only if an allocation fails.
     pub(crate) fn find_room(&mut self) -> Result<(), NoMemory>
         ensures passes { self.new.passes ≡ self.old.passes }
         ensures waiting { self.new.waiting.items ≡ self.old.waiting.items }
-        ensures room { OnOk result (deque_len self.new.waiting + vec_len self.new.passes ≤ deque_capacity self.new.waiting) }
+        ensures room { OnOk result (deque_len self.new.waiting + vec_len self.new.passes
+            ≤ deque_capacity self.new.waiting) }
     {
         match self.waiting.reserve(self.passes.len()) {
             Ok(()) => Ok(()),
@@ -68,28 +69,32 @@ impl Posts {
         }
     }
 
-    /// Adds a begin for each worker, by one charter each, behind those that wait, or none where there are
-    /// no charters. Takes no memory.
+    /// Adds a begin for each worker after those that wait, each with one of the charters. Adds none
+    /// if there are no charters. Does not allocate.
     pub(crate) fn add(&mut self, charters: Vec<Arc<Charter<Any>>>)
-        requires room { deque_len self.old.waiting + vec_len self.old.passes ≤ deque_capacity self.old.waiting }
+        requires room { deque_len self.old.waiting + vec_len self.old.passes
+            ≤ deque_capacity self.old.waiting }
         requires charters { (charters.items ≡ []) ⊎ (vec_len charters ≡ vec_len self.old.passes) }
         ensures passes { self.new.passes ≡ self.old.passes }
-        ensures waiting { self.new.waiting.items ≡ self.old.waiting.items ++ begins_from 0 charters.items }
+        ensures waiting { self.new.waiting.items
+            ≡ self.old.waiting.items ++ begins_from 0 charters.items }
     {
         for (worker, charter) in charters.into_iter().enumerate() {
             self.waiting.push_back_reserved(Waiting { worker, charter });
         }
     }
 
-    /// Adds a begin of each of these terms for each worker, behind those that wait, in the order of the
-    /// terms. If an allocation fails, none is added.
+    /// Adds a begin of each of these terms for each worker, after those that wait, in the order of
+    /// the terms. If an allocation fails, none is added.
     pub(crate) fn add_terms(
         &mut self,
         alloc: Global,
         charters: &[Arc<Charter<Any>>],
     ) -> Result<(), NoMemory>
         ensures passes { self.new.passes ≡ self.old.passes }
-        ensures ok { OnOk result (AddsTerms (vec_len self.old.passes) charters.now self.old.waiting.items self.new.waiting.items) }
+        ensures ok { OnOk result
+            (AddsTerms (vec_len self.old.passes) charters.now self.old.waiting.items
+            self.new.waiting.items) }
         ensures err { OnErr result (self.new.waiting.items ≡ self.old.waiting.items) }
     {
         let Ok(mut begins) = begins_of(alloc, charters, self.passes.len()) else {
@@ -101,10 +106,11 @@ impl Posts {
         Ok(())
     }
 
-    /// Tries each begin that waits once, in order. What is not stored goes on waiting, in order. Takes no
-    /// memory.
+    /// Tries each begin that waits once, in order. A begin that is not stored waits on, in order.
+    /// Does not allocate.
     pub(crate) fn try_waiting<R: Wait>(&mut self, rt: &R)
-        ensures { Tries self.old.waiting.items self.new.waiting.items self.old.passes.items self.new.passes.items }
+        ensures { Tries self.old.waiting.items self.new.waiting.items self.old.passes.items
+            self.new.passes.items }
     {
         for _ in 0..self.waiting.len() {
             let Some(Waiting { worker, charter }) = self.waiting.pop_front() else {
@@ -116,8 +122,8 @@ impl Posts {
         }
     }
 
-    /// Puts the word to stop into each inbox, again and again while it is full, and gives what still
-    /// waits. Takes no memory.
+    /// Puts a stop into each inbox, again and again while the inbox is full. Returns the begins
+    /// that still wait. Does not allocate.
     pub(crate) fn stop<R: Wait>(self, rt: &R) -> VecDeque<Waiting>
         ensures { result.items ≡ self.waiting.items }
     {
@@ -136,7 +142,8 @@ fn begins_of(
     charters: &[Arc<Charter<Any>>],
     workers: usize,
 ) -> Result<VecDeque<Waiting>, NoMemory>
-    ensures said { IfOk result (λ begins. map says begins.items ≡ flat_map (term_begins workers) charters.now) }
+    ensures said { IfOk result (λ begins.
+        map says begins.items ≡ flat_map (term_begins workers) charters.now) }
     ensures known { IfOk result (λ begins. All (λ begin. begin.worker < workers) begins.items) }
 {
     let mut begins = VecDeque::new(alloc);
@@ -157,7 +164,7 @@ fn begins_of(
     Ok(begins)
 }
 
-// Puts a begin into an inbox, or gives it back where the inbox does not store it.
+// Puts a begin into an inbox. If the inbox does not store it, the charter is returned.
 fn put_begin<R: Wait>(
     rt: &R,
     pass: &mut SenderPass<Item<Any>>,
@@ -172,7 +179,7 @@ fn put_begin<R: Wait>(
     }
 }
 
-// Puts the word to stop into an inbox, again and again while it is full.
+// Puts a stop into an inbox, again and again while the inbox is full.
 fn stop_one<R: Wait>(rt: &R, pass: &mut SenderPass<Item<Any>>) {
     for _ in rt.forever() {
         let put = pass.put(rt, Item::Stop);

@@ -24,24 +24,24 @@ use std::time::Clock;
 /// Why a service could not be started.
 #[derive(Clone, Copy, Debug, PartialEq, Eq)]
 pub enum StartFault {
-    /// Memory was refused.
+    /// An allocation failed.
     NoMemory,
     /// A thread could not be made.
     Thread,
 }
 
-/// What a service leaves when it is closed.
+/// The parts of a service that was closed.
 #[derive(Drop)]
 pub struct Closing<A: Drop> {
     /// The access to its table.
     pub access: Arc<A>,
-    /// What each worker handed over, in the order of their numbers.
+    /// The result of each worker, in the order of their numbers.
     pub handed: Vec<Handed<Any>>,
-    /// The begins that no inbox ever stored, in order.
+    /// The begins that no inbox stored, in order.
     pub waiting: VecDeque<Waiting>,
 }
 
-/// Sessions over a table that they share, and the workers that run the terms which they start.
+/// Sessions over a table that they share, and the workers that run the terms of their starts.
 #[derive(Drop)]
 pub struct Service<A: Access<Any> + Drop> {
     front: Front<A>,
@@ -62,10 +62,11 @@ impl<A: Access<Any> + Send + Sync + Drop + 'static> Service<A>
 where
     A::Seat: Send + 'static,
 {
-    /// A service over a table, with so many workers, whose inboxes have this capacity. Each worker files
-    /// its reports by a seat of its own. Refused for want of memory, or where a thread could not be made:
-    /// then the workers that were started are stopped first, for which it may wait, and the seats are let
-    /// go.
+    /// Returns a service over a table, with `workers` workers whose inboxes hold `inbox` items.
+    /// Each worker files its reports by a seat of its own.
+    ///
+    /// Fails if an allocation fails or a thread cannot be made. Then the workers that were started
+    /// are stopped first, for which it may wait, and the seats are dropped.
     pub fn new<R: Threads + Wait + Clock + Copy + Send + Drop + 'static>(
         rt: &R,
         alloc: Global,
@@ -76,7 +77,8 @@ where
     ) -> Result<Service<A>, StartFault>
         requires workers { (1 ≤ workers) × (workers ≤ 8) }
         requires inbox { (1 ≤ inbox) × (inbox ≤ 65536) }
-        requires seats { (length seats.items ≡ workers) × All (A.has_seat access.value) seats.items }
+        requires seats { (length seats.items ≡ workers)
+            × All (A.has_seat access.value) seats.items }
         ensures { IfOk result (λ service. service ≡ access.value) }
     {
         let Ok(gate) = Arc::new(alloc, OpenGate) else {
@@ -85,7 +87,7 @@ where
         Service::gated(rt, alloc, access, seats, workers, inbox, gate)
     }
 
-    /// The same, where this gate looks at each item of each worker.
+    /// Returns a service as `new` does. The gate looks at each item of each worker.
     pub fn gated<
         G: Gate + Send + Sync + Drop + 'static,
         R: Threads + Wait + Clock + Copy + Send + Drop + 'static,
@@ -100,7 +102,8 @@ where
     ) -> Result<Service<A>, StartFault>
         requires workers { (1 ≤ workers) × (workers ≤ 8) }
         requires inbox { (1 ≤ inbox) × (inbox ≤ 65536) }
-        requires seats { (length seats.items ≡ workers) × All (A.has_seat access.value) seats.items }
+        requires seats { (length seats.items ≡ workers)
+            × All (A.has_seat access.value) seats.items }
         ensures { IfOk result (λ service. service ≡ access.value) }
     {
         let Ready {
@@ -123,17 +126,20 @@ where
         }
     }
 
-    /// What sessions in other threads share. Takes no memory.
+    /// Returns the front, which sessions in other threads share. Does not allocate.
     pub fn front(&self) -> &Front<A>
         ensures { result.now ≡ self.now }
     {
         &self.front
     }
 
-    /// Has the workers run these terms, which were running when an earlier process ended. A begin of each
-    /// term is put to each worker, as a start of the term does, in the order of the terms. What a worker's
-    /// inbox cannot store waits, and is tried again before each later command of any session. Fails only if
-    /// an allocation fails; then no begin is put. That the begins come to the workers is tested, not proved.
+    /// Has the workers run these terms, which were running when an earlier process ended. A begin
+    /// of each term is put to each worker, as a start of the term does, in the order of the terms.
+    /// If a worker's inbox cannot store a begin, it waits, and is tried again before each later
+    /// command of any session.
+    ///
+    /// Fails only if an allocation fails; then no begin is put. That the begins come to the workers
+    /// is tested, not proved.
     pub fn resume<R: Wait>(
         &self,
         rt: &R,
@@ -144,8 +150,8 @@ where
         resumed
     }
 
-    /// Ends the service. The begins that wait are tried once, each worker is told to stop, and what they
-    /// hand over is gathered. Takes no memory. Waits for the workers.
+    /// Ends the service: tries the begins that wait once, stops each worker, and returns what the
+    /// workers hand over. Does not allocate. Waits for the workers.
     pub fn close<R: Threads + Wait>(self, rt: &R) -> Closing<A>
         ensures access { result.access.value ≡ self }
         ensures handed { AllHand result.handed.items }
@@ -155,7 +161,7 @@ where
     }
 }
 
-// Ends what these workers do for this front, as a service that is closed.
+// Ends the workers of this front, as `close` does.
 fn end<A: Access<Any> + Drop, R: Threads + Wait>(rt: &R, front: Front<A>, crew: Crew) -> Closing<A>
     ensures access { result.access.value ≡ front }
     ensures handed { Joins crew.threads.items result.handed.items }
@@ -171,8 +177,8 @@ fn end<A: Access<Any> + Drop, R: Threads + Wait>(rt: &R, front: Front<A>, crew: 
     }
 }
 
-// What a service has before its workers are started: room for their threads, the inboxes, and its passes to
-// these.
+// The parts of a service before its workers start: room for their threads, the inboxes, and the
+// passes to them.
 #[derive(Drop)]
 struct Ready {
     crew: Crew,
@@ -180,15 +186,21 @@ struct Ready {
     posts: Posts,
 }
 
-// What a service of so many workers begins with, whose inboxes have this capacity.
+// Returns the parts of a service of `workers` workers, whose inboxes hold `inbox` items.
 fn prepare(alloc: Global, workers: usize, inbox: usize) -> Result<Ready, StartFault>
     requires workers { workers ≤ 8 }
     requires inbox { 1 ≤ inbox }
-    ensures threads { IfOk result (λ made. (vec_len made.crew.threads ≡ 0) × (workers ≤ vec_capacity made.crew.threads) × (workers ≤ vec_capacity made.crew.handed)) }
-    ensures inboxes { IfOk result (λ made. (vec_len made.mesh.receivers ≡ workers) × (vec_len made.mesh.senders ≡ workers)) }
-    ensures senders { IfOk result (λ made. SendersOf workers made.mesh.receivers.items made.mesh.senders.items) }
+    ensures threads { IfOk result (λ made.
+        (vec_len made.crew.threads ≡ 0) × (workers ≤ vec_capacity made.crew.threads)
+        × (workers ≤ vec_capacity made.crew.handed)) }
+    ensures inboxes { IfOk result (λ made.
+        (vec_len made.mesh.receivers ≡ workers) × (vec_len made.mesh.senders ≡ workers)) }
+    ensures senders { IfOk result (λ made.
+        SendersOf workers made.mesh.receivers.items made.mesh.senders.items) }
     ensures fresh { IfOk result (λ made. All IsFresh made.mesh.receivers.items) }
-    ensures posts { IfOk result (λ made. made.posts.passes.items ≡ map (λ receiver. fresh_sender receiver.inbox workers) made.mesh.receivers.items) }
+    ensures posts { IfOk result (λ made.
+        made.posts.passes.items ≡ map (λ receiver. fresh_sender receiver.inbox workers)
+        made.mesh.receivers.items) }
 {
     let Ok(crew) = Crew::new(alloc, workers) else {
         return Err(StartFault::NoMemory);
@@ -221,7 +233,8 @@ where
     A::Seat: Send + 'static,
     requires receivers { vec_len mesh.old.receivers ≡ vec_len seats.old }
     requires inboxes { vec_len mesh.old.senders ≡ vec_len seats.old }
-    requires senders { SendersOf (vec_len seats.old) mesh.old.receivers.items mesh.old.senders.items }
+    requires senders { SendersOf (vec_len seats.old) mesh.old.receivers.items
+        mesh.old.senders.items }
     requires seats { All (A.has_seat access.now.value) seats.old.items }
     requires none { vec_len crew.old.threads ≡ 0 }
     requires threads { vec_len seats.old ≤ vec_capacity crew.old.threads }

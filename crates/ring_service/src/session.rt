@@ -9,7 +9,7 @@ use ring_table::Access;
 use std::alloc::Global;
 use std::sync::Wait;
 
-/// A session, as what answers its lines: by the front, under its number. What changes is its seat.
+/// A session, which answers lines by the front under its number. Its state is its seat.
 #[derive(Drop)]
 pub(crate) struct Session<'a, A: Drop, R> {
     pub(crate) front: &'a Front<A>,
@@ -18,7 +18,7 @@ pub(crate) struct Session<'a, A: Drop, R> {
 }
 
 impl<'b, A: Access<Any> + Drop, R: Wait> Session<'b, A, R> {
-    /// Queues for the access, where it isn't done yet, and has the seat keep its table.
+    /// Waits for the access, if the session does not have it yet, and has the seat keep its table.
     pub(crate) fn queue<'a>(&'a self, seat: &mut A::Seat, queued: &mut Queued<'a>)
         requires { A.has_seat self.now.front.now seat.old }
         ensures { seat.new ≡ seat.old }
@@ -46,7 +46,8 @@ impl<A: Access<Any> + Drop, R: Wait> Answerer for Session<'_, A, R> {
 
     ghost asks = { AsksCommand };
 
-    ghost answers = { λ session line seat reply now. AnswersIn session.number line (A.mine seat) reply (A.mine now) };
+    ghost answers = { λ session line seat reply now.
+        AnswersIn session.number line (A.mine seat) reply (A.mine now) };
 
     ghost settles = { λ _ seat now. A.mine now ≡ A.mine seat };
 

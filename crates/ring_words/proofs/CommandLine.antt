@@ -17,10 +17,11 @@ use Rattle.clap.specs.declared.parser.matches.ArgMatches.{ArgMatches}
 use Rattle.clap.specs.declared.parser.matches.SubCommand.{SubCommand}
 use Rattle.clap.specs.declared.parser.matches.ArgMatches.TheViews.{out-ArgMatches, out-SubCommand}
 use Rattle.clap.proofs.OnLiterals.{clap_on_literals}
-use Rattle.ring_words.specs.Words.{HasCause, IsFaultOf, IsGiven, Names, ringd_app}
+use Rattle.command_line.specs.Words.{IsFaultOf}
+use Rattle.ring_words.specs.Words.{HasCause, IsGiven, Names, ringd_app}
 use Rattle.ring_words.specs.declared.words.Order.{Order}
-use Rattle.ring_words.specs.declared.words.WordsFault.{WordsFault}
-use Rattle.ring_words.specs.declared.words.WordsFault.TheVariants.{NoMemory, Usage}
+use Rattle.command_line.specs.declared.words.WordsFault.{WordsFault}
+use Rattle.command_line.specs.declared.words.WordsFault.TheVariants.{NoMemory, Usage}
 use Rattle.ring_words.proofs.Subcommands.{AvoidsHelp, second_has_none, first_has_none, walk_avoids_help}
 
 -- the command as a parse reads it

@@ -20,7 +20,7 @@ use Rattle.ring_words.specs.private.Words.{HasFile, HasNumber, IsJournalOf, IsRu
 use Rattle.ring_words.specs.Words.{IsGiven, Names, config_rule}
 use Rattle.ring_words.specs.declared.words.Order.{Order}
 use Rattle.ring_words.specs.declared.words.Order.TheVariants.{Journal, Replay, Run, Serve}
-use Rattle.ring_words.specs.declared.words.WordsFault.{WordsFault}
+use Rattle.command_line.specs.declared.words.WordsFault.{WordsFault}
 use Rattle.ring_words.proofs.CommandLine.{IsLevel, journal_below, names_one, run_below, serve_below}
 use Rattle.ring_words.proofs.Levels.{Each, EachKeeps, Keeps}
 use Rattle.ring_words.proofs.Rows.{IsRead, KeepDefaults, flag_keeps, level_checks, level_reads, no_default, other_default, other_use, own_use, row_given, row_reads, set_keeps}

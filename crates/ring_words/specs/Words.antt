@@ -1,17 +1,15 @@
 -- The words that the program takes, and the order that they give.
 -- ---- the command line
-use Rattle.std.specs.Prelude.{◌≡◌, ◌≢◌, ◌≤◌, [], ⊤, Bool, ℕ, codes, option_map, pos, List, MatchOption, Option, None, Some, string_bytes, true, false}
+use Rattle.std.specs.Prelude.{◌≡◌, ◌≤◌, [], ⊤, Bool, ℕ, codes, option_map, pos, List, MatchOption, Option, None, Some, string_bytes, true, false}
 use Rattle.std.specs.Str.Parse.{digits_value, without_leading_plus}
 use Rattle.clap.specs.Words.{App, IsAmong, Row, Rule, Text, fault_of, first_of, kind_of, new_app, new_rule, one_of, subcommand_of, with_rule, with_subcommand}
 use Rattle.clap.specs.Simple.{new_shape, on_top}
 use Rattle.clap.specs.declared.builder.action.ArgAction.TheVariants.{SetTrue}
 use Rattle.clap.specs.declared.builder.value_parser.ValueParser.TheVariants as parser
-use Rattle.clap.specs.declared.error.Error.{Error}
-use Rattle.clap.specs.declared.error.kind.ErrorKind.TheVariants.{OutOfMemory}
 use Rattle.ring_words.specs.declared.words.Order.{Order}
 use Rattle.ring_words.specs.declared.words.Order.TheVariants.{Journal, Replay, Run, Serve}
-use Rattle.ring_words.specs.declared.words.WordsFault.{WordsFault}
-use Rattle.ring_words.specs.declared.words.WordsFault.TheVariants.{Usage, NoMemory}
+use Rattle.command_line.specs.declared.words.WordsFault.{WordsFault}
+use Rattle.command_line.specs.declared.words.WordsFault.TheVariants.{Usage, NoMemory}
 
 -- the name of a configuration's file, which must be given
 abbrev pub config_rule : Rule
@@ -147,8 +145,3 @@ IsGiven words (Journal path) =
 abbrev pub HasCause : List Text → WordsFault → Type 0
 HasCause words (Usage error) = IsAmong (kind_of error) (fault_of ringd_app words)
 HasCause words NoMemory = ⊤
-
--- the fault of an error: the error itself, unless it says that an allocation failed
-abbrev pub IsFaultOf : Error → WordsFault → Type 0
-IsFaultOf error (Usage given) = (given ≡ error) × (kind_of error ≢ OutOfMemory)
-IsFaultOf error NoMemory = kind_of error ≡ OutOfMemory

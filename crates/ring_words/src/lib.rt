@@ -7,4 +7,4 @@
 
 mod words;
 
-pub use words::{Order, WordsFault, asks_version, not_text, read_words};
+pub use words::{Order, asks_version, not_text, read_words};

@@ -2,13 +2,13 @@
 ghost use Rattle.std.specs.Prelude.{◌≡◌, ◌↔◌, ◌∷◌, [], ℕ, List, IfErr, IfOk, IsOkUnless, IsTrue, Some, codes, false, map, option_map, string_bytes, true};
 ghost use Rattle.clap.specs.Words.{App, Rule, app_of, found_of, kind_of, new_rule, rows_of, rule_of, takes, with_rule, with_subcommand, Text};
 ghost use Rattle.clap.specs.declared.error.kind.ErrorKind.TheVariants.{DisplayVersion, ValueValidation};
-ghost use Rattle.ring_words.specs.Words.{HasCause, IsFaultOf, IsGiven, campaign_rule, config_rule, connections_rule, file_rule, idle_rule, journal_app, kept_rule, places_rule, ringd_app, run_app, serve_app, sessions_rule};
+ghost use Rattle.ring_words.specs.Words.{HasCause, IsGiven, campaign_rule, config_rule, connections_rule, file_rule, idle_rule, journal_app, kept_rule, places_rule, ringd_app, run_app, serve_app, sessions_rule};
 ghost use Rattle.ring_words.specs.private.Words.{HasFile, IsJournalOf, IsLocal, IsRun, IsRunOf, IsServeOf, IsServed};
 
 use clap::error::ErrorKind;
 use clap::{Arg, ArgAction, ArgMatches, Command};
+use command_line::WordsFault;
 use std::alloc::{AllocError, Global};
-use thiserror::Error;
 
 // The version that `--version` prints.
 const VERSION: &str = "1.0.0";
@@ -58,39 +58,6 @@ pub enum Order {
     Journal {
         path: String,
     },
-}
-
-/// Why the words give no order.
-#[derive(Debug, Drop, Error)]
-pub enum WordsFault {
-    /// The command line was refused, or asks for help or for the version. The text is clap's.
-    #[error(transparent)]
-    Usage(clap::Error),
-    /// An allocation failed.
-    #[error("no memory")]
-    NoMemory,
-}
-
-impl From<clap::Error> for WordsFault {
-    ghost from_gives = { IsFaultOf };
-
-    fn from(error: clap::Error) -> WordsFault {
-        if error.kind() == ErrorKind::OutOfMemory {
-            WordsFault::NoMemory
-        } else {
-            WordsFault::Usage(error)
-        }
-    }
-}
-
-impl From<AllocError> for WordsFault {
-    ghost use Rattle.ring_words.specs.declared.words.WordsFault.TheVariants.{NoMemory};
-
-    ghost from_gives = { λ _ fault. fault ≡ NoMemory };
-
-    fn from(_error: AllocError) -> WordsFault {
-        WordsFault::NoMemory
-    }
 }
 
 // The program's command line. A subcommand must be given.

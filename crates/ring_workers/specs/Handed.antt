@@ -37,7 +37,7 @@ Ended Closed from to held = held ≡ None
 Ended why from to held = EndedAtLast why from to held
 
 -- A worker of this number, among `workers`, hands over its own nodes, no two alike. The record says
--- what it has done from the first item to the last, and why it ended.
+-- how it ran from the first item to the last, and why it ended.
 pub record Hands {E M S : Type 0} (t : E → Table S M) (number workers : ℕ) (from to : ReceiverLog (Item E M S)) (old new : List (SenderLog (Item E M S))) (handed : Handed E M S) : Type 0 where
   pub number_is : handed.number ≡ number
   pub workers_is : handed.workers ≡ workers

@@ -38,7 +38,7 @@ one_marked t world old new i side inside marked others = record {
   beyond = λ place past. let below = place_below (size_of world) i side inside in others place (omega arith);
 }
 
--- what stands on a link from a node is among what it has sent there
+-- the packets on a link from a node are among those that it has sent there
 flight_within : {E S M : Type 0} (t : E → Table S M) (world : Running E M) (i : ℕ) (to : Side) → i < size_of world
     → length (on_link t world (neighbour (size_of world) i to) (other to)) ≤ length (sent_of t (node_at world i) to)
 flight_within t world i Left inside = rw (neighbour-neighbour (size_of world) i Left inside)

@@ -4,29 +4,29 @@ use std::alloc::{AllocError, AllocFailed};
 use std::io;
 use thiserror::Error;
 
-/// A fault that ends the program with status 1. The program prints its text on standard error.
+/// A fault that ends the program with status 1. Its text is the line on standard error.
 #[derive(Debug, Drop, Error)]
 pub enum Fault {
     /// The schedule could not be read, or is not UTF-8.
-    #[error("cannot read the schedule")]
+    #[error("ringchart: cannot read the schedule")]
     Unreadable,
     /// A line is not a line of a schedule.
-    #[error("line {0} is not a valid line")]
+    #[error("ringchart: line {0} is not a valid line")]
     BadLine(u64),
     /// A line got this reply, and asks for another one.
-    #[error("line {0} got another reply: {1}")]
+    #[error("ringchart: line {0} got another reply: {1}")]
     Otherwise(u64, String),
     /// There is no term to draw.
-    #[error("the schedule starts no term")]
+    #[error("ringchart: the schedule starts no term")]
     NoTerm,
     /// The deliveries that would be drawn are not those that were made.
-    #[error("cannot draw what line {0} did; this is a mistake in ringchart")]
+    #[error("ringchart: cannot draw what line {0} did; this is a mistake in ringchart")]
     Lost(u64),
     /// A picture could not be written.
-    #[error("cannot write the picture")]
+    #[error("ringchart: cannot write the picture")]
     Write,
     /// An allocation failed.
-    #[error("no memory")]
+    #[error("ringchart: no memory")]
     NoMemory,
 }
 

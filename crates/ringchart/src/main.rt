@@ -5,13 +5,10 @@
 //! knew the leader, and the packets that were in flight at the end.
 //!
 //! Its exit status is 0 if all was drawn. It is 1, with one line on standard error, if a line is
-//! not valid, a reply is another than its line asks for, the schedule starts no term, or reading,
-//! writing or an allocation failed. It is 2 if the command line is refused or asks for help, with
-//! clap's text on standard error.
+//! not valid or gets another reply than it asks for. It is also 1 if the schedule starts no term,
+//! or if reading, writing or an allocation failed. It is 2 if the command line is refused or asks
+//! for help, with clap's text on standard error.
 #![tactic(auto)]
-
-ghost use Rattle.std.specs.Prelude.{◌≡◌, MatchResult};
-ghost use Rattle.std.specs.Process.{exit_status};
 
 mod fault;
 mod frame;
@@ -26,24 +23,12 @@ mod tale;
 mod text;
 mod words;
 
+use command_line::{WordsFault, ended, given_words, refused};
 use fault::Fault;
-use std::io::ErrorKind;
 use std::process::ExitCode;
-use std::rt::{Env, Files};
+use std::rt::Files;
 use tale::Tale;
-use words::{Order, WordsFault, not_text, read_words};
-
-// Returns the order that the words of the command line give. The first word is the program's name.
-fn order_given(rt: &(impl Env + AllocGlobal)) -> Result<Order, WordsFault> {
-    match std::env::args(rt) {
-        Ok(words) => {
-            let words: Vec<String> = words.collect(rt.alloc())?;
-            read_words(rt.alloc(), words.as_slice())
-        }
-        Err(error) if error.kind() == ErrorKind::OutOfMemory => Err(WordsFault::NoMemory),
-        Err(_) => Err(WordsFault::Usage(not_text(rt.alloc())?)),
-    }
-}
+use words::{Order, not_text, read_words};
 
 // Runs the schedule, and draws its terms.
 fn obey(rt: &(impl Input + Files + Print + AllocGlobal), order: &Order) -> Result<(), Fault> {
@@ -65,31 +50,12 @@ fn draw(
     }
 }
 
-// Returns status 0, or prints the fault and returns status 1.
-fn ended(rt: &impl Eprint, done: Result<(), Fault>) -> ExitCode
-    ensures { MatchResult done (λ _. exit_status result ≡ 0) (λ _. exit_status result ≡ 1) }
-{
-    match done {
-        Ok(()) => ExitCode::SUCCESS,
-        Err(fault) => {
-            let _ = eprintln!(rt; "ringchart: {fault}");
-            ExitCode::FAILURE
-        }
-    }
-}
-
-// Prints why the command line was refused, and returns status 2.
-fn refused(rt: &impl Eprint, error: &clap::Error) -> ExitCode
-    ensures { exit_status result ≡ 2 }
-{
-    let _ = eprint!(rt; "{error}");
-    ExitCode::from(2)
-}
-
 fn main(rt: HostRuntime) -> ExitCode {
-    match order_given(&rt) {
-        Ok(order) => ended(&rt, obey(&rt, &order)),
-        Err(WordsFault::NoMemory) => ended(&rt, Err(Fault::NoMemory)),
-        Err(WordsFault::Usage(error)) => refused(&rt, &error),
-    }
+    let order = given_words(&rt, not_text).and_then(|words| read_words(rt.alloc(), &words));
+    let done = match order {
+        Ok(order) => obey(&rt, &order),
+        Err(WordsFault::NoMemory) => Err(Fault::NoMemory),
+        Err(WordsFault::Usage(error)) => return refused(&rt, &error),
+    };
+    ended(&rt, done)
 }

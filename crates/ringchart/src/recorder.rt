@@ -133,8 +133,8 @@ impl Recorder {
         Ok(self.mark(position)?)
     }
 
-    // Returns the arrow of the packet on the link to a position from a side that has `before`
-    // packets before it, or `None` if there is none.
+    // Returns the arrow of a packet on the link to a position from a side: the packet after
+    // `before` others. `None` if there is no such packet.
     fn front(
         &self,
         alloc: Global,

@@ -1,8 +1,8 @@
 //! Runs a schedule.
 //!
-//! A mux answers the lines. Each term also has a world of its own, in which the same deliveries are
-//! made one at a time, since a picture shows each of them. The same proved code runs both. After
-//! each line, the numbers of packets in flight in both are compared.
+//! A mux answers the lines. Each term also has a world of its own, in which each delivery is made
+//! by itself, since a picture shows each. The same proved code runs both. After each line, the
+//! numbers of packets in flight in both are compared.
 use crate::fault::Fault;
 use crate::lines::Line;
 use crate::recorder::Recorder;

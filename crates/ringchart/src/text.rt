@@ -101,8 +101,8 @@ impl Drawing {
         self.note(tale, step, now);
     }
 
-    // Adds the notes of a delivery: the delivery at which its packet was sent, unless it is the one
-    // before, and the member that knew the leader at it.
+    // Adds the notes of a delivery. The first is the delivery at which its packet was sent, unless
+    // that is the one before. The second is the member that knew the leader at it.
     fn note(&mut self, tale: &Tale, step: &Step, now: u64) {
         let waited = step.arrow.sent.saturating_add(1) < now;
         if waited {

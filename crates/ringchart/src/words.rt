@@ -1,6 +1,7 @@
-//! The words of the command line, and what they ask for.
+//! The words of the command line, and the order that they give.
 use clap::error::ErrorKind;
 use clap::{Arg, ArgAction, ArgMatches, Command};
+use command_line::WordsFault;
 use std::alloc::{AllocError, Global};
 
 // The end of the help.
@@ -19,7 +20,7 @@ ringchart prints one SVG with a picture of each term, in the order in which the 
 With --into it writes each picture to a file DIR/GROUP-TERM.svg, and prints the names of the
 files. With --text it draws with characters.";
 
-/// What the words ask the program to do.
+/// The order that the words give.
 #[derive(Drop)]
 pub struct Order {
     /// The file of the schedule; if there is none, standard input.
@@ -28,31 +29,6 @@ pub struct Order {
     pub folder: Option<String>,
     /// Whether to draw with characters.
     pub text: bool,
-}
-
-/// Why the words give no order.
-#[derive(Drop)]
-pub enum WordsFault {
-    /// The command line was refused, or asks for help. The text is clap's.
-    Usage(clap::Error),
-    /// An allocation failed.
-    NoMemory,
-}
-
-impl From<clap::Error> for WordsFault {
-    fn from(error: clap::Error) -> WordsFault {
-        if error.kind() == ErrorKind::OutOfMemory {
-            WordsFault::NoMemory
-        } else {
-            WordsFault::Usage(error)
-        }
-    }
-}
-
-impl From<AllocError> for WordsFault {
-    fn from(_error: AllocError) -> WordsFault {
-        WordsFault::NoMemory
-    }
 }
 
 // The program's command line.

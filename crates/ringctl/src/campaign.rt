@@ -29,8 +29,8 @@ where
     hold(rt, client, line)
 }
 
-// Sends the join, and takes what comes. A member that has not joined yet sends no signs of life:
-// a service that refuses it does not have to read them.
+// Sends the join, and takes the replies. A member that has not joined yet sends no signs of life: a
+// service that refuses it does not have to read them.
 fn hold<R, S>(rt: &R, client: &mut Client<S>, line: &str) -> Result<(), Fault>
 where
     R: Print + AllocGlobal,
@@ -95,8 +95,8 @@ pub fn is_joined(reply: &Reply<'_>) -> bool
     }
 }
 
-/// Returns whether this reply says what a member knows of the leader: the leader, that there is
-/// none yet, that the member is not in the term's ring, or that the group had no term yet.
+/// Returns whether this reply says what a member knows of the leader. The leader may be known or
+/// not yet. The member may be missing in the term's ring, and the group may have had no term.
 pub fn is_of_term(reply: &Reply<'_>) -> bool
     ensures { IsTrue result ↔ IsOfTerm reply.now }
 {

@@ -1,4 +1,4 @@
-//! Why the program ends without doing what the words ask for.
+//! Why the program ends before its work is done.
 ghost use Rattle.std.specs.Prelude.{◌≡◌};
 ghost use Rattle.ringctl.specs.Faults.{status_of};
 

@@ -5,15 +5,11 @@
 //! group starts, and when its leader becomes known. `ringctl campaign G N` keeps a member in its
 //! group for as long as it runs, and prints what the member knows.
 //!
-//! Its exit status is 0 if all was done. It is 1 if the command was refused, with the word of the
-//! refusal on standard error, or if its own input, output or memory failed. It is 2 if the command
-//! line is refused or asks for help, with clap's text on standard error. It is 3 if no service
-//! answers.
+//! Its exit status is 0 if all was done. It is 1 if the command was refused, and standard error has
+//! the word of the refusal. It is also 1 if its own input, output or memory failed. It is 2 if the
+//! command line is refused or asks for help, with clap's text on standard error. It is 3 if no
+//! service answers.
 #![tactic(auto)]
-
-ghost use Rattle.std.specs.Prelude.{◌≡◌, MatchResult};
-ghost use Rattle.std.specs.Process.{exit_status};
-ghost use Rattle.ringctl.specs.Faults.{status_of};
 
 mod campaign;
 mod client;
@@ -25,27 +21,15 @@ mod watch;
 mod words;
 
 use client::Client;
+use command_line::{WordsFault, ended_with, given_words, refused};
 use fault::Fault;
-use std::io::{ErrorKind, IsTerminal};
+use std::io::IsTerminal;
 use std::net::{Net, TcpStream};
 use std::process::ExitCode;
-use std::rt::Env;
 use std::time::Clock;
-use words::{Asked, Order, WordsFault, not_text, read_words};
+use words::{Asked, Order, not_text, read_words};
 
-// Returns what the words of the command line ask for. The first word is the program's name.
-fn asked_by(rt: &(impl Env + AllocGlobal)) -> Result<Asked, WordsFault> {
-    match std::env::args(rt) {
-        Ok(words) => {
-            let words: Vec<String> = words.collect(rt.alloc())?;
-            read_words(rt.alloc(), words.as_slice())
-        }
-        Err(error) if error.kind() == ErrorKind::OutOfMemory => Err(WordsFault::NoMemory),
-        Err(_) => Err(WordsFault::Usage(not_text(rt.alloc())?)),
-    }
-}
-
-// Does what the words ask for. At a terminal a session has a prompt.
+// Carries out the order. At a terminal a session has a prompt.
 fn obey<R>(rt: &R, asked: &Asked, at_terminal: bool) -> Result<(), Fault>
 where
     R: Input + Print + Clock + AllocGlobal + Net<Stream = TcpStream>,
@@ -61,31 +45,12 @@ where
     done
 }
 
-// Returns status 0, or prints the fault and returns its status.
-fn ended(rt: &impl Eprint, done: Result<(), Fault>) -> ExitCode
-    ensures { MatchResult done (λ _. exit_status result ≡ 0) (λ fault. exit_status result ≡ status_of fault) }
-{
-    match done {
-        Ok(()) => ExitCode::SUCCESS,
-        Err(fault) => {
-            let _ = eprintln!(rt; "{fault}");
-            ExitCode::from(fault.status())
-        }
-    }
-}
-
-// Prints why the command line was refused, and returns status 2.
-fn refused(rt: &impl Eprint, error: &clap::Error) -> ExitCode
-    ensures { exit_status result ≡ 2 }
-{
-    let _ = eprint!(rt; "{error}");
-    ExitCode::from(2)
-}
-
 fn main(rt: HostRuntime) -> ExitCode {
-    match asked_by(&rt) {
-        Ok(asked) => ended(&rt, obey(&rt, &asked, rt.stdin().is_terminal())),
-        Err(WordsFault::NoMemory) => ended(&rt, Err(Fault::NoMemory)),
-        Err(WordsFault::Usage(error)) => refused(&rt, &error),
-    }
+    let asked = given_words(&rt, not_text).and_then(|words| read_words(rt.alloc(), &words));
+    let done = match asked {
+        Ok(asked) => obey(&rt, &asked, rt.stdin().is_terminal()),
+        Err(WordsFault::NoMemory) => Err(Fault::NoMemory),
+        Err(WordsFault::Usage(error)) => return refused(&rt, &error),
+    };
+    ended_with(&rt, done, |fault| fault.status())
 }

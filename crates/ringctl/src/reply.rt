@@ -17,7 +17,8 @@ pub enum Reply<'a> {
 /// A line that begins with `no` and a space is a refusal, and the rest is its word.
 pub fn read_reply(line: &str) -> Option<Reply<'_>>
     ensures whole { IfSome result (λ reply. line_of reply ≡ line.now) }
-    ensures refused { (word : List ℕ) → line.now ≡ codes "no " ++ word → IsSomeAnd result IsRefusal }
+    ensures refused { (word : List ℕ) → line.now ≡ codes "no " ++ word
+        → IsSomeAnd result IsRefusal }
 {
     if let Some(word) = refusal_in(line) {
         return Some(Reply::Refused(word));
@@ -31,7 +32,9 @@ pub fn read_reply(line: &str) -> Option<Reply<'_>>
 
 // Returns the rest of a line after `no` and a space, or `None` if it does not begin with these.
 fn refusal_in(line: &str) -> Option<&str>
-    ensures { MatchOption result ((word : List ℕ) → line.now ≢ codes "no " ++ word) (λ word. line.now ≡ codes "no " ++ word.now) }
+    ensures { MatchOption result
+        ((word : List ℕ) → line.now ≢ codes "no " ++ word)
+        (λ word. line.now ≡ codes "no " ++ word.now) }
 {
     line.strip_prefix("no ")
 }

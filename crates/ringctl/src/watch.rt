@@ -1,7 +1,7 @@
 //! Watches a group: prints a line when a term starts, and when its leader becomes known.
 //!
-//! The watch asks one member `who` once a second, and asks for the terms only if that reply has
-//! changed: a reply to `terms` grows with the terms.
+//! The watch asks one member `who` once a second. It asks for the terms only if that reply has
+//! changed, because a reply to `terms` grows with the terms.
 use crate::client::Client;
 use crate::fault::Fault;
 use crate::reply::Reply;

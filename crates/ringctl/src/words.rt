@@ -1,9 +1,10 @@
-//! The words of the command line, and what they ask for.
+//! The words of the command line, and the orders that they give.
 ghost use Rattle.std.specs.Prelude.{◌≡◌, ℕ, IfNone, IfSome, string_bytes};
 ghost use Rattle.ringctl.specs.private.Words.{IsAsk, IsCampaign, SpellsNoCommand, SpellsNoJoin, joins};
 
 use clap::error::ErrorKind;
 use clap::{Arg, ArgMatches, Command};
+use command_line::WordsFault;
 use ring_any::Any;
 use ring_events::Command as Asking;
 use ring_grammar::{one_spelling, parse_command};
@@ -54,7 +55,7 @@ pub struct Asked {
     pub order: Order,
 }
 
-/// What the words ask the program to do.
+/// The order that the words give.
 #[derive(Drop)]
 pub enum Order {
     /// Send each line of standard input.
@@ -66,31 +67,6 @@ pub enum Order {
     /// Print the terms of a group for `seconds` seconds; if there is none, until the process is
     /// ended.
     Watch { group: String, seconds: Option<u32> },
-}
-
-/// Why the words give no order.
-#[derive(Drop)]
-pub enum WordsFault {
-    /// The command line was refused, or asks for help. The text is clap's.
-    Usage(clap::Error),
-    /// An allocation failed.
-    NoMemory,
-}
-
-impl From<clap::Error> for WordsFault {
-    fn from(error: clap::Error) -> WordsFault {
-        if error.kind() == ErrorKind::OutOfMemory {
-            WordsFault::NoMemory
-        } else {
-            WordsFault::Usage(error)
-        }
-    }
-}
-
-impl From<AllocError> for WordsFault {
-    fn from(_error: AllocError) -> WordsFault {
-        WordsFault::NoMemory
-    }
 }
 
 // The program's command line.
@@ -154,7 +130,7 @@ pub fn read_words(alloc: Global, words: &[String]) -> Result<Asked, WordsFault> 
     }
 }
 
-// Returns what the words ask for, or the message of their refusal.
+// Returns the order of the words, or the message of their refusal.
 fn asked_of(
     alloc: Global,
     matches: &ArgMatches<'_>,

@@ -1,4 +1,4 @@
--- Causes: what is told where no configuration was found.
+-- Causes: the faults if no configuration was found.
 use Rattle.std.proofs.Common.{◌≤◌, ℕ, List, length, refl, subst, sym, inl, inr}
 use Rattle.ring_config.specs.Reading.{Spells}
 use Rattle.ring_config.specs.declared.config.Config.{Config}

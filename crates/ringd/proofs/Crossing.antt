@@ -1,4 +1,4 @@
--- The medium on a file may cross to another thread if the handle may by which its file is replaced.
+-- The medium on a file may go to another thread if the handle that replaces its file may go there.
 use denote.RattleType.{RattleType}
 use denote.Param.Send.{AllSend, AllSync, IsSend, IsSync, recorded_send, recorded_sync, sendable, struct_send, struct_sync, view_send, view_sync}
 use denote.Struct.Declared.{Declared, shape}

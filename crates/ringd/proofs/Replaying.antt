@@ -1,4 +1,4 @@
--- Replaying: with which faults a replay ends.
+-- Replaying: the faults with which a replay ends.
 use Rattle.std.proofs.Common.{ℕ, Result, Ok, Err}
 use Rattle.std.specs.Prelude.{IfErr}
 use Rattle.ring_lines.specs.Ends.{Reading, Writing}

@@ -1,4 +1,4 @@
--- What holds of a result holds of it in other words.
+-- A property of a result, in other words.
 use Rattle.std.proofs.Common.{Result, Ok, Err}
 use Rattle.std.specs.Prelude.{IfOk}
 

@@ -1,4 +1,4 @@
--- What was told of a service, as what `serve` and `run` tell.
+-- The text of a service, as the text of `serve` and `run`.
 use Rattle.std.proofs.Common.{◌++◌, List, ℕ, Result, Ok, Err, inl, inr, refl, subst, sym}
 use Rattle.std.specs.Prelude.{MatchResult}
 use Rattle.ring_lines.specs.Ends.{Writing, Wrote}
@@ -26,14 +26,14 @@ module _ {V : Type 0} (gives : V → Writing → V → Type 0) (from to : V) (fi
   served_at program.Listen told = absurd told
   served_at (program.Journal fault) told = absurd told
 
--- what was told, for some port
+-- the text, for some port
 module _ {V A : Type 0} (gives : V → Writing → V → Type 0) (from to : V) (line : ℕ → List ℕ) (last : List ℕ) (port : ℕ) where
   pub served_told : (answer : Result A ProgramFault) → MatchResult answer (λ _. Wrote gives from (line port ++ last) to) (λ fault. BothAt gives from (line port) last fault to)
       → MatchResult answer (λ _. (p : ℕ) × Wrote gives from (line p ++ last) to) (λ fault. (p : ℕ) × ServedAt gives from (line p) last fault to)
   served_told (Ok done) told = (port, told)
   served_told (Err fault) told = (port, served_at gives from to (line port) last fault told)
 
--- the same of `run`
+-- a fault of the whole, as one of `run`
 module _ {V : Type 0} (gives : V → Writing → V → Type 0) (from : V) (first : List ℕ) where
   pub ran_at : (to : V) (fault : ProgramFault) → FirstOrNone gives from first fault to → RanAt gives from first fault to
   ran_at to program.Thread told = told
@@ -53,7 +53,7 @@ module _ {V A : Type 0} (gives : V → Writing → V → Type 0) (from to : V) (
   ran_told (Ok done) told = (port, told)
   ran_told (Err fault) told = (port, ran_at gives from (line port) to fault told)
 
--- the same of `run` with a journal
+-- a fault of the whole, as one of `run` with a journal
 module _ {V : Type 0} (gives : V → Writing → V → Type 0) (from : V) (first : List ℕ) where
   pub kept_at : (to : V) (fault : ProgramFault) → ResumedAt gives from first fault to → KeptAt gives from first fault to
   kept_at to (program.Journal journal.Failed) told = inr told.1
@@ -73,7 +73,7 @@ module _ {V : Type 0} (gives : V → Writing → V → Type 0) (from : V) (first
   kept_at to program.Bad told = absurd told
   kept_at to program.Listen told = absurd told
 
-  -- a fault of taking up a journal comes with nothing told
+  -- a fault of taking up a journal comes before any text
   pub not_taken_up : (fault : ProgramFault) → IsOfJournal fault → KeptAt gives from first fault from
   not_taken_up fault (inl journals) = subst (λ (f : ProgramFault). KeptAt gives from first f from) (sym journals.1) (nothing journals.0)
     where

@@ -1,4 +1,4 @@
--- What the program tells of a journal.
+-- The faults and the text of a journal.
 use Rattle.std.specs.Prelude.{◌≡◌, ◌⊎◌, List, ℕ}
 use Rattle.ring_lines.specs.Ends.{Writing, WroteFront}
 use Rattle.ring_any.specs.declared.any.Any.{Any}
@@ -21,8 +21,8 @@ pub record IsTakenUp (found : List ℕ) (table : RecordedView Any) (life : ℕ) 
   pub history : table.history ≡ resumed.history
   pub next : life ≡ resumed.life
 
--- What was written at a fault of `journal`: nothing, or a prefix of a text at a failed write. No other
--- fault comes.
+-- The text that was written at a fault of `journal`: nothing, or a prefix of a text at a failed
+-- write. No other fault comes.
 abbrev pub ListedAt : {V : Type 0} → (V → Writing → V → Type 0) → V → ProgramFault → V → Type 0
 ListedAt gives from (Journal why) to = to ≡ from
 ListedAt gives from NoMemory to = to ≡ from

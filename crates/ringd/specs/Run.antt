@@ -1,4 +1,4 @@
--- What `replay` answers, and what `serve` and `run` tell, from their file to their end.
+-- The faults of `replay`, and the text of `serve` and `run`, from their file to their end.
 use Rattle.std.specs.Prelude.{◌≡◌, ◌≤◌, ◌⊎◌, List, ℕ, length}
 use Rattle.ring_config.specs.Reading.{Spells}
 use Rattle.ring_config.specs.declared.config.Config.{Config}
@@ -11,7 +11,7 @@ use Rattle.ring_door.specs.declared.fault.JournalFault.TheVariants.{Failed}
 use Rattle.ring_server.specs.Listening.{BothAt}
 use Rattle.ring_server.specs.Running.{FirstOrNone}
 
--- a fault of reading lines, of writing replies or of memory
+-- a fault of reading lines, of writing replies or of an allocation
 abbrev pub IsOfLines : ProgramFault → Type 0
 IsOfLines told = (fault : LineFault) × (told ≡ told_as fault)
 
@@ -21,24 +21,28 @@ pub record SpellsNone : Type 0 where
   pub short : length text ≤ 65536
   pub none : (config : Config) → Spells text config → ⊥
 
--- What was written at a fault of `serve`: nothing before the port is listened on, and then what `BothAt` says. A bad
--- configuration was a text that spells none.
-abbrev pub ServedAt : {V : Type 0} → (V → Writing → V → Type 0) → V → List ℕ → List ℕ → ProgramFault → V → Type 0
+-- The text that was written at a fault of `serve`: nothing before the port is listened on, and then
+-- that of `BothAt`. A bad configuration was a text that spells none.
+abbrev pub ServedAt : {V : Type 0} → (V → Writing → V → Type 0) → V → List ℕ → List ℕ → ProgramFault
+    → V → Type 0
 ServedAt gives from first last Unreadable to = to ≡ from
 ServedAt gives from first last Bad to = (to ≡ from) × SpellsNone
 ServedAt gives from first last Listen to = to ≡ from
 ServedAt gives from first last fault to = BothAt gives from first last fault to
 
--- What was written at a fault of `run`, in the same way.
-abbrev pub RanAt : {V : Type 0} → (V → Writing → V → Type 0) → V → List ℕ → ProgramFault → V → Type 0
+-- The text that was written at a fault of `run`, in the same way.
+abbrev pub RanAt : {V : Type 0} → (V → Writing → V → Type 0) → V → List ℕ → ProgramFault → V
+    → Type 0
 RanAt gives from first Unreadable to = to ≡ from
 RanAt gives from first Bad to = (to ≡ from) × SpellsNone
 RanAt gives from first Listen to = to ≡ from
 RanAt gives from first fault to = FirstOrNone gives from first fault to
 
--- What was written at a fault of `run` with a journal. If the journal failed, it is the first line or
--- nothing; at each other fault of the journal it is nothing. Else it is what `RanAt` says.
-abbrev pub KeptAt : {V : Type 0} → (V → Writing → V → Type 0) → V → List ℕ → ProgramFault → V → Type 0
+-- The text that was written at a fault of `run` with a journal. If the journal failed, it is the
+-- first line or nothing. At each other fault of the journal it is nothing. Else it is that of
+-- `RanAt`.
+abbrev pub KeptAt : {V : Type 0} → (V → Writing → V → Type 0) → V → List ℕ → ProgramFault → V
+    → Type 0
 KeptAt gives from first (Journal Failed) to = (to ≡ from) ⊎ Wrote gives from first to
 KeptAt gives from first (Journal why) to = to ≡ from
 KeptAt gives from first fault to = RanAt gives from first fault to

@@ -1,4 +1,4 @@
-//! What the program does with the file of a journal.
+//! The file of a journal: taking it up, and printing it.
 ghost use Rattle.std.specs.Prelude.{◌≡◌, ℕ, List, IfErr, IfOk, MatchResult};
 ghost use Rattle.ring_lines.specs.Ends.{Wrote, WroteFront};
 ghost use Rattle.ring_listing.specs.Listing.{Lists};
@@ -17,17 +17,17 @@ use std::io::{ErrorKind, Read};
 use std::sync::Arc;
 use std::{fs, io};
 
-/// Takes the journal at `path`, recovers its table, and begins its file anew with the lines that were
-/// found, or with at most half as many that lead to the same groups and terms. The file is kept from
-/// other processes as long as the result lives. The life is the one after that of the file.
+/// Takes the journal at `path` and recovers its table. The file begins anew with the lines that
+/// were found, or with at most half as many that give equal groups and terms. While the result
+/// lives, no other process gets the file. The life is the one after that of the file.
 ///
-/// Faults, in this order: another process has the journal, its file cannot be read, it is no file, it
-/// is damaged or of another version, and the new file cannot be written. At all but the last one
-/// nothing has changed.
+/// The faults, in their order: the journal is in use, unreadable, no file, damaged, of another
+/// version; its new file cannot be written. Except at the last one, nothing has changed.
 pub fn take_up<R>(rt: &R, path: &str) -> Result<Resumed<FileMedium<R>>, ProgramFault>
 where
     R: Files<File = File> + Replaces + AllocGlobal + Copy + Drop,
-    ensures ok { IfOk result (λ resumed. (found : List ℕ) × IsTakenUp found resumed.table resumed.life) }
+    ensures ok { IfOk result (λ resumed.
+        (found : List ℕ) × IsTakenUp found resumed.table resumed.life) }
     ensures fault { IfErr result IsOfJournal }
 {
     if path.is_empty() {
@@ -48,7 +48,9 @@ fn begin<R>(
 ) -> Result<Resumed<FileMedium<R>>, ProgramFault>
 where
     R: Files<File = File> + Replaces + AllocGlobal + Copy + Drop,
-    ensures ok { IfOk result (λ begun. (begun.table.book ≡ resumed.book) × (begun.table.history ≡ resumed.history) × (begun.life ≡ resumed.life)) }
+    ensures ok { IfOk result (λ begun.
+        (begun.table.book ≡ resumed.book) × (begun.table.history ≡ resumed.history)
+        × (begun.life ≡ resumed.life)) }
     ensures fault { IfErr result IsOfJournal }
 {
     let alloc = rt.alloc();
@@ -68,7 +70,7 @@ where
     }
 }
 
-// An alarm, for the one who waits for it and the one who rings it.
+// Returns an alarm: one handle for the thread that waits for it, one for the thread that rings it.
 fn alarms(alloc: Global) -> Result<(Arc<Alarm>, Arc<Alarm>), ProgramFault>
     ensures { IfErr result (λ fault. fault ≡ ProgramFault.NoMemory) }
 {
@@ -81,7 +83,7 @@ fn alarms(alloc: Global) -> Result<(Arc<Alarm>, Arc<Alarm>), ProgramFault>
     Ok((alarm, bell))
 }
 
-// The table that the bytes of a journal give, compacted.
+// Returns the table that the bytes of a journal give, compacted.
 fn recovered(alloc: Global, found: Vec<u8>) -> Result<Recovered, ProgramFault>
     ensures ok { IfOk result (Resumes found.items) }
     ensures err { IfErr result (IsToldOf found.items) }
@@ -92,10 +94,11 @@ fn recovered(alloc: Global, found: Vec<u8>) -> Result<Recovered, ProgramFault>
     }
 }
 
-/// Prints what the journal at `path` holds, as `list_journal` says it. Another process may have it.
+/// Prints what the journal at `path` holds, in the form of `list_journal`. Another process may have
+/// the journal.
 ///
-/// Faults, in this order: the file cannot be read, it is no file, it is damaged or of another version,
-/// and standard output cannot be written.
+/// The faults, in their order: the journal is unreadable, no file, damaged, of another version;
+/// standard output cannot be written.
 pub fn list<R, O>(rt: &R, path: &str, out: &mut O) -> Result<(), ProgramFault>
 where
     R: Files + AllocGlobal,
@@ -115,7 +118,8 @@ where
 fn tell_bytes<O: Outlet>(out: &mut O, text: &[u8]) -> Result<(), ProgramFault>
     ensures { MatchResult result
         (λ _. Wrote O.write_gives out.old text.now out.new)
-        (λ fault. (fault ≡ ProgramFault.Write) × WroteFront O.write_gives out.old text.now out.new) }
+        (λ fault. (fault ≡ ProgramFault.Write)
+            × WroteFront O.write_gives out.old text.now out.new) }
 {
     match put(out, text) {
         Ok(()) => Ok(()),
@@ -123,7 +127,7 @@ fn tell_bytes<O: Outlet>(out: &mut O, text: &[u8]) -> Result<(), ProgramFault>
     }
 }
 
-// The bytes of a journal's file, which is left as it is.
+// Returns the bytes of a journal's file, and leaves the file as it is.
 fn look<R: Files + AllocGlobal>(rt: &R, path: &str) -> Result<Vec<u8>, ProgramFault>
     ensures { IfErr result IsOfJournal }
 {
@@ -137,7 +141,7 @@ fn look<R: Files + AllocGlobal>(rt: &R, path: &str) -> Result<Vec<u8>, ProgramFa
     Ok(found)
 }
 
-// What the program tells of a file that could not be read.
+// Returns the program's fault for a file that could not be read.
 fn unreadable(error: io::Error) -> ProgramFault
     ensures { IsOfJournal result }
 {
@@ -147,7 +151,7 @@ fn unreadable(error: io::Error) -> ProgramFault
     }
 }
 
-// What the program tells of a place that cannot be used.
+// Returns the program's fault for a place that cannot be used.
 fn told_of_place(fault: PlaceFault) -> ProgramFault
     ensures told { result ≡ place_told_as fault }
     ensures of_journal { IsOfJournal result }
@@ -161,7 +165,7 @@ fn told_of_place(fault: PlaceFault) -> ProgramFault
     }
 }
 
-// What the program tells of bytes that give no table.
+// Returns the program's fault for bytes that give no table.
 fn told_of_recovery(fault: RecoverFault) -> ProgramFault
     ensures { result ≡ recovery_told_as fault }
 {

@@ -1,4 +1,4 @@
-//! What the program does with the world: its standard streams, its file and its port.
+//! The orders of the command line: standard streams, the configuration's file and the port.
 ghost use Rattle.std.specs.Prelude.{◌≡◌, ◌<◌, ◌≤◌, ◌++◌, ◌⊎◌, ℕ, List, IfErr, IfOk, IfSome, MatchOption, MatchResult, Ok, Err, length};
 ghost use Rattle.ring_lines.specs.Ends.{Wrote, WroteFront};
 ghost use Rattle.ring_config.specs.Reading.{Spells};
@@ -21,16 +21,16 @@ use std::thread::Threads;
 use std::time::Clock;
 use std::{fs, io};
 
-// How many read calls are made before the input counts as endless.
+// the most read calls before the input counts as endless
 const READS: u32 = 1_000_000_000;
 
-// How many bytes a configuration has at most.
+// the most bytes of a configuration
 const LONGEST: usize = 65536;
 
 /// Answers each line of standard input by one line on standard output, to the end of the input.
 ///
-/// Its faults are those of the call `replay`: a read or a write call failed, the input had not ended
-/// when all read calls were made, or memory was refused before the first.
+/// The faults are those of `ring_schedule::replay`: a failed read, a failed write, endless input,
+/// or a failed allocation before the first read.
 pub fn replay(rt: &(impl Input + Print + AllocGlobal)) -> Result<(), ProgramFault>
     ensures { IfErr result IsOfLines }
 {
@@ -39,13 +39,14 @@ pub fn replay(rt: &(impl Input + Print + AllocGlobal)) -> Result<(), ProgramFaul
     replay_ends(rt.alloc(), &mut reader, &mut writer)
 }
 
-// The same replay, over any ends.
+// Answers the lines of any reader to any writer.
 fn replay_ends<I: Intake, O: Outlet>(
     alloc: Global,
     reader: &mut I,
     writer: &mut O,
 ) -> Result<(), ProgramFault>
-    ensures { Replayed I.read_gives O.write_gives reader.old writer.old 1000000000 result reader.new writer.new }
+    ensures { Replayed I.read_gives O.write_gives reader.old writer.old 1000000000 result reader.new
+        writer.new }
 {
     match ring_schedule::replay(alloc, reader, writer, READS) {
         Ok(_) => Ok(()),
@@ -53,7 +54,7 @@ fn replay_ends<I: Intake, O: Outlet>(
     }
 }
 
-/// Tells the version, which is the text that clap has for those who ask for it.
+/// Prints the version, which is clap's text in this error.
 pub fn tell_version<O: Outlet>(
     alloc: Global,
     version: &clap::Error,
@@ -61,7 +62,9 @@ pub fn tell_version<O: Outlet>(
 ) -> Result<(), ProgramFault>
     ensures { MatchResult result
         (λ _. (text : List ℕ) × Wrote O.write_gives out.old text out.new)
-        (λ fault. ((fault ≡ ProgramFault.NoMemory) × (out.new ≡ out.old)) ⊎ ((fault ≡ ProgramFault.Write) × ((text : List ℕ) × WroteFront O.write_gives out.old text out.new))) }
+        (λ fault. ((fault ≡ ProgramFault.NoMemory) × (out.new ≡ out.old))
+            ⊎ ((fault ≡ ProgramFault.Write)
+            × ((text : List ℕ) × WroteFront O.write_gives out.old text out.new))) }
 {
     let Ok(text) = version.to_string(alloc) else {
         return Err(ProgramFault::NoMemory);
@@ -69,10 +72,10 @@ pub fn tell_version<O: Outlet>(
     tell(out, text.as_str())
 }
 
-/// Serves so many clients on 127.0.0.1, at the port of the configuration in this file.
+/// Serves `connections` clients on 127.0.0.1, at the port of the configuration in this file.
 ///
-/// Its faults, in this order: the file can't be read, is too long or spells no configuration; the port
-/// can't be listened on; and those of `accept_loop`.
+/// The faults, in their order: the file is unreadable, is too long or spells no configuration; the
+/// port cannot be listened on; those of `accept_loop`.
 #[tactic(auto, using(crate::proofs::Causes::served_unloaded))]
 pub fn serve<R, O>(rt: &R, path: &str, connections: u32, out: &mut O) -> Result<(), ProgramFault>
 where
@@ -89,19 +92,22 @@ where
         + Net<Stream = TcpStream, Listener = TcpListener>,
     O: Outlet,
     ensures { MatchResult result
-        (λ _. (port : ℕ) × Wrote O.write_gives out.old (listening_line port ++ closed_line connections) out.new)
-        (λ fault. (port : ℕ) × ServedAt O.write_gives out.old (listening_line port) (closed_line connections) fault out.new) }
+        (λ _. (port : ℕ) × Wrote O.write_gives out.old
+            (listening_line port ++ closed_line connections) out.new)
+        (λ fault.
+            (port : ℕ) × ServedAt O.write_gives out.old (listening_line port)
+            (closed_line connections) fault out.new) }
 {
     let config = load(rt, path)?;
     let listener = listen(rt, config.port)?;
     accept_loop(rt, listener, &config, connections, out)
 }
 
-/// Serves clients on 127.0.0.1 until the process is ended, at the port of the configuration in this file, and
-/// campaigns at a port of their own, if there is one.
+/// Serves clients on 127.0.0.1 until the process ends, at the port of the configuration in this
+/// file. If there is a port for campaigns, serves those there.
 ///
-/// Its faults, in this order: the file can't be read, is too long or spells no configuration; the port
-/// can't be listened on; and those of `run_loop`.
+/// The faults, in their order: the file is unreadable, is too long or spells no configuration; a
+/// port cannot be listened on; those of `run_loop`.
 #[tactic(auto, using(crate::proofs::Causes::ran_unloaded))]
 pub fn run<R, O>(
     rt: &R,
@@ -133,10 +139,11 @@ where
     run_loop(rt, listener, campaigns, &config, limits, out)
 }
 
-/// Serves clients as `run` does, by the table that a journal keeps, until the journal fails or the process is ended.
+/// Serves clients as `run` does, by the table that a journal keeps, until the journal fails or the
+/// process ends.
 ///
-/// Its faults, in this order: those of the configuration; those of taking up the journal; the port can't be
-/// listened on; and those of `resume_loop`.
+/// The faults, in their order: those of the configuration; those of taking up the journal; a port
+/// cannot be listened on; those of `resume_loop`.
 #[tactic(auto, using(crate::proofs::Causes::kept_unloaded))]
 pub fn run_kept<R, O>(
     rt: &R,
@@ -171,9 +178,10 @@ where
     resume_loop(rt, listener, campaigns, &config, limits, resumed, out)
 }
 
-/// The port that a number says, and none at 0 or above 65535.
+/// Returns the port with this number, or `None` at 0 and above 65535.
 pub fn port_of(number: u32) -> Option<u16>
-    ensures { MatchOption result ((number ≡ 0) ⊎ (65535 < number)) (λ port. (port ≡ number) × (1 ≤ port)) }
+    ensures { MatchOption result ((number ≡ 0) ⊎ (65535 < number))
+        (λ port. (port ≡ number) × (1 ≤ port)) }
 {
     if number == 0 || number > 65535 {
         return None;
@@ -204,16 +212,17 @@ fn listen_if<R: Net>(rt: &R, port: Option<u16>) -> Result<Option<R::Listener>, P
     }
 }
 
-// Listens on this machine alone.
+// Listens on a port of this machine alone.
 fn listen<R: Net>(rt: &R, port: u16) -> Result<R::Listener, ProgramFault>
     ensures { IfErr result (λ fault. fault ≡ ProgramFault.Listen) }
 {
     listening(rt.bind(SocketAddr::from((Ipv4Addr::LOCALHOST, port))))
 }
 
-// What is told of a port that was to be listened on: a fault exactly if that failed.
+// Returns the listener, or a fault exactly if it could not be bound.
 fn listening<L: Drop>(bound: io::Result<L>) -> Result<L, ProgramFault>
-    ensures { MatchResult bound (λ listener. result ≡ Ok listener) (λ _. result ≡ Err ProgramFault.Listen) }
+    ensures { MatchResult bound (λ listener. result ≡ Ok listener)
+        (λ _. result ≡ Err ProgramFault.Listen) }
 {
     match bound {
         Ok(listener) => Ok(listener),
@@ -221,7 +230,7 @@ fn listening<L: Drop>(bound: io::Result<L>) -> Result<L, ProgramFault>
     }
 }
 
-// The configuration in a file.
+// Reads the configuration in a file.
 fn load<R: Files + AllocGlobal>(rt: &R, path: &str) -> Result<Config, ProgramFault>
     ensures { IfErr result IsOfFile }
 {
@@ -234,7 +243,7 @@ fn load<R: Files + AllocGlobal>(rt: &R, path: &str) -> Result<Config, ProgramFau
     config_in(rt.alloc(), text.as_slice())
 }
 
-// The configuration that a text spells. It is refused as bad only if it spells none.
+// Returns the configuration that a text spells. It is refused as bad only if it spells none.
 fn config_in(alloc: Global, text: &[u8]) -> Result<Config, ProgramFault>
     requires { length text.now ≤ 65536 }
     ensures spelled { IfOk result (Spells text.now) }
@@ -248,7 +257,7 @@ fn config_in(alloc: Global, text: &[u8]) -> Result<Config, ProgramFault>
     }
 }
 
-// All that a reader has left, where it is not too long for a configuration.
+// Returns all bytes that a reader has left, unless they are too long for a configuration.
 fn read_whole<R: Read + Drop>(alloc: Global, reader: R) -> Result<Vec<u8>, ProgramFault>
     ensures short { IfOk result (λ text. length text.items ≤ 65536) }
     ensures whole { IfOk result (λ text. IfSome (R.remaining reader) (λ left. text.items ≡ left)) }

@@ -1,4 +1,4 @@
--- What a client is told, step by step.
+-- The replies that a client gets, step by step.
 use Rattle.std.specs.Prelude.{◌≡◌, ℕ, Bool, true, false, List, ◌++◌}
 use Rattle.std.specs.List.{flat_map}
 use Rattle.ring_any.specs.declared.any.Any.{Any}
@@ -21,36 +21,37 @@ use Rattle.ring_events.specs.declared.event.Command.{Command}
 use Rattle.ring_events.specs.declared.event.Command.TheVariants.{Join}
 use Rattle.ring_events.specs.declared.event.Event.TheVariants.{Client}
 
--- what the first line asks
+-- the first line has this content
 abbrev pub Asked : {S : Type 0} → (S → Reading → S → Type 0) → S → First → S → Type 0
 Asked reading from first.NoLine to = (line : Next) × IsNoLine line × GivesFirst reading from line to
 Asked reading from first.NoJoin to = (line : Next) × IsNoJoin line × GivesFirst reading from line to
 Asked reading from (first.Join wish) to = AsksJoin reading from wish.group wish.node to
 
--- what a command asks
+-- the command has this content
 abbrev pub Wishes : Command Any → First → Type 0
 Wishes command first.NoLine = ⊥
 Wishes command first.NoJoin = (group : List ℕ) (node : ℕ) → command ≡ Join group node → ⊥
 Wishes command (first.Join wish) = command ≡ Join wish.group wish.node
 
--- what a line asks
+-- the line has this content
 abbrev pub IsWish : List ℕ → First → Type 0
 IsWish line first.NoLine = ⊥
 IsWish line first.NoJoin = IsNoJoin (next.Line line)
 IsWish line (first.Join wish) = Spells line (Client (Join wish.group wish.node))
 
--- a text was written, or a front of it and then the writer failed
+-- a text was written, or a prefix of it and then the writer failed
 abbrev pub Puts : {V : Type 0} → (V → Writing → V → Type 0) → V → List ℕ → Bool → V → Type 0
 Puts writing from text true to = Wrote writing from text to
 Puts writing from text false to = WroteFront writing from text to
 
--- Of these answers those were told that differ from the one before.
-pub record Tells {V : Type 0} (writing : V → Writing → V → Type 0) (last : Reply) (from : V) (answers : List Reply) (all : Bool) (now : Reply) (to : V) : Type 0 where
+-- The client got those of these answers that differ from the one before.
+pub record Tells {V : Type 0} (writing : V → Writing → V → Type 0) (last : Reply) (from : V)
+    (answers : List Reply) (all : Bool) (now : Reply) (to : V) : Type 0 where
   pub told : List Reply
   pub changes : Changes last answers told now
   pub puts : Puts writing from (text_of reply_line told) all to
 
--- whether all that was to be told after a turn is written
+-- whether all replies of a turn are written
 abbrev pub is_heard : Turn → Bool
 is_heard turn.On = true
 is_heard turn.Over = true
@@ -61,23 +62,31 @@ abbrev pub IsTurn : Turn → List (Entry Any) → Type 0
 IsTurn turn.Over added = EndsRefused added
 IsTurn _ added = Unit {0}
 
--- A turn: a look, and what is told after it.
-pub record Turns {V : Type 0} (writing : V → Writing → V → Type 0) (session : ℕ) (group : List ℕ) (number : ℕ) (old : Bool) (last : Reply) (mine : List (Entry Any)) (from : V) (result : Turn) (new : Bool) (last_now : Reply) (now : List (Entry Any)) (to : V) : Type 0 where
+-- A turn: a look, and the replies after it.
+pub record Turns {V : Type 0} (writing : V → Writing → V → Type 0) (session : ℕ) (group : List ℕ)
+    (number : ℕ) (old : Bool) (last : Reply) (mine : List (Entry Any)) (from : V) (result : Turn)
+    (new : Bool) (last_now : Reply) (now : List (Entry Any)) (to : V) : Type 0 where
   pub added : List (Entry Any)
   pub gained : now ≡ mine ++ added
-  pub at : (during : List (Entry Any)) → IsAt session group number old during → IsAt session group number new (during ++ added)
+  pub at : (during : List (Entry Any)) → IsAt session group number old during
+      → IsAt session group number new (during ++ added)
   pub tells : Tells writing last from (flat_map told_of added) (is_heard result) last_now to
   pub is : IsTurn result added
 
--- The turns so far, and what was told after them.
-pub record HasTurned {V : Type 0} (writing : V → Writing → V → Type 0) (session : ℕ) (group : List ℕ) (number : ℕ) (mine : List (Entry Any)) (from : V) (all new : Bool) (last : Reply) (now : List (Entry Any)) (to : V) : Type 0 where
+-- The turns so far, and the replies after them.
+pub record HasTurned {V : Type 0} (writing : V → Writing → V → Type 0) (session : ℕ)
+    (group : List ℕ) (number : ℕ) (mine : List (Entry Any)) (from : V) (all new : Bool)
+    (last : Reply) (now : List (Entry Any)) (to : V) : Type 0 where
   pub during : List (Entry Any)
   pub gained : now ≡ mine ++ during
   pub at : IsAt session group number new during
   pub tells : Tells writing Done from (flat_map told_of during) all last to
 
--- What is done and told between the join and the leave.
-pub record Attends {S V : Type 0} (reading : S → Reading → S → Type 0) (writing : V → Writing → V → Type 0) (session : ℕ) (group : List ℕ) (number : ℕ) (mine : List (Entry Any)) (reader : S) (from : V) (now : List (Entry Any)) (reader_now : S) (to : V) : Type 0 where
+-- The turns between the join and the leave, and their replies.
+pub record Attends {S V : Type 0} (reading : S → Reading → S → Type 0)
+    (writing : V → Writing → V → Type 0) (session : ℕ) (group : List ℕ) (number : ℕ)
+    (mine : List (Entry Any)) (reader : S) (from : V) (now : List (Entry Any)) (reader_now : S)
+    (to : V) : Type 0 where
   pub during : List (Entry Any)
   pub gained : now ≡ mine ++ during
   pub looks : Looks session group number during
@@ -89,7 +98,8 @@ pub record Attends {S V : Type 0} (reading : S → Reading → S → Type 0) (wr
   pub over : IsOver writing calls during from (text_of reply_line told) to
 
 -- The member has left.
-pub record AddsLeave (session : ℕ) (group : List ℕ) (number : ℕ) (mine now : List (Entry Any)) : Type 0 where
+pub record AddsLeave (session : ℕ) (group : List ℕ) (number : ℕ)
+    (mine now : List (Entry Any)) : Type 0 where
   pub ending : List (Entry Any)
   pub gained : now ≡ mine ++ ending
   pub leaves : Leaves session group number ending

@@ -1,4 +1,4 @@
--- With what faults a service that has begun ends.
+-- The faults with which a service that has begun ends.
 use Rattle.std.specs.Prelude.{◌≡◌, ◌⊎◌}
 use Rattle.ring_door.specs.declared.fault.JournalFault.TheVariants.{Failed}
 use Rattle.ring_door.specs.declared.fault.ProgramFault.{ProgramFault}

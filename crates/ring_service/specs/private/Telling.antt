@@ -1,4 +1,4 @@
--- Telling: a start, and the begins by which the workers are told of it.
+-- Telling: a start, and the begins that it puts to the workers.
 use Rattle.std.specs.Prelude.{ℕ, Bool, List, ◌++◌, map}
 use Rattle.std.specs.Global.{Global}
 use Rattle.std.specs.declared.sync.Arc.{Arc}
@@ -13,18 +13,23 @@ use Rattle.ring_table.specs.declared.entry.Entry.{Entry}
 use Rattle.ring_workers.specs.declared.item.Item.{Item}
 
 module _ {M S : Type 0} where
-  -- The begins that waited were tried. Then one for each of these charters was added, the first for worker 0, and all
-  -- that waited were tried: each was stored by the pass to its worker, or waits.
-  pub record TellsAll (charters : List (Arc (Charter Any) Global)) (waiting after : List Waiting) (old new : List (SenderLog (Item Any M S))) : Type 0 where
+  -- The begins that waited were tried. Then one for each of these charters was added, the first for
+  -- worker 0. All that waited were tried again: each was stored by the pass to its worker, or
+  -- waits.
+  pub record TellsAll (charters : List (Arc (Charter Any) Global)) (waiting after : List Waiting)
+      (old new : List (SenderLog (Item Any M S))) : Type 0 where
     pub mid : List Waiting
     pub between : List (SenderLog (Item Any M S))
     pub first : Tries waiting mid old between
     pub last : Tries (mid ++ begins_from 0 charters) after between new
 
-  -- A start, of which so many workers are told: by one charter of the new term for each of them, and by none if no term
-  -- began.
-  pub record Begins (winner : Any → List ℕ → ℕ) (two_way greatest : Any → Bool) (session : ℕ) (group : List ℕ) (workers : ℕ) (mine : List (Entry Any)) (answer : Answer) (now : List (Entry Any))
+  -- A start with `workers` charters of the new term, and a begin to each worker. If no term began,
+  -- there are no charters and no begins.
+  pub record Begins (winner : Any → List ℕ → ℕ) (two_way greatest : Any → Bool) (session : ℕ)
+      (group : List ℕ) (workers : ℕ) (mine : List (Entry Any)) (answer : Answer)
+      (now : List (Entry Any))
       (waiting after : List Waiting) (old new : List (SenderLog (Item Any M S))) : Type 0 where
     pub charters : List (Arc (Charter Any) Global)
-    pub gives : BeginsAtSeat winner two_way greatest session group workers mine answer (map (λ charter. charter.value) charters) now
+    pub gives : BeginsAtSeat winner two_way greatest session group workers mine answer
+        (map (λ charter. charter.value) charters) now
     pub tells : TellsAll charters waiting after old new

@@ -15,7 +15,8 @@ SpellsNoCommand line = (command : Command Any) → Spells line (Client command) 
 -- The order sends this line, which spells a command of a client.
 abbrev pub IsAsk : List ℕ → Order → Type 0
 IsAsk line Session = ⊥
-IsAsk line (Ask text) = (string_bytes text ≡ line) × ((command : Command Any) × Spells line (Client command))
+IsAsk line (Ask text) =
+    (string_bytes text ≡ line) × ((command : Command Any) × Spells line (Client command))
 IsAsk line (Campaign _) = ⊥
 IsAsk line (Watch _ _) = ⊥
 
@@ -26,11 +27,14 @@ joins _ = false
 
 -- The bytes of a line spell no join.
 abbrev pub SpellsNoJoin : List ℕ → Type 0
-SpellsNoJoin line = (command : Command Any) → joins command ≡ true → Spells line (Client command) → ⊥
+SpellsNoJoin line =
+    (command : Command Any) → joins command ≡ true → Spells line (Client command) → ⊥
 
 -- The order sends this line, which spells a join, to the port of the campaigns.
 abbrev pub IsCampaign : List ℕ → Order → Type 0
 IsCampaign line Session = ⊥
 IsCampaign line (Ask _) = ⊥
-IsCampaign line (Campaign text) = (string_bytes text ≡ line) × ((command : Command Any) × (joins command ≡ true) × Spells line (Client command))
+IsCampaign line (Campaign text) =
+    (string_bytes text ≡ line)
+    × ((command : Command Any) × (joins command ≡ true) × Spells line (Client command))
 IsCampaign line (Watch _ _) = ⊥

@@ -1,4 +1,4 @@
--- What the program tells of the faults of a place and of a recovery.
+-- The program's faults for a place and for a recovery.
 use Rattle.std.specs.Prelude.{◌≡◌, List, ℕ}
 use Rattle.ring_door.specs.declared.fault.JournalFault.TheVariants as journal
 use Rattle.ring_door.specs.declared.fault.ProgramFault.{ProgramFault}
@@ -9,7 +9,7 @@ use Rattle.ring_recovery.specs.declared.fault.RecoverFault.{RecoverFault}
 use Rattle.ring_recovery.specs.declared.fault.RecoverFault.TheVariants as recovery
 use Rattle.ring_recovery.specs.Damage.{IsFaultOf}
 
--- each fault of a place is told as the program's fault of that kind
+-- each fault of a place becomes the program's fault of that kind
 abbrev pub place_told_as : PlaceFault → ProgramFault
 place_told_as place.InUse = Journal journal.InUse
 place_told_as place.Unreadable = Journal journal.Unreadable
@@ -17,13 +17,13 @@ place_told_as place.NotAFile = Journal journal.NotAFile
 place_told_as place.Failed = Journal journal.Failed
 place_told_as place.NoMemory = NoMemory
 
--- and each fault of a recovery
+-- and so does each fault of a recovery
 abbrev pub recovery_told_as : RecoverFault → ProgramFault
 recovery_told_as (recovery.Bad at) = Journal (journal.Bad at)
 recovery_told_as recovery.Version = Journal journal.Version
 recovery_told_as recovery.Lives = Journal journal.Lives
 recovery_told_as recovery.NoMemory = NoMemory
 
--- the fault is told of a reason why these bytes are refused
+-- the fault is that of a reason why these bytes are refused
 abbrev pub IsToldOf : List ℕ → ProgramFault → Type 0
 IsToldOf found fault = (why : RecoverFault) × IsFaultOf found why × (fault ≡ recovery_told_as why)

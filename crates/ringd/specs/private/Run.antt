@@ -1,4 +1,4 @@
--- What inner functions say of a replay and of a run.
+-- Clauses of inner functions that replay and run.
 use Rattle.std.specs.Prelude.{◌≡◌, ◌⊎◌, ℕ, Result, Ok, Err}
 use Rattle.ring_lines.specs.Ends.{Reading, Writing}
 use Rattle.ring_lines.specs.declared.answers.LineFault.{LineFault}
@@ -8,13 +8,17 @@ use Rattle.ring_door.specs.declared.fault.ProgramFault.TheVariants.{Bad, NoMemor
 use Rattle.ring_schedule.specs.Replay.{Replays}
 use Rattle.ringd.specs.Run.{SpellsNone}
 
--- a replay of all lines, or one that ended by a fault, which is told as the program's fault of its kind
-abbrev pub Replayed : {S V A : Type 0} → (S → Reading → S → Type 0) → (V → Writing → V → Type 0) → S → V → ℕ → Result A ProgramFault → S → V → Type 0
-Replayed reading writing reader writer reads (Ok done) reader_now writer_now = (count : ℕ) × Replays reading writing reader writer reads (Ok count) reader_now writer_now
+-- a replay of all lines, or one that ended by a fault, which becomes the program's fault of its
+-- kind
+abbrev pub Replayed : {S V A : Type 0} → (S → Reading → S → Type 0) → (V → Writing → V → Type 0) → S
+    → V → ℕ → Result A ProgramFault → S → V → Type 0
+Replayed reading writing reader writer reads (Ok done) reader_now writer_now =
+    (count : ℕ) × Replays reading writing reader writer reads (Ok count) reader_now writer_now
 Replayed reading writing reader writer reads (Err told) reader_now writer_now =
-    (fault : LineFault) × (told ≡ told_as fault) × Replays reading writing reader writer reads (Err fault) reader_now writer_now
+    (fault : LineFault) × (told ≡ told_as fault)
+    × Replays reading writing reader writer reads (Err fault) reader_now writer_now
 
--- a fault of reading a file: it can't be read or is too long, or memory was refused
+-- a fault of reading a file: it cannot be read or is too long, or an allocation failed
 abbrev pub IsOfReading : ProgramFault → Type 0
 IsOfReading fault = (fault ≡ Unreadable) ⊎ (fault ≡ NoMemory)
 

@@ -1,4 +1,4 @@
--- A first line that spells no join is answered so.
+-- A first line that spells no join is refused.
 use Rattle.std.proofs.Common.{inl, inr, refl}
 use Rattle.ring_campaign.proofs.Told.{given_either}
 use Rattle.ring_campaign.proofs.opening.begin.Goals as goal

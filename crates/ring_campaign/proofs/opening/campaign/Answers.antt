@@ -1,4 +1,4 @@
--- What the seat gained follows from all that was read and told.
+-- The entries of the seat follow from all that was read and written.
 use Rattle.ring_campaign.proofs.Told.{campaign_gains}
 use Rattle.ring_campaign.proofs.opening.campaign.Goals as goal
 

@@ -1,4 +1,4 @@
--- What is so of all seats is so of each part.
+-- A property of all seats is one of the seats of each part.
 use Rattle.std.proofs.Common.{◌≡◌, All, subst, sym}
 use Rattle.std.proofs.lemmas.List.Elements.{All-drop, All-take}
 use Rattle.ring_server.proofs.crowd.part.Goals as goal

@@ -1,8 +1,8 @@
 use Rattle.std.proofs.Common.{◌≡◌, ◌+◌, ◌≤◌, All, vec_len, vec_capacity}
 use Rattle.ring_server.proofs.sessions.limited_guests.Given as goal
 
--- the seats that are left are of the lock, there is room for them, and each guest so far grants what was asked for
--- and has the base that was asked for
+-- The seats that are left are of the lock, and there is room for them. Each guest so far has the
+-- limit and the base that were asked for.
 abbrev pub invariant-loop-seat : goal.invariant-loop-seat
 invariant-loop-seat g l =
     All (λ seat. seat.lock ≡ l.fn.front.id) l.rest.items × (vec_len l.guests + vec_len l.rest ≡ vec_len l.fn.seats) × (vec_len l.fn.seats ≤ vec_capacity l.guests)

@@ -1,10 +1,10 @@
--- Each inbox has lost its last sender once its turn was, and the other inboxes stay as they were.
+-- The inboxes so far have lost their last sender, and the other inboxes are unchanged.
 use Rattle.std.proofs.Common.{◌≡◌, ℕ, List, [], ◌∷◌, ◌++◌, get_or, length, drop, take, subst, sym, ◌∙◌, arith}
 use Rattle.std.proofs.lemmas.List.{length-set, take-append-le, take_all}
 use Rattle.ring_service.proofs.Meshing.{takes_more}
 use Rattle.ring_service.proofs.mesh.take_last.Goals as goal
 
--- of a list with another behind it, as many as the first has are the first
+-- of two lists joined, the first elements, as many as the first list has, are the first list
 take-whole : {X : Type 0} (xs ys : List X) (n : ℕ) → n ≡ length xs → take n (xs ++ ys) ≡ xs
 take-whole xs ys n e = take-append-le n xs ys (omega (arith, e)) ∙ take_all n xs (omega (arith, e))
 

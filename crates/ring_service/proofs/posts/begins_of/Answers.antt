@@ -1,4 +1,4 @@
--- One begin more, for a worker that there is.
+-- One more begin, for a worker that exists.
 use Rattle.std.proofs.Common.{◌<◌}
 use Rattle.std.proofs.lemmas.List.Elements.{All-push}
 use Rattle.ring_service.proofs.Posting.{says_more}

@@ -1,4 +1,4 @@
--- What is not stored comes back, and nothing changes.
+-- A begin that is not stored comes back, and nothing changes.
 use Rattle.std.proofs.Common.{rules}
 use Rattle.ring_service.proofs.posts.put_begin.Goals as goal
 

@@ -42,7 +42,7 @@ loop-seat-preserved g c =
       handed = omega (arith, c.start.ensures.room.1, c.loop-seat.invariant.handed);
     }
 
--- Each inbox has as many senders left as there are seats, this one among them.
+-- Each inbox has as many senders left as there are seats, with this one.
 pub take_last-requires : goal.take_last-requires
 take_last-requires g c =
     let next : vec_len c.loop-seat.seats ≡ c.len-number.result + 1 = omega (arith, c.in-Some.ensures.len, c.len-number.ensures) in
@@ -51,7 +51,7 @@ take_last-requires g c =
     let all : SendersOf (c.len-number.result + 1) c.args.mesh.now.receivers.items c.loop-seat.mesh.senders.items = subst (λ (n : ℕ). SendersOf n c.args.mesh.now.receivers.items c.loop-seat.mesh.senders.items) next c.loop-seat.invariant.senders in
     senders_counted _ _ _ long all
 
--- The seat that is taken is one of those that the access has.
+-- The seat that is taken is one of the access's.
 pub new-requires-in-Some : goal.new-requires-in-Some
 new-requires-in-Some g c =
     let seat : IfSome c.pop.result (g.A.Access.has_seat c.args.access.now.value) =

@@ -3,7 +3,8 @@ use Rattle.ring_service.specs.private.Crews.{IsManned}
 use Rattle.ring_service.specs.private.Meshes.{SendersOf}
 use Rattle.ring_service.proofs.service.start_all.Given as goal
 
--- a worker was started for each seat that is taken, and for each that is left there is a receiver, a sender of each inbox, and room
+-- A worker was started for each seat that is taken. For each seat that is left there is a receiver,
+-- a sender of each inbox, and room.
 abbrev pub invariant-loop-seat : goal.invariant-loop-seat
 invariant-loop-seat g l = record {
   receivers : l.mesh.receivers.items ≡ take (vec_len l.seats) l.fn.mesh.receivers.items;

@@ -1,4 +1,4 @@
--- A text is refused as bad only where the call that reads it refuses it so.
+-- A text is refused as bad only if the call that reads it refuses it as bad.
 use Rattle.std.proofs.Common.{◌≡◌, Err}
 use Rattle.ring_config.specs.declared.config.ConfigFault.TheVariants as config
 use Rattle.ringd.proofs.Causes.{of_config}

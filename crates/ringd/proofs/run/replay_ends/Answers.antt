@@ -1,4 +1,4 @@
--- A replay's fault is told as the program's fault of its kind.
+-- A replay's fault becomes the program's fault of its kind.
 use Rattle.ringd.proofs.run.replay_ends.Goals as goal
 
 pub returns-in-Ok : goal.returns-in-Ok

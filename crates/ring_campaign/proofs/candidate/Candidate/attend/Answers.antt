@@ -1,4 +1,4 @@
--- One turn after another, each but the first behind a read call.
+-- One turn after another, each but the first after a read call.
 use Rattle.std.proofs.Common.{◌≤◌, ◌++◌, ◌∷◌, [], length, refl}
 use Rattle.std.specs.Prelude.{IfOk}
 use Rattle.ring_lines.specs.Ends.{reading}

@@ -1,4 +1,4 @@
--- A join that was not done, one that was, and one of which the client could not be told.
+-- A join that was not done, one that was, and one whose client did not get the reply.
 use Rattle.std.proofs.Common.{◌∙◌, inl, inr, refl, sym, true≢false}
 use Rattle.ring_campaign.proofs.Told.{campaigned, campaigned_unheard, given_either, joined}
 use Rattle.ring_campaign.proofs.candidate.Candidate.join.Goals as goal

@@ -1,4 +1,4 @@
--- The member's own question, behind what was found of a leader.
+-- The member's own question, after the search for a leader.
 use Rattle.ring_campaign.proofs.Looking.{looks_followed, looks_refused, looks_unknown, looks_up}
 use Rattle.ring_campaign.proofs.candidate.Candidate.look.Goals as goal
 

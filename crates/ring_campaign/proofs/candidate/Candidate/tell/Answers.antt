@@ -1,4 +1,4 @@
--- Another reply than the last is told.
+-- A reply that differs from the last is written.
 use Rattle.std.proofs.Common.{sym, true, false, true≢false}
 use Rattle.ring_lines.proofs.Writing.{where_err, where_ok}
 use Rattle.ring_campaign.proofs.Told.{tells_one}

@@ -1,4 +1,4 @@
--- A failed read is told as one.
+-- A failed read becomes the program's failed read.
 use Rattle.std.proofs.Common.{rules}
 use Rattle.ring_door.proofs.fault.ProgramFaultFromLineFault.from.Goals as goal
 

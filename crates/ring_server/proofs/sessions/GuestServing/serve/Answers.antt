@@ -1,4 +1,5 @@
--- The session of this number gains what its seat gained, and leaves the seat settled or as it was.
+-- The session of this number gains the entries of its seat, and leaves the seat settled or
+-- unchanged.
 use Rattle.ring_server.proofs.Logging.{session_logged_as}
 use Rattle.ring_server.proofs.sessions.GuestServing.serve.Goals as goal
 

@@ -1,4 +1,4 @@
--- One thread less, and one more that handed over.
+-- One thread less, and one more result.
 use Rattle.std.proofs.Common.{arith}
 use Rattle.ring_service.proofs.Manning.{joins_more}
 use Rattle.ring_service.proofs.crew.Crew.join.Goals as goal

@@ -2,7 +2,7 @@ use Rattle.std.proofs.Common.{◌+◌, ◌≤◌, vec_len, vec_capacity}
 use Rattle.ring_service.proofs.Manning.{JoinsSome}
 use Rattle.ring_service.proofs.crew.Crew.join.Given as goal
 
--- each thread that has ended handed over, and there is room for what the others hand over
+-- each thread that has ended has its result here, and there is room for those of the others
 abbrev pub invariant-loop-thread : goal.invariant-loop-thread
 invariant-loop-thread g l = record {
   joins : JoinsSome l.fn.self.threads.items l.threads.items l.handed.items;

@@ -1,4 +1,4 @@
--- The thread that was started promised what this worker hands over.
+-- The thread that was started promised the result of this worker.
 use Rattle.std.proofs.Common.{ap, ◌∙◌}
 use Rattle.ring_service.proofs.crew.Crew.start.Goals as goal
 

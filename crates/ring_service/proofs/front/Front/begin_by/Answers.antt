@@ -1,4 +1,4 @@
--- The begins are by the charters that the access gave, or there are none.
+-- The begins have the charters that the access gave, or there are none.
 use Rattle.std.proofs.Common.{◌≡◌, ◌++◌, List, [], arith, refl, ap, ◌∙◌, inl, vec_len}
 use Rattle.ring_service.specs.declared.posts.Waiting.{Waiting}
 use Rattle.ring_service.specs.private.Posts.{begins_from}

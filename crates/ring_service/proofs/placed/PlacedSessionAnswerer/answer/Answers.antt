@@ -1,10 +1,11 @@
--- The answer to a line is what the access answers to the command that it spells, with its place counted from the base.
+-- The answer to a line is the access's answer to the command that it spells, with its place counted
+-- from the base.
 use Rattle.std.proofs.Common.{subst}
 use Rattle.ring_service.specs.private.Asking.{AsksCommand}
 use Rattle.ring_service.proofs.Placing.{places_line}
 use Rattle.ring_service.proofs.placed.PlacedSessionAnswerer.answer.Goals as goal
 
--- the place is below what the access says
+-- the place is below the bound of the access
 pub told-requires : goal.told-requires
 told-requires g c = (g.A.Access.most, c.answer.ensures.place, c.requires.1)
 

@@ -1,4 +1,4 @@
--- The begin that joins is for a worker that has a pass.
+-- The begin that is added is for a worker that has a pass.
 use Rattle.std.proofs.Common.{◌<◌, arith, vec_len}
 use Rattle.std.proofs.lemmas.Grind.{common_steps}
 use Rattle.std.proofs.lemmas.List.Elements.{All-push}

@@ -5,7 +5,8 @@ use Rattle.std.specs.VecDeque.{deque_capacity, deque_len}
 use Rattle.ring_service.specs.private.Posts.{begins_from}
 use Rattle.ring_service.proofs.posts.Posts.add.Given as goal
 
--- the begins so far and those of the charters that are left are those of all, and there is room for the others
+-- the begins so far and those of the charters that are left are all begins, and there is room for
+-- them
 abbrev pub invariant-loop-worker : goal.invariant-loop-worker
 invariant-loop-worker l = record {
   passes : l.self.passes ≡ l.fn.self.passes;

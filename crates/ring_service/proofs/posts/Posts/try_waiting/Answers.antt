@@ -1,4 +1,4 @@
--- What still waits did so before, for the same workers.
+-- A begin that still waits waited before, for the same worker.
 use Rattle.std.proofs.Common.{◌≡◌, ◌<◌, Some, length, slice_get, refl, arith, vec_len}
 use Rattle.std.proofs.lemmas.List.Elements.{All-drop, All-push}
 use Rattle.std.proofs.lemmas.Option.{slice_get_read}
@@ -41,7 +41,7 @@ pub index_mut-requires : goal.index_mut-requires
 index_mut-requires g c =
     all_first (λ begin. begin.worker < vec_len c.loop.self.passes) c.loop.self.waiting.items c.pop_front.new.self.items c.in-Some.field-0 c.in-Some.ensures.items c.loop.self.known
 
--- What goes on waiting is for the same worker.
+-- A begin that waits on is for the same worker.
 pub invariant_of-self-in-Some-put_begin : goal.invariant_of-self-in-Some-put_begin
 invariant_of-self-in-Some-put_begin g c =
     let within : c.in-Some.field-0.worker < vec_len c.loop.self.passes =

@@ -1,4 +1,4 @@
--- The reply to a line is what the access answers to the command that it spells.
+-- The reply to a line is the access's answer to the command that it spells.
 use Rattle.std.proofs.Common.{subst}
 use Rattle.ring_service.specs.private.Asking.{AsksCommand}
 use Rattle.ring_service.proofs.Replying.{answers_line}
