@@ -1,7 +1,7 @@
 //! The winners of worked rings. A call that ran out of memory is repeated once.
 
 use ring_any::Any;
-use ring_id::NodeId;
+use ring_id::{NodeId, Refusal};
 use ring_roster::Roster;
 use ring_winner::winner_of;
 use std::alloc::{AllocFailed, Global};
@@ -26,7 +26,10 @@ fn ring(rt: &impl Abort, alloc: Global, pairs: &[(u32, u16)]) -> Roster {
     }
     let ring = match Roster::from_members(alloc, &members) {
         Ok(ring) => ring,
-        Err(_) => Roster::from_members(alloc, &members).expect(rt, "no ring"),
+        Err(refusal) => {
+            assert_eq!(rt; refusal, Refusal::NoMemory);
+            Roster::from_members(alloc, &members).expect(rt, TWICE)
+        }
     };
     drop(members);
     ring
