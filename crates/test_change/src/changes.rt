@@ -17,15 +17,12 @@ const QUESTIONS: [&[u8]; 4] = [b"who a 3", b"members a", b"terms a", b"groups"];
 
 // Whether a command with this reply is a change, which is then spelled as the command.
 fn changes(rt: &impl Abort, line: &[u8], reply: &Reply) -> bool {
-    let Some(command) = parse_command(line) else {
-        assert!(rt; false);
-        return false;
-    };
+    let command = parse_command(line).expect(rt, "no command");
     let Some(change) = change_of(&command, reply) else {
         return false;
     };
     let spelled = spell_line(&change, &mut Check::new());
-    assert!(rt; spelled.as_slice().starts_with(line));
+    assert_eq!(rt; spelled.as_slice().get(..line.len()), Some(line));
     true
 }
 

@@ -45,11 +45,8 @@ const STRANGE: [&[u8]; 12] = [
 
 // Reads a line and spells it again.
 fn reads(rt: &impl Abort, line: &[u8], read: &mut Check, written: &mut Check) {
-    let Some(change) = read_line(line, read) else {
-        assert!(rt; false);
-        return;
-    };
-    assert!(rt; spell_line(&change, written).as_slice() == line);
+    let change = read_line(line, read).expect(rt, "no line");
+    assert_eq!(rt; spell_line(&change, written).as_slice(), line);
 }
 
 #[test]
@@ -62,7 +59,7 @@ fn a_journal_is_read_and_spelled_again(rt: HostRuntime) {
 
 #[test]
 fn the_longest_line_is_read(rt: HostRuntime) {
-    assert!(rt; LONGEST.len() == Line::LONGEST);
+    assert_eq!(rt; LONGEST.len(), Line::LONGEST);
     reads(&rt, LONGEST, &mut Check::new(), &mut Check::new());
 }
 
@@ -83,7 +80,7 @@ fn a_strange_line_spells_no_change(rt: HostRuntime) {
 #[test]
 fn the_check_is_that_of_zip_files(rt: HostRuntime) {
     let mark = Check::new().after(b"123456789").mark();
-    assert!(rt; mark.as_slice() == b" #cbf43926".as_slice());
+    assert_eq!(rt; mark.as_slice(), b" #cbf43926".as_slice());
 }
 
 // A text with room for one line. Asked for once more if memory was refused.
@@ -97,10 +94,7 @@ fn text(rt: &impl Abort, alloc: Global) -> Vec<u8> {
 #[test]
 fn a_line_is_put_behind_a_text(rt: HostRuntime) {
     let mut out = text(&rt, rt.alloc());
-    let Some(change) = parse_change(b"create a chang") else {
-        assert!(rt; false);
-        return;
-    };
-    assert!(rt; print_line(&change, &mut Check::new(), &mut out).is_ok());
-    assert!(rt; out.as_slice() == JOURNAL[0]);
+    let change = parse_change(b"create a chang").expect(&rt, "no change");
+    assert_eq!(rt; print_line(&change, &mut Check::new(), &mut out), Ok(()));
+    assert_eq!(rt; out.as_slice(), JOURNAL[0]);
 }
