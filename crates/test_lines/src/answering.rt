@@ -76,31 +76,25 @@ fn replayed<'a>(
     replay(alloc, &mut reader, &mut ToWrite(Telling { log }), 1000)
 }
 
-// Whether a mux that answers these pieces comes to so many lines, by these calls in this order. None where it doesn't and
-// was refused memory.
-fn comes(
-    rt: &impl Abort,
-    alloc: Global,
-    pieces: &[&[u8]],
-    lines: u64,
-    wanted: &[u8],
-) -> Option<bool> {
+// What a replay of these pieces comes to, and the calls that it makes, in order.
+fn logged(rt: &impl Abort, alloc: Global, pieces: &[&[u8]]) -> (Result<u64, LineFault>, Vec<u8>) {
     let log = RefCell::new(text(rt, alloc, 200));
     let answer = replayed(alloc, &log, pieces);
-    let log = log.into_inner();
-    let comes = answer == Ok(lines) && log.as_slice() == wanted;
-    let refused = answer == Err(LineFault::NoMemory) || tells_of_memory(&log);
-    drop(log);
-    if refused && !comes { None } else { Some(comes) }
+    (answer, log.into_inner())
 }
 
-// The same, tried again where memory was refused.
+// Stops the test if a replay of these pieces doesn't answer so many lines, by these calls in this order. It is tried
+// again if it ran out of memory.
 fn assert_order(rt: &(impl Abort + AllocGlobal), pieces: &[&[u8]], lines: u64, wanted: &[u8]) {
-    let mut come = comes(rt, rt.alloc(), pieces, lines, wanted);
-    if come.is_none() {
-        come = comes(rt, rt.alloc(), pieces, lines, wanted);
+    let (mut answer, mut log) = logged(rt, rt.alloc(), pieces);
+    let is_other = answer != Ok(lines) || log.as_slice() != wanted;
+    if is_other && is_refused(answer, &log) {
+        drop(log);
+        (answer, log) = logged(rt, rt.alloc(), pieces);
     }
-    assert!(rt; come == Some(true));
+    assert_eq!(rt; log.as_slice(), wanted);
+    assert_eq!(rt; answer, Ok(lines));
+    drop(log);
 }
 
 #[test]
@@ -176,32 +170,36 @@ impl Outlet for Measuring {
     }
 }
 
-// Whether the replies to these lines, which are read together and many times the page, are all written, in calls that
-// are no longer than it. None where they aren't and memory was refused, as to the writer.
-fn pass_the_page(alloc: Global, lines: &[u8], wanted: &[u8]) -> Option<bool> {
+// What a replay of these lines comes to, which are read together, and its writer.
+fn measured(alloc: Global, lines: &[u8]) -> (Result<u64, LineFault>, Measuring) {
     let mut writer = Measuring {
         text: Vec::new(alloc),
         longest: 0,
     };
     let answer = replay(alloc, &mut FromRead(lines), &mut writer, 1000);
-    let longest = writer.longest;
-    let whole = answer == Ok(500) && writer.text.as_slice() == wanted;
-    let failed = answer == Err(LineFault::NoMemory) || answer == Err(LineFault::Write);
-    let refused = failed || tells_of_memory(&writer.text);
-    drop(writer);
-    let pass = whole && longest <= 65536 && longest > 60000;
-    if refused && !pass { None } else { Some(pass) }
+    (answer, writer)
+}
+
+// Whether a replay that came to this ran out of memory, as its writer may.
+fn is_refused(answer: Result<u64, LineFault>, text: &[u8]) -> bool {
+    answer == Err(LineFault::NoMemory) || answer == Err(LineFault::Write) || tells_of_memory(text)
 }
 
 #[test]
 fn replies_to_one_read_may_be_longer_than_the_page(rt: HostRuntime) {
     let alloc = rt.alloc();
     let (lines, wanted) = (crowd(&rt, alloc), told(&rt, alloc));
-    let mut pass = pass_the_page(alloc, &lines, &wanted);
-    if pass.is_none() {
-        pass = pass_the_page(alloc, &lines, &wanted);
+    let (mut answer, mut writer) = measured(alloc, &lines);
+    if is_refused(answer, &writer.text) {
+        drop(writer);
+        (answer, writer) = measured(alloc, &lines);
     }
-    assert!(rt; pass == Some(true));
+    assert_eq!(rt; answer, Ok(500));
+    assert_eq!(rt; writer.text.as_slice(), wanted.as_slice());
+    // the replies are many times the page, and no call is longer than it
+    let longest = writer.longest;
+    assert!(rt; longest > 60000 && longest <= 65536, "{longest}");
     drop(lines);
     drop(wanted);
+    drop(writer);
 }

@@ -1,5 +1,6 @@
 use ring_config::{Config, ConfigFault, read_config};
 use std::alloc::Global;
+use std::process::Abort;
 
 // The configuration in a text; read again where memory is refused.
 fn read(alloc: Global, text: &[u8]) -> Result<Config, ConfigFault> {
@@ -9,30 +10,32 @@ fn read(alloc: Global, text: &[u8]) -> Result<Config, ConfigFault> {
     }
 }
 
-// Whether a text is read, and has these numbers.
-fn reads(alloc: Global, text: &[u8], workers: usize, inbox: usize, port: u16) -> bool {
-    match read(alloc, text) {
-        Ok(config) => config.workers == workers && config.inbox == inbox && config.port == port,
-        Err(_) => false,
-    }
+// Stops the test if a text is not the configuration with these numbers.
+fn reads(rt: &impl Abort, alloc: Global, text: &[u8], workers: usize, inbox: usize, port: u16) {
+    let wanted = Config {
+        workers,
+        inbox,
+        port,
+    };
+    assert_eq!(rt; read(alloc, text), Ok(wanted));
 }
 
 #[test]
 fn the_example_is_read(rt: HostRuntime) {
     let alloc = rt.alloc();
     let example = b"workers = 2\ninbox = 1024\nport = 7400\n";
-    assert!(rt; reads(alloc, example, 2, 1024, 7400));
+    reads(&rt, alloc, example, 2, 1024, 7400);
     let other = b"# a comment\nport = 7_400\r\n\"inbox\" = 0x400\nworkers=2";
-    assert!(rt; reads(alloc, other, 2, 1024, 7400));
+    reads(&rt, alloc, other, 2, 1024, 7400);
 }
 
 #[test]
 fn the_ends_of_the_ranges_are_read(rt: HostRuntime) {
     let alloc = rt.alloc();
     let least = b"workers = 1\ninbox = 1\nport = 1\n";
-    assert!(rt; reads(alloc, least, 1, 1, 1));
+    reads(&rt, alloc, least, 1, 1, 1);
     let most = b"workers = 8\ninbox = 65536\nport = 65535\n";
-    assert!(rt; reads(alloc, most, 8, 65536, 65535));
+    reads(&rt, alloc, most, 8, 65536, 65535);
 }
 
 #[test]
@@ -56,6 +59,6 @@ fn other_texts_are_bad(rt: HostRuntime) {
         b"workers: 2\ninbox: 1024\nport: 7400\n".as_slice(),
         b"workers = 2\ninbox = 1024\nport = 7400 # \xff\n".as_slice(),
     ] {
-        assert!(rt; matches!(read(rt.alloc(), text), Err(ConfigFault::Bad)));
+        assert_eq!(rt; read(rt.alloc(), text), Err(ConfigFault::Bad), "{text:?}");
     }
 }

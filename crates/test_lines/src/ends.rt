@@ -9,8 +9,8 @@ fn put_twice<W: Outlet>(out: &mut W) -> Result<(), WriteFailed> {
     put(out, b"ok\n")
 }
 
-// Whether that is answered so by a writer with so much room that fails at the call with this number, and leaves these
-// bytes there; the same for a writer of std.
+// Stops the test if that is not answered so by a writer with so much room that fails at the call with this number, or
+// leaves other bytes there; the same for a writer of std.
 fn is_put(
     rt: &impl Abort,
     alloc: Global,
@@ -18,24 +18,25 @@ fn is_put(
     fault_at: u64,
     answer: Result<(), WriteFailed>,
     taken: &[u8],
-) -> bool {
+) {
     let mut out = drip_out(rt, alloc, room, fault_at);
     let mut by_std = ToWrite(drip_out(rt, alloc, room, fault_at));
-    let answers = put_twice(&mut out) == answer && put_twice(&mut by_std) == answer;
-    let is_put = answers && out.taken() == taken && by_std.0.taken() == taken;
+    assert_eq!(rt; put_twice(&mut out), answer);
+    assert_eq!(rt; put_twice(&mut by_std), answer);
+    assert_eq!(rt; out.taken(), taken);
+    assert_eq!(rt; by_std.0.taken(), taken);
     drop(out);
     drop(by_std);
-    is_put
 }
 
 #[test]
 fn bytes_are_put_until_a_write_fails(rt: HostRuntime) {
     let alloc = rt.alloc();
-    assert!(rt; is_put(&rt, alloc, 100, 0, Ok(()), b"ok\nok\n"));
-    assert!(rt; is_put(&rt, alloc, 100, 5, Err(WriteFailed), b"ok\no"));
+    is_put(&rt, alloc, 100, 0, Ok(()), b"ok\nok\n");
+    is_put(&rt, alloc, 100, 5, Err(WriteFailed), b"ok\no");
 }
 
 #[test]
 fn a_writer_that_takes_no_byte_has_failed(rt: HostRuntime) {
-    assert!(rt; is_put(&rt, rt.alloc(), 2, 0, Err(WriteFailed), b"ok"));
+    is_put(&rt, rt.alloc(), 2, 0, Err(WriteFailed), b"ok");
 }

@@ -1,4 +1,4 @@
-use crate::memory::{add, tells_of_memory, text};
+use crate::memory::{TWICE, add, tells_of_memory, text};
 use ring_any::Any;
 use ring_any_traffic::AnyTraffic;
 use ring_grammar::{
@@ -58,13 +58,14 @@ fn put(reply: &Reply, text: &mut Vec<u8>) -> Result<(), SinkFailed> {
 fn lines_of(rt: &impl Abort, alloc: Global, replies: &[Reply]) -> Vec<u8> {
     let mut lines = text(rt, alloc, 300);
     for reply in replies {
-        assert!(rt; put(reply, &mut lines).is_ok());
+        assert_eq!(rt; put(reply, &mut lines), Ok(()));
     }
     lines
 }
 
-// Whether a mux answers these events in one list by the replies. None where it doesn't and was refused memory.
-fn are_answered(rt: &impl Abort, alloc: Global, events: &[Event<Any>]) -> Option<bool> {
+// The lines by which a mux answers these events in one list. None where they differ from the replies since it ran
+// out of memory.
+fn answered(rt: &impl Abort, alloc: Global, events: &[Event<Any>]) -> Option<Vec<u8>> {
     let mut mux: Mux<Any, AnyTraffic> = Mux::new(alloc).expect(rt, "no mux");
     let answered = mux.run(alloc, events);
     drop(mux);
@@ -72,14 +73,11 @@ fn are_answered(rt: &impl Abort, alloc: Global, events: &[Event<Any>]) -> Option
         Ok(replies) => {
             let lines = lines_of(rt, alloc, &replies);
             drop(replies);
-            let are_told = lines.as_slice() == REPLIES;
-            let refused = tells_of_memory(&lines);
-            drop(lines);
-            if refused && !are_told {
-                None
-            } else {
-                Some(are_told)
+            if lines.as_slice() != REPLIES && tells_of_memory(&lines) {
+                drop(lines);
+                return None;
             }
+            Some(lines)
         }
         Err(NoMemory) => None,
     }
@@ -89,10 +87,11 @@ fn are_answered(rt: &impl Abort, alloc: Global, events: &[Event<Any>]) -> Option
 fn a_list_of_events_is_answered_as_its_lines_are(rt: HostRuntime) {
     let alloc = rt.alloc();
     let events = events(&rt, alloc);
-    let mut answered = are_answered(&rt, alloc, &events);
-    if answered.is_none() {
-        answered = are_answered(&rt, alloc, &events);
-    }
-    assert!(rt; answered == Some(true));
+    let lines = match answered(&rt, alloc, &events) {
+        Some(lines) => lines,
+        None => answered(&rt, alloc, &events).expect(&rt, TWICE),
+    };
     drop(events);
+    assert_eq!(rt; lines.as_slice(), REPLIES);
+    drop(lines);
 }

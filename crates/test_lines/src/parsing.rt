@@ -35,12 +35,14 @@ const STRANGE: [&[u8]; 5] = [
 #[test]
 fn a_client_asks_by_commands_alone(rt: HostRuntime) {
     for line in &COMMANDS {
-        assert!(rt; parse_command(line).is_some());
+        assert!(rt; parse_command(line).is_some(), "{line:?}");
     }
     for line in &OTHERS {
-        assert!(rt; parse_event(line).is_some() && parse_command(line).is_none());
+        let is_read = (parse_event(line).is_some(), parse_command(line).is_some());
+        assert_eq!(rt; is_read, (true, false), "{line:?}");
     }
     for line in &STRANGE {
-        assert!(rt; parse_event(line).is_none() && parse_command(line).is_none());
+        let is_read = (parse_event(line).is_some(), parse_command(line).is_some());
+        assert_eq!(rt; is_read, (false, false), "{line:?}");
     }
 }

@@ -36,7 +36,8 @@ impl Sink for Pieces {
 // A reply is printed so.
 fn prints(rt: &impl Abort, alloc: Global, reply: Reply, wanted: &[u8]) {
     let mut out = text(rt, alloc, 64);
-    assert!(rt; print_reply(&reply, &mut out).is_ok() && out.as_slice() == wanted);
+    assert_eq!(rt; print_reply(&reply, &mut out), Ok(()));
+    assert_eq!(rt; out.as_slice(), wanted);
     drop(out);
     drop(reply);
 }
@@ -69,8 +70,10 @@ fn has_front(rt: &impl Abort, alloc: Global, reply: &Reply, room: usize) {
         bytes: Vec::new(alloc),
         room,
     };
-    assert!(rt; print_reply(reply, &mut out) == Err(SinkFailed));
-    assert!(rt; b"drained 0 left 3 no-memory".starts_with(&out.bytes));
+    assert_eq!(rt; print_reply(reply, &mut out), Err(SinkFailed));
+    let whole = b"drained 0 left 3 no-memory".as_slice();
+    assert_eq!(rt; whole.get(..out.bytes.len()), Some(out.bytes.as_slice()));
+    drop(out);
 }
 
 #[test]

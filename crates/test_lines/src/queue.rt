@@ -182,14 +182,12 @@ fn answered<'a, R: Wait + AllocGlobal>(
     )
 }
 
-// Whether these marks are noted while the lines of these pieces are answered by a text of so many bytes. None where memory
-// was refused.
-fn notes<R: Wait + Abort + AllocGlobal>(
+// What comes of the lines of these pieces, which are answered by a text of so many bytes, and the marks that are noted.
+fn noted<R: Wait + Abort + AllocGlobal>(
     rt: &R,
     pieces: &[&[u8]],
     len: usize,
-    wanted: &[u8],
-) -> Option<bool> {
+) -> (Result<u64, LineFault>, Vec<u8>) {
     let zeros = zeros(rt, rt.alloc(), len);
     let watched = Watched {
         door: Mutex::new(()),
@@ -197,28 +195,24 @@ fn notes<R: Wait + Abort + AllocGlobal>(
     };
     let answer = answered(rt, &watched, pieces, &zeros);
     drop(zeros);
-    let log = watched.log.into_inner();
-    let notes = answer.is_ok() && log.as_slice() == wanted;
-    drop(log);
-    if answer == Err(LineFault::NoMemory) {
-        None
-    } else {
-        Some(notes)
-    }
+    (answer, watched.log.into_inner())
 }
 
-// The same, tried again where memory was refused.
+// Stops the test if other marks are noted. It is tried again if it ran out of memory.
 fn assert_notes<R: Wait + Abort + AllocGlobal>(
     rt: &R,
     pieces: &[&[u8]],
     len: usize,
     wanted: &[u8],
 ) {
-    let mut noted = notes(rt, pieces, len, wanted);
-    if noted.is_none() {
-        noted = notes(rt, pieces, len, wanted);
+    let (mut answer, mut marks) = noted(rt, pieces, len);
+    if answer == Err(LineFault::NoMemory) {
+        drop(marks);
+        (answer, marks) = noted(rt, pieces, len);
     }
-    assert!(rt; noted == Some(true));
+    assert_eq!(rt; marks.as_slice(), wanted);
+    assert!(rt; answer.is_ok(), "{answer:?}");
+    drop(marks);
 }
 
 #[test]

@@ -1,5 +1,5 @@
 use crate::memory::{drip_out, tells_of_memory};
-use ring_lines::{DripIn, FromRead, LineFault, ToWrite};
+use ring_lines::{DripIn, DripOut, FromRead, LineFault, ToWrite};
 use ring_schedule::replay;
 use std::alloc::Global;
 use std::process::Abort;
@@ -28,46 +28,58 @@ fn whole(input: &[u8]) -> Given<'_> {
     }
 }
 
-// Whether a replay comes to this answer and writes these bytes; the same where its ends are a reader and a writer of std.
-// None where it doesn't and was refused memory.
-fn comes(
-    rt: &impl Abort,
-    alloc: Global,
-    given: Given,
-    answer: Result<u64, LineFault>,
-    written: &[u8],
-) -> Option<bool> {
+// What a replay comes to, and its writer.
+type Came = (Result<u64, LineFault>, DripOut);
+
+// A replay by these ends themselves.
+fn by_ends(rt: &impl Abort, alloc: Global, given: Given) -> Came {
     let mut reader = DripIn::new(given.input, given.read_fault);
     let mut writer = drip_out(rt, alloc, 100, given.write_fault);
-    let first = replay(alloc, &mut reader, &mut writer, given.reads);
+    let answer = replay(alloc, &mut reader, &mut writer, given.reads);
+    (answer, writer)
+}
+
+// A replay by a reader and a writer of std over these ends.
+fn by_std(rt: &impl Abort, alloc: Global, given: Given) -> Came {
     let mut reader = FromRead(DripIn::new(given.input, given.read_fault));
-    let mut by_std = ToWrite(drip_out(rt, alloc, 100, given.write_fault));
-    let second = replay(alloc, &mut reader, &mut by_std, given.reads);
-    let by_ends = (first, writer.taken()) == (answer, written);
-    let comes = by_ends && (second, by_std.0.taken()) == (answer, written);
-    let refused = is_refused(first, writer.taken()) || is_refused(second, by_std.0.taken());
-    drop(writer);
-    drop(by_std);
-    if refused && !comes { None } else { Some(comes) }
+    let mut writer = ToWrite(drip_out(rt, alloc, 100, given.write_fault));
+    let answer = replay(alloc, &mut reader, &mut writer, given.reads);
+    (answer, writer.0)
 }
 
-// Whether a replay that was answered so and wrote this was refused memory.
-fn is_refused(answer: Result<u64, LineFault>, written: &[u8]) -> bool {
-    answer == Err(LineFault::NoMemory) || tells_of_memory(written)
+// Whether a replay that comes to something else than this ran out of memory.
+fn is_refused(came: &Came, answer: Result<u64, LineFault>, written: &[u8]) -> bool {
+    let is_starved = came.0 == Err(LineFault::NoMemory) || tells_of_memory(came.1.taken());
+    is_starved && (came.0 != answer || came.1.taken() != written)
 }
 
-// The same, replayed again where memory was refused.
+// Stops the test if a replay came to something else than this.
+fn assert_came(rt: &impl Abort, came: Came, answer: Result<u64, LineFault>, written: &[u8]) {
+    assert_eq!(rt; came.0, answer);
+    assert_eq!(rt; came.1.taken(), written);
+    drop(came);
+}
+
+// Stops the test if a replay comes to something else, by these ends or by std. A replay that ran out of memory is
+// repeated.
 fn assert_comes(
     rt: &(impl Abort + AllocGlobal),
     given: Given,
     answer: Result<u64, LineFault>,
     written: &[u8],
 ) {
-    let mut come = comes(rt, rt.alloc(), given, answer, written);
-    if come.is_none() {
-        come = comes(rt, rt.alloc(), given, answer, written);
+    let mut came = by_ends(rt, rt.alloc(), given);
+    if is_refused(&came, answer, written) {
+        drop(came);
+        came = by_ends(rt, rt.alloc(), given);
     }
-    assert!(rt; come == Some(true));
+    assert_came(rt, came, answer, written);
+    let mut came = by_std(rt, rt.alloc(), given);
+    if is_refused(&came, answer, written) {
+        drop(came);
+        came = by_std(rt, rt.alloc(), given);
+    }
+    assert_came(rt, came, answer, written);
 }
 
 // The first bytes of a text.

@@ -1,5 +1,7 @@
+use crate::memory::TWICE;
 use ring_words::{Order, WordsFault, asks_version, not_text, read_words};
 use std::alloc::{AllocError, Global};
+use std::process::Abort;
 
 // The words of a command line, as the program gets them.
 fn words_of(alloc: Global, line: &str) -> Result<Vec<String>, AllocError> {
@@ -25,37 +27,38 @@ fn read_again(alloc: Global, line: &str) -> Result<Order, WordsFault> {
 }
 
 // What the user is told; asked for again where memory is refused.
-fn text_of(alloc: Global, error: &clap::Error) -> Result<String, AllocError> {
+fn text_of(rt: &impl Abort, alloc: Global, error: &clap::Error) -> String {
     match error.to_string(alloc) {
-        Ok(text) => Ok(text),
-        Err(_) => error.to_string(alloc),
+        Ok(text) => text,
+        Err(_) => error.to_string(alloc).expect(rt, TWICE),
     }
 }
 
-// Whether a command line asks for a replay.
-fn replays(alloc: Global, line: &str) -> bool {
+// Stops the test if a command line doesn't ask for a replay.
+fn replays(rt: &impl Abort, alloc: Global, line: &str) {
     let order = read_again(alloc, line);
-    let replays = matches!(order, Ok(Order::Replay));
+    assert!(rt; matches!(order, Ok(Order::Replay)), "{line}: {order:?}");
     drop(order);
-    replays
 }
 
 #[test]
 fn replay_is_an_order(rt: HostRuntime) {
     for line in ["ringd replay", "./ringd replay", "ringd replay --"] {
-        assert!(rt; replays(rt.alloc(), line), "{line}");
+        replays(&rt, rt.alloc(), line);
     }
 }
 
-// Whether a command line has so many clients served, by the file `x`.
-fn serves(alloc: Global, line: &str, wanted: u32) -> bool {
+// Stops the test if a command line doesn't have so many clients served, by the file `x`.
+fn serves(rt: &impl Abort, alloc: Global, line: &str, wanted: u32) {
     let order = read_again(alloc, line);
-    let serves = match &order {
-        Ok(Order::Serve { path, connections }) => path.as_str() == "x" && *connections == wanted,
-        _ => false,
-    };
+    match &order {
+        Ok(Order::Serve { path, connections }) => {
+            assert_eq!(rt; path.as_str(), "x", "{line}");
+            assert_eq!(rt; *connections, wanted, "{line}");
+        }
+        _ => panic!(rt; "{line}: {order:?}"),
+    }
     drop(order);
-    serves
 }
 
 #[test]
@@ -65,16 +68,16 @@ fn serve_names_a_file_and_a_number(rt: HostRuntime) {
         ("ringd serve --connections=64 x", 64),
         ("ringd serve --connections +1 -- x", 1),
     ] {
-        assert!(rt; serves(rt.alloc(), line, wanted), "{line}");
+        serves(&rt, rt.alloc(), line, wanted);
     }
 }
 
-// Whether a command line has clients served by the file `x`, so many at a time, each for so many silent seconds, and
-// with places if these are told, and campaigns at this port, if it isn't 0. The journal is the file `kept`, and there
-// is none if that is empty.
-fn runs(alloc: Global, line: &str, numbers: [u32; 3], tells: bool, kept: &str) -> bool {
+// Stops the test if a command line doesn't have clients served by the file `x`, so many at a time, each for so many
+// silent seconds, with places if these are told, and campaigns at this port, if it isn't 0. The journal is the file
+// `kept`, and there is none if that is empty.
+fn runs(rt: &impl Abort, alloc: Global, line: &str, numbers: [u32; 3], tells: bool, kept: &str) {
     let order = read_again(alloc, line);
-    let runs = match &order {
+    match &order {
         Ok(
             Order::Run {
                 path,
@@ -85,22 +88,21 @@ fn runs(alloc: Global, line: &str, numbers: [u32; 3], tells: bool, kept: &str) -
                 campaign,
             },
         ) => {
-            path.as_str() == "x"
-                && [*sessions, *idle, *campaign] == numbers
-                && *places == tells
-                && is_kept(journal, kept)
+            assert_eq!(rt; path.as_str(), "x", "{line}");
+            assert_eq!(rt; [*sessions, *idle, *campaign], numbers, "{line}");
+            assert_eq!(rt; *places, tells, "{line}");
+            assert_eq!(rt; file_of(journal), kept, "{line}");
         }
-        _ => false,
-    };
+        _ => panic!(rt; "{line}: {order:?}"),
+    }
     drop(order);
-    runs
 }
 
-// Whether the journal is this file, or none if that is empty.
-fn is_kept(journal: &Option<String>, kept: &str) -> bool {
+// The file of a journal, or the empty text if there is no journal.
+fn file_of(journal: &Option<String>) -> &str {
     match journal {
-        Some(file) => file.as_str() == kept,
-        None => kept.is_empty(),
+        Some(file) => file.as_str(),
+        None => "",
     }
 }
 
@@ -131,49 +133,42 @@ fn run_has_its_usual_numbers(rt: HostRuntime) {
             "",
         ),
     ] {
-        assert!(rt; runs(rt.alloc(), line, numbers, tells, kept), "{line}");
+        runs(&rt, rt.alloc(), line, numbers, tells, kept);
     }
 }
 
-// Whether a command line asks for what the journal `x` holds.
-fn shows(alloc: Global, line: &str) -> bool {
+// Stops the test if a command line doesn't ask for what the journal `x` holds.
+fn shows(rt: &impl Abort, alloc: Global, line: &str) {
     let order = read_again(alloc, line);
-    let shows = match &order {
-        Ok(Order::Journal { path }) => path.as_str() == "x",
-        _ => false,
-    };
+    match &order {
+        Ok(Order::Journal { path }) => assert_eq!(rt; path.as_str(), "x", "{line}"),
+        _ => panic!(rt; "{line}: {order:?}"),
+    }
     drop(order);
-    shows
 }
 
 #[test]
 fn journal_names_a_file(rt: HostRuntime) {
     for line in ["ringd journal x", "ringd journal -- x"] {
-        assert!(rt; shows(rt.alloc(), line), "{line}");
+        shows(&rt, rt.alloc(), line);
     }
 }
 
-// Whether a text is told that has this part.
-fn tells(alloc: Global, error: &clap::Error, part: &str) -> bool {
-    match text_of(alloc, error) {
-        Ok(text) => {
-            let tells = text.as_str().contains(part);
-            drop(text);
-            tells
-        }
-        Err(_) => false,
-    }
+// Stops the test if a text is told without this part.
+fn tells(rt: &impl Abort, alloc: Global, error: &clap::Error, part: &str) {
+    let text = text_of(rt, alloc, error);
+    assert!(rt; text.as_str().contains(part), "no {part} in {text}");
+    drop(text);
 }
 
-// Whether a command line is refused by a text that has this part.
-fn is_refused(alloc: Global, line: &str, part: &str) -> bool {
+// Stops the test if a command line isn't refused by a text that has this part.
+fn is_refused(rt: &impl Abort, alloc: Global, line: &str, part: &str) {
     let order = read_again(alloc, line);
-    let is_refused = match &order {
-        Err(WordsFault::Usage(error)) => tells(alloc, error, part),
-        _ => false,
-    };
+    match &order {
+        Err(WordsFault::Usage(error)) => tells(rt, alloc, error, part),
+        _ => panic!(rt; "{line}: {order:?}"),
+    }
     drop(order);
-    is_refused
 }
 
 #[test]
@@ -214,7 +209,7 @@ fn numbers_out_of_range_and_missing_words_are_refused(rt: HostRuntime) {
         "ringd journal x --places",
         "ringd serve --help",
     ] {
-        assert!(rt; is_refused(rt.alloc(), line, "--help"), "{line}");
+        is_refused(&rt, rt.alloc(), line, "--help");
     }
 }
 
@@ -234,54 +229,50 @@ fn other_words_are_refused_with_the_usage(rt: HostRuntime) {
         "ringd help replay",
         "ringd replay -h",
     ] {
-        assert!(rt; is_refused(rt.alloc(), line, "Usage: ringd"), "{line}");
+        is_refused(&rt, rt.alloc(), line, "Usage: ringd");
     }
 }
 
-// Whether bytes that are no text are refused by a text that has this part.
-fn refuses_bytes(alloc: Global, part: &str) -> Result<bool, AllocError> {
+// Stops the test if bytes that are no text aren't refused by a text that has this part.
+fn refuses_bytes(rt: &impl Abort, alloc: Global, part: &str) {
     let error = match not_text(alloc) {
         Ok(error) => error,
-        Err(_) => not_text(alloc)?,
+        Err(_) => not_text(alloc).expect(rt, TWICE),
     };
-    let tells = tells(alloc, &error, part);
+    tells(rt, alloc, &error, part);
     drop(error);
-    Ok(tells)
 }
 
 #[test]
 fn bytes_that_are_no_text_are_refused_with_the_usage(rt: HostRuntime) {
     for part in ["a word is not UTF-8 text", "Usage: ringd"] {
-        assert!(rt; refuses_bytes(rt.alloc(), part) == Ok(true), "{part}");
+        refuses_bytes(&rt, rt.alloc(), part);
     }
 }
 
-// Whether a command line asks for the version, and is told it.
-fn tells_version(alloc: Global, line: &str) -> bool {
+// Stops the test if a command line doesn't ask for the version, or isn't told it alone.
+fn tells_version(rt: &impl Abort, alloc: Global, line: &str) {
     let order = read_again(alloc, line);
-    let tells = match &order {
-        Err(WordsFault::Usage(error)) => asks_version(error) && is_version(alloc, error),
-        _ => false,
-    };
+    match &order {
+        Err(WordsFault::Usage(error)) => {
+            assert!(rt; asks_version(error), "{line}");
+            is_version(rt, alloc, error);
+        }
+        _ => panic!(rt; "{line}: {order:?}"),
+    }
     drop(order);
-    tells
 }
 
-// Whether the version is told, and nothing else.
-fn is_version(alloc: Global, error: &clap::Error) -> bool {
-    match text_of(alloc, error) {
-        Ok(text) => {
-            let is_version = text.as_str() == "ringd 1.0.0\n";
-            drop(text);
-            is_version
-        }
-        Err(_) => false,
-    }
+// Stops the test if the version is not told, or something else.
+fn is_version(rt: &impl Abort, alloc: Global, error: &clap::Error) {
+    let text = text_of(rt, alloc, error);
+    assert_eq!(rt; text.as_str(), "ringd 1.0.0\n");
+    drop(text);
 }
 
 #[test]
 fn the_version_is_told(rt: HostRuntime) {
     for line in ["ringd --version", "ringd -V", "ringd --version replay"] {
-        assert!(rt; tells_version(rt.alloc(), line), "{line}");
+        tells_version(&rt, rt.alloc(), line);
     }
 }
