@@ -125,9 +125,9 @@ fn a_falling_ring_reaches_the_bound_of_chang(rt: HostRuntime) {
 
 /// Each of these rows has at most so many messages.
 fn take_at_most(rt: &impl Abort, rows: &[Row], bounds: &[u32]) {
-    assert!(rt; rows.len() == bounds.len());
+    assert_eq!(rt; rows.len(), bounds.len());
     for (row, bound) in rows.iter().zip(bounds) {
-        assert!(rt; row.1 <= *bound);
+        assert!(rt; row.1 <= *bound, "{} is above {bound}", row.1);
     }
 }
 

@@ -13,7 +13,7 @@ fn alone<T: Drop>(rt: &impl Abort, alloc: Global) -> (ReceiverPass<T>, SenderPas
     ensures { result.1.inbox ≡ result.0.inbox }
 {
     let (receiver, mut senders) = inbox::<T>(alloc, 2, 1).expect(rt, "no memory");
-    assert!(rt; senders.len() == 1);
+    assert_eq!(rt; senders.len(), 1);
     let sender = senders.remove(0);
     drop(senders);
     (receiver, sender)

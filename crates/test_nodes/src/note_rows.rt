@@ -2,11 +2,12 @@
 //! the same of the same news.
 
 use crate::equal::equal;
+use crate::memory::TWICE;
 use crate::rings::{identity, name};
 use crate::worlds::{begun_on, delivery};
 use ring_chang::Chang;
 use ring_election::RingElection;
-use ring_id::{GroupName, NodeId};
+use ring_id::{GroupName, NodeId, Refusal};
 use ring_node::{Charter, Report};
 use ring_terms::{Book, Noting, TermList};
 use ring_world::{Delivery, World};
@@ -14,7 +15,7 @@ use std::alloc::Global;
 use std::process::Abort;
 use std::sync::Arc;
 
-/// A group is created. Asked for once more where it was refused, as all that follows.
+/// A group is created. A call that ran out of memory is repeated once, as all that follow.
 fn create<E: RingElection>(
     rt: &impl Abort,
     alloc: Global,
@@ -22,16 +23,20 @@ fn create<E: RingElection>(
     group: GroupName,
     algorithm: E,
 ) {
-    if book.create(alloc, group, algorithm).is_err() {
-        book.create(alloc, group, algorithm).expect(rt, "no group");
-    }
+    let created = match book.create(alloc, group, algorithm) {
+        Err(Refusal::NoMemory) => book.create(alloc, group, algorithm),
+        created => created,
+    };
+    equal(rt, "a group", created, Ok(()));
 }
 
 /// A member joins.
 fn join<E: RingElection>(rt: &impl Abort, book: &mut Book<E>, group: GroupName, node: NodeId) {
-    if book.join(group, node).is_err() {
-        book.join(group, node).expect(rt, "no member");
-    }
+    let joined = match book.join(group, node) {
+        Err(Refusal::NoMemory) => book.join(group, node),
+        joined => joined,
+    };
+    equal(rt, "a member", joined, Ok(()));
 }
 
 /// A term starts.
@@ -43,7 +48,10 @@ fn start<E: RingElection>(
 ) -> Arc<Charter<E>> {
     match book.start(alloc, group) {
         Ok(charter) => charter,
-        Err(_) => book.start(alloc, group).expect(rt, "no term"),
+        Err(refusal) => {
+            equal(rt, "why there is no term", refusal, Refusal::NoMemory);
+            book.start(alloc, group).expect(rt, TWICE)
+        }
     }
 }
 
@@ -56,7 +64,10 @@ fn terms<E: RingElection>(
 ) -> TermList {
     match book.terms(alloc, group) {
         Ok(terms) => terms,
-        Err(_) => book.terms(alloc, group).expect(rt, "no terms"),
+        Err(refusal) => {
+            equal(rt, "why there are no terms", refusal, Refusal::NoMemory);
+            book.terms(alloc, group).expect(rt, TWICE)
+        }
     }
 }
 
@@ -92,7 +103,7 @@ fn report<E: RingElection>(rt: &impl Abort, alloc: Global, charter: &Arc<Charter
     let mut world = begun_on(rt, alloc, charter);
     let report = first_report(rt, &mut world);
     drop(world);
-    assert!(rt; report.member().get() == 3);
+    equal(rt, "the member", report.member().get(), 3);
     report
 }
 

@@ -1,8 +1,9 @@
 //! The identities and rings of the rows, and their charters. What is refused memory is asked for once more.
 
+use crate::equal::equal;
 use crate::memory::{TWICE, add};
 use ring_election::RingElection;
-use ring_id::{GroupName, NoMemory, NodeId, TermNo};
+use ring_id::{GroupName, NoMemory, NodeId, Refusal, TermNo};
 use ring_node::Charter;
 use ring_roster::Roster;
 use std::alloc::Global;
@@ -54,7 +55,10 @@ pub fn ring(rt: &impl Abort, alloc: Global, numbers: &[u32]) -> Roster {
     let members = identities(rt, alloc, numbers);
     let ring = match Roster::from_members(alloc, &members) {
         Ok(ring) => ring,
-        Err(_) => Roster::from_members(alloc, &members).expect(rt, "no ring"),
+        Err(refusal) => {
+            equal(rt, "why there is no ring", refusal, Refusal::NoMemory);
+            Roster::from_members(alloc, &members).expect(rt, TWICE)
+        }
     };
     drop(members);
     ring

@@ -91,7 +91,7 @@ fn a_ring_shows_its_members_and_neighbours(rt: HostRuntime) {
     let three = ring(&rt, alloc, &[3, 1, 2]);
     let one = identity(&rt, 1).number();
     let four = identity(&rt, 4).number();
-    assert!(rt; three.len() == 3);
+    assert_eq!(rt; three.len(), 3);
     let members = [three.at(2), three.at(3)];
     equal(&rt, "members", members, [NodeId::new(2), None]);
     let positions = [three.position(one), three.position(four)];

@@ -101,7 +101,7 @@ fn goes<E: Digits>(rt: &impl Abort, alloc: Global, kind: E, legs: &[Leg]) -> usi
         }
         takes(rt, &mut world, leg);
     }
-    assert!(rt; world.ready().is_none());
+    equal(rt, "the ready link", world.ready(), None);
     drop(world);
     first
 }
@@ -120,7 +120,8 @@ fn the_worked_schedule(rt: HostRuntime) {
         (0, Did::Idle, [0, 0, 0]),
     ];
     // the first three are on other links, and the last is where nothing is in flight
-    assert!(rt; goes(&rt, rt.alloc(), Any::Chang, &legs) == 5);
+    let first = goes(&rt, rt.alloc(), Any::Chang, &legs);
+    equal(&rt, "legs of a drain", first, 5);
 }
 
 #[test]
@@ -142,5 +143,6 @@ fn the_worked_order_of_a_drain(rt: HostRuntime) {
         (0, Did::Told(1), [0, 4, 0]),
         (1, Did::Moved, [0, 0, 0]),
     ];
-    assert!(rt; goes(&rt, rt.alloc(), Any::Peterson, &legs) == 15);
+    let first = goes(&rt, rt.alloc(), Any::Peterson, &legs);
+    equal(&rt, "legs of a drain", first, 15);
 }

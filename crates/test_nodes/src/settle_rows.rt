@@ -1,5 +1,6 @@
 //! When nodes of the election of Chang and Roberts on 3, 1, 2 have settled.
 
+use crate::equal::equal;
 use crate::memory::add;
 use crate::nodes::{envelope, offer, seated};
 use crate::rings::charter;
@@ -13,34 +14,43 @@ use std::alloc::Global;
 use std::process::Abort;
 use std::sync::Arc;
 
-/// Whether nodes of a charter have settled.
-fn have_settled<E: RingElection>(charter: &Charter<E>, nodes: &[Node<E>]) -> bool {
-    settle(charter, nodes) == Settlement::Settled
+/// Stops the test if nodes of a charter have settled otherwise.
+fn settles_as<E: RingElection>(
+    rt: &impl Abort,
+    charter: &Charter<E>,
+    nodes: &[Node<E>],
+    wanted: Settlement,
+) {
+    equal(rt, "the nodes", settle(charter, nodes), wanted);
 }
 
-/// Whether the world of an election on 3, 1, 2 has settled after so many deliveries, by so many of its nodes.
-fn is_settled(
+/// How the world of an election on 3, 1, 2 has settled after so many deliveries, by so many of its nodes.
+fn settlement(
     rt: &impl Abort,
     alloc: Global,
     algorithm: impl RingElection,
     deliveries: u32,
     nodes: usize,
-) -> bool {
+) -> Settlement {
     let mut world = begun(rt, alloc, algorithm, &[3, 1, 2]);
     drained(rt, &mut world, deliveries);
     let nodes = world.nodes().get(..nodes).expect(rt, "no such nodes");
-    let is_settled = have_settled(world.charter(), nodes);
+    let settlement = settle(world.charter(), nodes);
     drop(world);
-    is_settled
+    settlement
 }
 
 #[test]
 fn all_nodes_settle_with_the_last_delivery(rt: HostRuntime) {
-    for deliveries in 0..9 {
-        assert!(rt; is_settled(&rt, rt.alloc(), Chang, deliveries, 3) == (deliveries == 8));
+    for deliveries in 0..8 {
+        let found = settlement(&rt, rt.alloc(), Chang, deliveries, 3);
+        equal(&rt, "before the last", found, Settlement::Incomplete);
     }
+    let found = settlement(&rt, rt.alloc(), Chang, 8, 3);
+    equal(&rt, "after the last", found, Settlement::Settled);
     for nodes in 0..3 {
-        assert!(rt; !is_settled(&rt, rt.alloc(), Chang, 8, nodes));
+        let found = settlement(&rt, rt.alloc(), Chang, 8, nodes);
+        equal(&rt, "without all nodes", found, Settlement::Incomplete);
     }
 }
 
@@ -87,10 +97,10 @@ fn doubled_nodes(
 fn nodes_by_themselves_settle_and_a_double_does_not(rt: HostRuntime) {
     let charter = charter(&rt, rt.alloc(), 1, Chang, &[3, 1, 2]);
     let nodes = settled_nodes(&rt, rt.alloc(), &charter);
-    assert!(rt; have_settled(&charter, &nodes));
+    settles_as(&rt, &charter, &nodes, Settlement::Settled);
     drop(nodes);
     let nodes = doubled_nodes(&rt, rt.alloc(), &charter);
-    assert!(rt; !have_settled(&charter, &nodes));
+    settles_as(&rt, &charter, &nodes, Settlement::Incomplete);
     drop(nodes);
     drop(charter);
 }

@@ -1,6 +1,7 @@
 //! How much work a ring takes: every ring becomes quiet, with a leader that all know, within the
 //! bound on messages of its algorithm and one announcement for each position.
 
+use crate::equal::equal;
 use crate::memory::add;
 use crate::worlds::{begun, drained};
 use ring_any::Any;
@@ -29,9 +30,9 @@ fn sized<E: RingElection>(rt: &impl Abort, alloc: Global, kind: E, size: u16) ->
 
 /// Nothing is in flight in a world, and all know this leader.
 fn all_know<E: RingElection>(rt: &impl Abort, world: &World<E>, leader: Option<NodeId>) {
-    assert!(rt; world.pending() == 0);
+    equal(rt, "in flight", world.pending(), 0);
     for node in world.nodes() {
-        assert!(rt; node.known() == leader);
+        equal(rt, "the leader", node.known(), leader);
     }
 }
 

@@ -26,13 +26,14 @@ const COURSE: Course = Course {
     filed: Filed::Noted,
 };
 
-/// Whether a worker stopped with a settled ring, or was starved before that; either way nothing was dropped.
-fn is_whole_or_starved(end: &End) -> bool {
+/// Stops the test if a worker neither stopped with a settled ring nor was starved before that, or if it dropped an item.
+fn is_whole_or_starved(rt: &impl Abort, end: &End) {
     let wanted = match end.why {
         Why::Starved => Settlement::Incomplete,
         _ => Settlement::Settled,
     };
-    end.dropped == 0 && end.settlement == wanted
+    equal(rt, "the ring", end.settlement, wanted);
+    equal(rt, "dropped items", end.dropped, 0);
 }
 
 /// Whether a worker that was refused memory in the middle of the charter has each node that it had seated by then: of
@@ -54,9 +55,9 @@ fn begins_its_peer(node: &Node<LeLann>, whole: &[Node<LeLann>]) -> bool {
 /// What the nodes of one run received is a first part of what those of another received, which met no refusal.
 fn is_first_part(rt: &impl Abort, part: &Run<LeLann>, whole: &Run<LeLann>) {
     equal(rt, "why the whole run ended", whole.end.why, Why::Stopped);
-    assert!(rt; is_whole_or_starved(&whole.end));
-    assert!(rt; is_whole_or_starved(&part.end));
-    assert!(rt; has_what_it_seated(&part.end));
+    is_whole_or_starved(rt, &whole.end);
+    is_whole_or_starved(rt, &part.end);
+    assert!(rt; has_what_it_seated(&part.end), "{:?}", part.end);
     for node in &part.nodes {
         assert!(rt; begins_its_peer(node, &whole.nodes));
     }

@@ -74,7 +74,8 @@ fn begun<E: RingElection, R: Abort + Wait>(
 
 /// Exchanges a pass of two workers that have two each, all to their own inbox: then each has one to each inbox.
 fn exchange<T>(rt: &impl Abort, zero: &mut Vec<T>, one: &mut Vec<T>) {
-    assert!(rt; zero.len() == WORKERS && one.len() == WORKERS);
+    assert_eq!(rt; zero.len(), WORKERS);
+    assert_eq!(rt; one.len(), WORKERS);
     mem::swap(&mut zero[1], &mut one[0]);
 }
 
