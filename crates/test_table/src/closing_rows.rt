@@ -4,7 +4,7 @@ ghost use Rattle.std.specs.Prelude.{◌≡◌, ◌^◌, ◌<◌, []};
 ghost use Rattle.ring_turn.specs.Seats.{IsSameSeat, fresh_seats};
 
 use crate::memory::{TWICE, with_room};
-use crate::rings_of_one::{Spelled, elect, is_spelled, told_by};
+use crate::rings_of_one::{Spelled, elect, is_line, told_by};
 use ring_any::Any;
 use ring_election::RingElection;
 use ring_id::{GroupName, Refusal};
@@ -79,7 +79,7 @@ fn tells<E: Spelled, R: Wait + Abort>(
         Answer::Unplaced(Refusal::NoMemory) => ask(rt, lock, seat, line.0, line.1),
         answer => answer,
     };
-    assert!(rt; is_spelled(rt, alloc, &answer, told));
+    is_line(rt, alloc, &answer, told);
     drop(answer);
 }
 
@@ -98,7 +98,7 @@ fn starts<E: RingElection, R: Wait + Abort>(
         (Answer::Unplaced(Refusal::NoMemory), _) => lock.begin(rt, seat, 1, group, 1),
         started => started,
     };
-    assert!(rt; is_spelled(rt, alloc, &answer, b"3 term 1\n"));
+    is_line(rt, alloc, &answer, b"3 term 1\n");
     drop(answer);
     charters
 }
@@ -118,7 +118,7 @@ fn files<E: RingElection, R: Wait + Abort>(
         Filed::Refused(Refusal::NoMemory) => lock.report(rt, seat, report),
         filed => filed,
     };
-    assert!(rt; filed == became);
+    assert_eq!(rt; filed, became);
 }
 
 // The report of the one member of the group `a`, whose term starts at the third place.
@@ -134,7 +134,7 @@ fn elected<E: Spelled, R: Wait + Abort>(
     tells(rt, alloc, lock, seat, (1, b"create a chang"), b"1 ok\n");
     tells(rt, alloc, lock, seat, (1, b"join a 7"), b"2 ok\n");
     let charters = starts(rt, alloc, lock, seat);
-    assert!(rt; charters.len() == 1);
+    assert_eq!(rt; charters.len(), 1);
     let node = elect(rt, alloc, &charters[0]);
     drop(charters);
     let report = told_by(rt, &node);
@@ -160,10 +160,11 @@ fn eight_calls<E: Spelled, R: Wait + Abort>(rt: &R, alloc: Global) -> usize {
 
 #[test]
 fn eight_calls_of_a_seat_leave_eight_entries(rt: HostRuntime) {
-    assert!(rt; eight_calls::<Any, HostRuntime>(&rt, rt.alloc()) == 8);
+    assert_eq!(rt; eight_calls::<Any, HostRuntime>(&rt, rt.alloc()), 8);
 }
 
-// Whether a line of session 1 is answered so, with its place. None where memory is refused, which uses a turn.
+// A line of session 1 is answered so, with its place, unless it is refused memory, which uses a turn: whether it is
+// answered.
 fn is_told<E: Spelled, R: Wait + Abort>(
     rt: &R,
     alloc: Global,
@@ -171,15 +172,17 @@ fn is_told<E: Spelled, R: Wait + Abort>(
     seat: &mut Seat<E>,
     line: &[u8],
     told: &[u8],
-) -> Option<bool>
+) -> bool
     requires { seat.old.lock ≡ lock.now.id }
     ensures { IsSameSeat seat.old seat.new }
 {
     let answer = ask(rt, lock, seat, 1, line);
-    let is_told = is_spelled(rt, alloc, &answer, told);
     let is_refused = matches!(answer, Answer::Unplaced(Refusal::NoMemory));
+    if !is_refused {
+        is_line(rt, alloc, &answer, told);
+    }
     drop(answer);
-    if is_refused { None } else { Some(is_told) }
+    !is_refused
 }
 
 // A seat with two turns has them: how many entries they leave. None where a call is refused memory.
@@ -190,7 +193,7 @@ fn two_turns<E: Spelled, R: Wait + Abort>(rt: &R, alloc: Global) -> Option<usize
     let created = is_told(rt, alloc, &lock, &mut seat, b"create a chang", b"1 ok\n");
     let early = seat.is_spent();
     let joined = is_told(rt, alloc, &lock, &mut seat, b"join a 5", b"2 ok\n");
-    assert!(rt; seat.is_spent() && !early);
+    assert_eq!(rt; [early, seat.is_spent()], [false, true]);
     let spent = is_told(
         rt,
         alloc,
@@ -199,13 +202,13 @@ fn two_turns<E: Spelled, R: Wait + Abort>(rt: &R, alloc: Global) -> Option<usize
         b"members a",
         b"- no seat-spent\n",
     );
-    assert!(rt; spent == Some(true));
+    assert!(rt; spent);
     let entries = entries_of(rt, alloc, lock, seat);
-    if created.is_none() || joined.is_none() {
-        return None;
+    if created && joined {
+        Some(entries)
+    } else {
+        None
     }
-    assert!(rt; created == Some(true) && joined == Some(true));
-    Some(entries)
 }
 
 // The same, once more where memory was refused.
@@ -219,5 +222,8 @@ fn entries_of_two_turns<E: Spelled, R: Wait + Abort>(rt: &R, alloc: Global) -> O
 
 #[test]
 fn a_seat_has_as_many_turns_as_it_was_given(rt: HostRuntime) {
-    assert!(rt; entries_of_two_turns::<Any, HostRuntime>(&rt, rt.alloc()) == Some(2));
+    assert_eq!(rt;
+        entries_of_two_turns::<Any, HostRuntime>(&rt, rt.alloc()),
+        Some(2)
+    );
 }

@@ -40,8 +40,8 @@ fn known<E: RingElection>(table: &Table<E>) -> usize {
 fn finish_known<E: RingElection>(rt: &impl Abort, table: &mut Table<E>, nodes: &[Node<E>]) {
     let (before, told) = (table.history().len(), known(table));
     assert!(rt; table.finish(nodes).is_ok());
-    assert!(rt; known(table) == told.saturating_add(4));
-    assert!(rt; table.history().len() == before.saturating_add(4));
+    assert_eq!(rt; known(table), told.saturating_add(4));
+    assert_eq!(rt; table.history().len(), before.saturating_add(4));
 }
 
 // Two workers that must both run decide the term of four members that they were told of: all come to rest, and the table
@@ -111,7 +111,7 @@ fn started<E: Spelled>(rt: &impl Abort, alloc: Global) -> (Table<E>, Vec<Arc<Cha
     let group = GroupName::from_bytes(b"a").expect(rt, "no name");
     let (reply, charters) = table.begin(1, group, 1);
     drop(reply);
-    assert!(rt; charters.len() == 1);
+    assert_eq!(rt; charters.len(), 1);
     (table, charters)
 }
 
@@ -189,7 +189,8 @@ fn all_begun<E: RingElection>(
     for number in 0..20 {
         let group = group_of(rt, alloc, number);
         for worker in [0, 1] {
-            assert!(rt; has_node(nodes, group, worker) || waits(waiting, group, worker));
+            let is_begun = has_node(nodes, group, worker) || waits(waiting, group, worker);
+            assert!(rt; is_begun, "group {number}, worker {worker}");
         }
     }
 }

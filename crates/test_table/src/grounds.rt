@@ -163,7 +163,7 @@ impl Ground {
         let mut writer = ToWrite(Vec::new(alloc));
         let served = self.serves(rt, session, &mut FromRead(lines), &mut writer, 1000);
         assert!(rt; served.is_ok());
-        assert!(rt; writer.0.as_slice() == told);
+        assert_eq!(rt; writer.0.as_slice(), told);
         drop(writer);
     }
 

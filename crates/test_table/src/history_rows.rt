@@ -56,6 +56,7 @@ fn has_calls<E: RingElection>(history: &History<E>, count: u32) -> bool {
 fn stand_in_order<E: RingElection>(rt: &impl Abort, alloc: Global) {
     let group = GroupName::from_bytes(b"a").expect(rt, "no name");
     let mut table = Table::<E>::new(alloc);
+    assert_eq!(rt; table.history().len(), 0);
     assert!(rt; table.history().is_empty() && table.history().last().is_none());
     ask(rt, &mut table, group, 1..8193);
     // a full chunk ends the history

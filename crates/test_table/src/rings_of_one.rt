@@ -25,12 +25,12 @@ impl Spelled for Any {
     }
 }
 
-/// Whether a reply or an answer is spelled by this line.
-pub fn is_spelled<S: Spell>(rt: &impl Abort, alloc: Global, told: &S, line: &[u8]) -> bool {
+/// Stops the test if a reply or an answer is spelled by another line.
+pub fn is_line<S: Spell>(rt: &impl Abort, alloc: Global, told: &S, line: &[u8]) {
     let mut text = with_room(rt, alloc, 64);
-    let is_spelled = told.spell(&mut text).is_ok() && text.as_slice() == line;
+    assert_eq!(rt; told.spell(&mut text), Ok(()));
+    assert_eq!(rt; text.as_slice(), line);
     drop(text);
-    is_spelled
 }
 
 /// The node of the one member of a charter's ring, which has received nothing.
@@ -39,7 +39,7 @@ fn seated_once<E: RingElection>(
     alloc: Global,
     charter: &Arc<Charter<E>>,
 ) -> Result<Node<E>, NoMemory> {
-    assert!(rt; charter.roster().len() == 1);
+    assert_eq!(rt; charter.roster().len(), 1);
     Node::seat(alloc, Arc::try_clone(charter).expect(rt, "no copy"), 0)
 }
 

@@ -3,7 +3,7 @@
 ghost use Rattle.std.specs.Prelude.{◌≡◌, ◌*◌, ◌^◌, ◌<◌};
 
 use crate::memory::TWICE;
-use crate::rings_of_one::{Spelled, elect, is_spelled, told_by};
+use crate::rings_of_one::{Spelled, elect, is_line, told_by};
 use ring_any::Any;
 use ring_election::RingElection;
 use ring_id::{GroupName, NoMemory, Refusal};
@@ -54,7 +54,7 @@ impl<E: Spelled, A: Access<E> + Drop> Bench<E, A> {
             }
             answer => answer,
         };
-        assert!(rt; is_spelled(rt, alloc, &answer, told));
+        is_line(rt, alloc, &answer, told);
         drop(answer);
     }
 
@@ -73,7 +73,7 @@ impl<E: Spelled, A: Access<E> + Drop> Bench<E, A> {
             started = self.access.begin(rt, &mut self.seat, 1, group, 1);
         }
         let (answer, charters) = started;
-        assert!(rt; is_spelled(rt, alloc, &answer, told));
+        is_line(rt, alloc, &answer, told);
         drop(answer);
         charters
     }
@@ -87,7 +87,7 @@ impl<E: Spelled, A: Access<E> + Drop> Bench<E, A> {
             }
             filed => filed,
         };
-        assert!(rt; filed == became);
+        assert_eq!(rt; filed, became);
     }
 }
 
@@ -103,7 +103,7 @@ fn begin<E: Spelled, R: Wait + Abort, A: Access<E> + Drop>(
     bench.tells(rt, alloc, 1, b"create a chang", b"2 ok\n");
     bench.tells(rt, alloc, 1, b"join a 7", b"3 ok\n");
     let one = bench.starts(rt, alloc, b"4 term 1\n");
-    assert!(rt; one.len() == 1);
+    assert_eq!(rt; one.len(), 1);
     let node = elect(rt, alloc, &one[0]);
     drop(one);
     let report = told_by(rt, &node);
@@ -184,7 +184,7 @@ fn under_lock<E: RingElection>(rt: &impl Abort, alloc: Global) -> Bench<E, Locke
 fn row_in_turn<E: Spelled, R: Wait + Abort>(rt: &R, alloc: Global) {
     // a call that is refused memory uses a turn: the one behind the ten
     let (seat, again) = row(rt, alloc, in_turn::<E>(rt, alloc, 11));
-    assert!(rt; seat.is_spent() == again);
+    assert_eq!(rt; seat.is_spent(), again);
     drop(seat);
 }
 

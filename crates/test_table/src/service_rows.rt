@@ -32,9 +32,9 @@ fn a_service_answers_each_line_and_hands_over(rt: HostRuntime) {
     ground.tells(&rt, alloc, 1, FIRST, FIRST_TOLD);
     ground.tells(&rt, alloc, 2, SECOND, SECOND_TOLD);
     let ended = ground.end(&rt);
-    assert!(rt; ended.handed.len() == 1);
-    assert!(rt; ended.waiting.is_empty());
-    assert!(rt; calls(&ended.table) == 6);
+    assert_eq!(rt; ended.handed.len(), 1);
+    assert_eq!(rt; ended.waiting.len(), 0);
+    assert_eq!(rt; calls(&ended.table), 6);
     drop(ended);
 }
 
@@ -44,7 +44,7 @@ fn a_service_that_ends_leaves_nothing(rt: HostRuntime) {
     let alloc = rt.alloc();
     let made = LockedTable::new(alloc, Table::<Any>::new(alloc), 3);
     let (table, seats) = made.expect(&rt, "no table");
-    assert!(rt; seats.len() == 3);
+    assert_eq!(rt; seats.len(), 3);
     let access = shared(&rt, alloc, table);
     let copy = Arc::try_clone(&access).expect(&rt, "no copy");
     let service = Service::new(&rt, alloc, copy, seats, 3, 1);

@@ -23,16 +23,8 @@ struct Drip<'a> {
     reads: u32,
 }
 
-/// How a session came out.
-#[derive(Clone, Copy, PartialEq, Eq)]
-enum Came {
-    /// As it must.
-    Right,
-    /// It was refused memory, or may have been.
-    Refused,
-    /// Otherwise.
-    Wrong,
-}
+// What a session comes to, and its writer.
+type Came = (Result<u64, LineFault>, DripOut);
 
 // A writer that fails at the call with this number. Asked for once more where memory was refused.
 fn writer(rt: &impl Abort, alloc: Global, fault_at: u64) -> DripOut {
@@ -62,59 +54,58 @@ where
     served
 }
 
-// How a session came out that was answered so and told this.
-fn outcome(
-    answer: Result<u64, LineFault>,
-    told: &[u8],
-    wanted: Result<u64, LineFault>,
-    replies: &[u8],
-) -> Came {
-    if answer == wanted && told == replies {
-        return Came::Right;
-    }
-    if answer == Err(LineFault::NoMemory) || tells_of_memory(told) {
-        return Came::Refused;
-    }
-    Came::Wrong
+// Whether a session that came to something else than this ran out of memory.
+fn is_refused(came: &Came, wanted: Result<u64, LineFault>, replies: &[u8]) -> bool {
+    let is_starved = came.0 == Err(LineFault::NoMemory) || tells_of_memory(came.1.taken());
+    is_starved && (came.0 != wanted || came.1.taken() != replies)
 }
 
-// How such a session comes out by the ends themselves, and, where that is right, by a reader and a writer of std.
-fn comes<R>(
-    rt: &R,
-    alloc: Global,
-    drip: Drip,
-    wanted: Result<u64, LineFault>,
-    replies: &[u8],
-) -> Came
+// Such a session by the ends themselves.
+fn by_ends<R>(rt: &R, alloc: Global, drip: Drip) -> Came
 where
     R: Abort + Threads + Wait + Clock + Copy + Send + Drop + 'static,
 {
     let mut out = writer(rt, alloc, drip.faults[1]);
     let mut reader = DripIn::new(drip.lines, drip.faults[0]);
     let answer = served(rt, alloc, &mut reader, &mut out, drip.reads);
-    let first = outcome(answer, out.taken(), wanted, replies);
-    drop(out);
-    if first != Came::Right {
-        return first;
-    }
+    (answer, out)
+}
+
+// The same by a reader and a writer of std.
+fn by_std<R>(rt: &R, alloc: Global, drip: Drip) -> Came
+where
+    R: Abort + Threads + Wait + Clock + Copy + Send + Drop + 'static,
+{
     let mut out = ToWrite(writer(rt, alloc, drip.faults[1]));
     let mut reader = FromRead(DripIn::new(drip.lines, drip.faults[0]));
     let answer = served(rt, alloc, &mut reader, &mut out, drip.reads);
-    let second = outcome(answer, out.0.taken(), wanted, replies);
-    drop(out);
-    second
+    (answer, out.0)
 }
 
-// Such a session is answered so and told this.
+// Stops the test if a session came to something else than this.
+fn assert_came(rt: &impl Abort, came: Came, wanted: Result<u64, LineFault>, replies: &[u8]) {
+    assert_eq!(rt; came.0, wanted);
+    assert_eq!(rt; came.1.taken(), replies);
+    drop(came);
+}
+
+// Such a session is answered so and told this, by these ends and by std. One that ran out of memory runs once more.
 fn assert_comes<R>(rt: &R, drip: Drip, wanted: Result<u64, LineFault>, replies: &[u8])
 where
     R: Abort + AllocGlobal + Threads + Wait + Clock + Copy + Send + Drop + 'static,
 {
-    let mut came = comes(rt, rt.alloc(), drip, wanted, replies);
-    if came == Came::Refused {
-        came = comes(rt, rt.alloc(), drip, wanted, replies);
+    let mut came = by_ends(rt, rt.alloc(), drip);
+    if is_refused(&came, wanted, replies) {
+        drop(came);
+        came = by_ends(rt, rt.alloc(), drip);
     }
-    assert!(rt; came == Came::Right);
+    assert_came(rt, came, wanted, replies);
+    let mut came = by_std(rt, rt.alloc(), drip);
+    if is_refused(&came, wanted, replies) {
+        drop(came);
+        came = by_std(rt, rt.alloc(), drip);
+    }
+    assert_came(rt, came, wanted, replies);
 }
 
 // The first bytes of a text.

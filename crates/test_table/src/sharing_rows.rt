@@ -152,11 +152,11 @@ fn has_joins<E: RingElection>(rt: &impl Abort, table: &Table<E>, session: u32, f
     let mut next = from;
     for entry in table.history() {
         if let Some(number) = joined(entry, session) {
-            assert!(rt; number == next);
+            assert_eq!(rt; number, next);
             next = next.saturating_add(1);
         }
     }
-    assert!(rt; next == from.saturating_add(100));
+    assert_eq!(rt; next, from.saturating_add(100));
 }
 
 // A service with one worker over a locked table.
@@ -177,6 +177,6 @@ fn two_sessions_share_a_locked_table(rt: HostRuntime) {
     let table = locked.into_table();
     has_joins(&rt, &table, 1, 1);
     has_joins(&rt, &table, 2, 101);
-    assert!(rt; table.history().len() == 202);
+    assert_eq!(rt; table.history().len(), 202);
     drop(table);
 }

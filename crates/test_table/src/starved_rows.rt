@@ -5,7 +5,7 @@
 //! one alone: a sweep fails each in turn.
 
 use crate::grounds::{Ended, Ground};
-use crate::memory::{shared, with_room};
+use crate::memory::{TWICE, shared, with_room};
 use ring_any::Any;
 use ring_lines::{FromRead, LineFault, ToWrite};
 use ring_service::StartFault;
@@ -21,41 +21,39 @@ use std::time::{Clock, Duration};
 // How often is asked whether the member knows its leader, a millisecond apart.
 const LOOKS: u32 = 1000;
 
-// Whether a session of one line is told this. None where it was refused memory.
+// What a session of one line is told. None where it was refused memory.
 fn told_once<R: Abort + Wait>(
     rt: &R,
     alloc: Global,
     ground: &mut Ground,
     line: &[u8],
-    told: &[u8],
-) -> Option<bool> {
+) -> Option<Vec<u8>> {
     let mut writer = ToWrite(with_room(rt, alloc, 64));
     let served = ground.serves(rt, 1, &mut FromRead(line), &mut writer, 1000);
-    let reply = writer.0.as_slice();
-    let is_refused = served == Err(LineFault::NoMemory) || reply == b"no no-memory\n".as_slice();
-    let is_told = served == Ok(1) && reply == told;
-    drop(writer);
-    if is_refused { None } else { Some(is_told) }
+    let told = writer.0;
+    if served == Err(LineFault::NoMemory) || told.as_slice() == b"no no-memory\n".as_slice() {
+        drop(told);
+        return None;
+    }
+    assert_eq!(rt; served, Ok(1));
+    Some(told)
 }
 
-// Whether a session of one line is told this, though it may be refused memory once.
-fn is_told<R: Abort + Wait>(
-    rt: &R,
-    alloc: Global,
-    ground: &mut Ground,
-    line: &[u8],
-    told: &[u8],
-) -> bool {
-    match told_once(rt, alloc, ground, line, told) {
-        Some(is_told) => is_told,
-        None => told_once(rt, alloc, ground, line, told) == Some(true),
+// What a session of one line is told, though it may be refused memory once.
+fn told<R: Abort + Wait>(rt: &R, alloc: Global, ground: &mut Ground, line: &[u8]) -> Vec<u8> {
+    match told_once(rt, alloc, ground, line) {
+        Some(told) => told,
+        None => told_once(rt, alloc, ground, line).expect(rt, TWICE),
     }
 }
 
 // Whether the one member comes to know that it leads.
 fn comes_to_know<R: Abort + Wait + Clock>(rt: &R, alloc: Global, ground: &mut Ground) -> bool {
     for _ in 0..LOOKS {
-        if is_told(rt, alloc, ground, b"who a 5\n", b"leader 1 5\n") {
+        let reply = told(rt, alloc, ground, b"who a 5\n");
+        let knows = reply.as_slice() == b"leader 1 5\n".as_slice();
+        drop(reply);
+        if knows {
             return true;
         }
         thread::sleep(rt, Duration::from_millis(1));
@@ -96,8 +94,10 @@ where
     R: Abort + Threads + Wait + Clock,
 {
     let mut ground = ground;
-    for (line, told) in &STARTED {
-        assert!(rt; is_told(rt, alloc, &mut ground, line, told));
+    for (line, wanted) in &STARTED {
+        let reply = told(rt, alloc, &mut ground, line);
+        assert_eq!(rt; reply.as_slice(), *wanted);
+        drop(reply);
     }
     let knows = comes_to_know(rt, alloc, &mut ground);
     let Ended {
@@ -106,11 +106,11 @@ where
         waiting,
     } = ground.end(rt);
     let filed = filed(&table);
-    assert!(rt; filed == 1 || !knows);
+    assert!(rt; filed == 1 || !knows, "{filed} reports");
     for one in &handed {
         assert!(rt; is_whole(one, filed));
     }
-    assert!(rt; handed.len() == 1);
+    assert_eq!(rt; handed.len(), 1);
     drop(table);
     drop(handed);
     drop(waiting);
@@ -121,6 +121,6 @@ fn a_service_that_is_refused_memory_says_where(rt: HostRuntime) {
     let alloc = rt.alloc();
     match Ground::open(&rt, alloc, 1, 64, shared(&rt, alloc, OpenGate)) {
         Ok(ground) => elect(&rt, alloc, ground),
-        Err(fault) => assert!(rt; fault == StartFault::NoMemory),
+        Err(fault) => assert_eq!(rt; fault, StartFault::NoMemory),
     }
 }

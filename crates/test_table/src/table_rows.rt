@@ -2,7 +2,7 @@
 //! memory is asked for once more.
 
 use crate::memory::with_room;
-use crate::rings_of_one::{Spelled, elect, is_spelled, told_by};
+use crate::rings_of_one::{Spelled, elect, is_line, told_by};
 use ring_any::Any;
 use ring_election::RingElection;
 use ring_events::Reply;
@@ -32,7 +32,7 @@ fn tells<E: Spelled>(
         Reply::Refused(Refusal::NoMemory) => ask(rt, table, session, line),
         told => told,
     };
-    assert!(rt; is_spelled(rt, alloc, &told, reply));
+    is_line(rt, alloc, &told, reply);
     drop(told);
 }
 
@@ -48,7 +48,7 @@ fn starts<E: RingElection>(
         (Reply::Refused(Refusal::NoMemory), _) => table.begin(1, group, 2),
         started => started,
     };
-    assert!(rt; is_spelled(rt, alloc, &told, reply));
+    is_line(rt, alloc, &told, reply);
     drop(told);
     charters
 }
@@ -58,17 +58,17 @@ fn begin<E: Spelled>(rt: &impl Abort, alloc: Global, table: &mut Table<E>) -> No
     tells(rt, alloc, table, 1, b"create a chang", b"ok\n");
     tells(rt, alloc, table, 1, b"join a 7", b"ok\n");
     let two = starts(rt, alloc, table, b"term 1\n");
-    assert!(rt; two.len() == 2);
+    assert_eq!(rt; two.len(), 2);
     let node = elect(rt, alloc, &two[0]);
     drop(two);
     node
 }
 
-// Whether the last entry is a filing that became this.
-fn ends_with<E: RingElection>(table: &Table<E>, became: Noting) -> bool {
+// What became of the report of the last entry, if that is a filing.
+fn last_noting<E: RingElection>(table: &Table<E>) -> Option<Noting> {
     match table.history().last() {
-        Some(Entry::Filing { noting, .. }) => *noting == became,
-        _ => false,
+        Some(Entry::Filing { noting, .. }) => Some(*noting),
+        _ => None,
     }
 }
 
@@ -83,14 +83,14 @@ fn files<E: RingElection>(
         Filed::Refused(Refusal::NoMemory) => table.report(report),
         filed => filed,
     };
-    assert!(rt; filed == became);
+    assert_eq!(rt; filed, became);
 }
 
 // Files what a node knows as news, as known and, after the start of another term, as stale.
 fn file<E: Spelled>(rt: &impl Abort, alloc: Global, table: &mut Table<E>, node: &[Node<E>]) {
     let report = told_by(rt, node.first().expect(rt, "no node"));
     assert!(rt; table.finish(node).is_ok() || table.finish(node).is_ok());
-    assert!(rt; ends_with(table, Noting::Noted));
+    assert_eq!(rt; last_noting(table), Some(Noting::Noted));
     files(rt, table, &report, Filed::Known);
     tells(rt, alloc, table, 2, b"who a 7", b"leader 1 7\n");
     tells(rt, alloc, table, 1, b"start a", b"term 2\n");
@@ -115,7 +115,7 @@ fn entries_of_all<E: Spelled>(rt: &impl Abort, alloc: Global) -> usize {
 
 #[test]
 fn every_call_and_report_is_an_entry(rt: HostRuntime) {
-    assert!(rt; entries_of_all::<Any>(&rt, rt.alloc()) == 9);
+    assert_eq!(rt; entries_of_all::<Any>(&rt, rt.alloc()), 9);
 }
 
 // The same report, given three times, is news, known, and stale behind the start of another term: how many entries there
@@ -138,5 +138,5 @@ fn entries_of_a_report<E: Spelled>(rt: &impl Abort, alloc: Global) -> usize {
 
 #[test]
 fn a_report_is_news_once(rt: HostRuntime) {
-    assert!(rt; entries_of_a_report::<Any>(&rt, rt.alloc()) == 8);
+    assert_eq!(rt; entries_of_a_report::<Any>(&rt, rt.alloc()), 8);
 }

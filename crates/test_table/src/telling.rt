@@ -32,7 +32,7 @@ pub fn tells<R: Abort + Wait, A: Access<Any> + Drop>(
     let mut writer = ToWrite(Vec::new(alloc));
     let served = front.serve(rt, seat, session, &mut FromRead(lines), &mut writer, 1000);
     assert!(rt; served.is_ok());
-    assert!(rt; writer.0.as_slice() == told);
+    assert_eq!(rt; writer.0.as_slice(), told);
     drop(writer);
 }
 
@@ -61,7 +61,7 @@ pub fn tells_placed<R: Abort + Wait, A: Access<Any> + Drop>(
         1000,
     );
     assert!(rt; served.is_ok());
-    assert!(rt; writer.0.as_slice() == told);
+    assert_eq!(rt; writer.0.as_slice(), told);
     drop(writer);
 }
 
@@ -94,7 +94,7 @@ pub fn nodes_of<E: RingElection>(
 ) -> Vec<Node<E>> {
     let mut nodes = Vec::new(alloc);
     for one in handed {
-        assert!(rt; one.why == Why::Stopped);
+        assert_eq!(rt; one.why, Why::Stopped);
         match one.append_to(&mut nodes) {
             Ok(rest) => drop(rest),
             Err(_) => panic!(rt; "no memory"),
@@ -115,11 +115,11 @@ pub const FOUR_ITEMS: u64 = 30;
 /// These are the four nodes of that term, settled, which all know 2.
 pub fn all_know_two<E: RingElection>(rt: &impl Abort, nodes: &[Node<E>]) {
     let first = nodes.first().expect(rt, "no node");
-    assert!(rt; nodes.len() == 4);
-    assert!(rt; settle(first.charter(), nodes) == Settlement::Settled);
+    assert_eq!(rt; nodes.len(), 4);
+    assert_eq!(rt; settle(first.charter(), nodes), Settlement::Settled);
     let two = NodeId::new(2);
     for node in nodes {
-        assert!(rt; node.known() == two);
+        assert_eq!(rt; node.known(), two);
     }
 }
 

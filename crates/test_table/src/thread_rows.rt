@@ -7,7 +7,7 @@ use crate::memory::{TWICE, with_room};
 use ring_any::Any;
 use ring_election::RingElection;
 use ring_events::{Command, Reply};
-use ring_id::{GroupName, NodeId};
+use ring_id::{GroupName, NodeId, Refusal};
 use ring_lines::parse_command;
 use ring_table::{Answer, Entry, Kept, Table};
 use ring_turn::{Seat, TurnLock};
@@ -113,7 +113,7 @@ impl Shared for TurnLock<Any> {
     }
 }
 
-// Makes a call that is done: its place. None where it was not placed.
+// Makes a call that is done: its place. None if it ran out of memory.
 fn place_of<R: Abort + Wait, S: Shared>(
     rt: &R,
     table: &S,
@@ -130,7 +130,10 @@ fn place_of<R: Abort + Wait, S: Shared>(
             drop(reply);
             Some(place)
         }
-        Answer::Unplaced(_) => None,
+        Answer::Unplaced(refusal) => {
+            assert_eq!(rt; refusal, Refusal::NoMemory);
+            None
+        }
     }
 }
 
@@ -213,12 +216,13 @@ fn are_placed<E: RingElection>(rt: &impl Abort, table: &Table<E>, places: &[usiz
     let (mut last, mut number) = (0_usize, from);
     for place in places {
         let entry = table.history().get(place.saturating_sub(1));
-        assert!(rt; *place == last.saturating_add(1) || number % 10 == 1 && *place > last);
+        let follows = *place == last.saturating_add(1) || number % 10 == 1 && *place > last;
+        assert!(rt; follows, "{place} after {last}");
         assert!(rt; is_join(entry, from, number));
         last = *place;
         number = number.saturating_add(1);
     }
-    assert!(rt; places.len() == 100);
+    assert_eq!(rt; places.len(), 100);
 }
 
 // Creates the group `a`, by the first call of all, while the seat keeps the table. Then the seat rests, and an identity
@@ -229,12 +233,13 @@ fn create<R: Abort + Wait, S: Shared>(rt: &R, table: &S, seat: &mut S::Seat)
 {
     table.keep(seat);
     let first = parse_command(b"create a chang").expect(rt, "no command");
-    if place_of(rt, table, seat, 0, first) != Some(1) {
-        let again = parse_command(b"create a chang").expect(rt, "no command");
-        assert!(rt; place_of(rt, table, seat, 0, again) == Some(1));
-    }
+    let place = match place_of(rt, table, seat, 0, first) {
+        Some(place) => place,
+        None => place_of(rt, table, seat, 0, first).expect(rt, TWICE),
+    };
+    assert_eq!(rt; place, 1);
     table.rest(seat);
-    assert!(rt; join_one(rt, table, seat, 0, 250) == 2);
+    assert_eq!(rt; join_one(rt, table, seat, 0, 250), 2);
 }
 
 // Two threads with a seat each, in which a hundred identities join each: each call stands at the place that was told,
@@ -261,7 +266,7 @@ where
     let closed = table.end(rt, alloc, (one, other, third));
     are_placed(rt, &closed, &low, 1);
     are_placed(rt, &closed, &high, 101);
-    assert!(rt; closed.history().len() == 202);
+    assert_eq!(rt; closed.history().len(), 202);
     drop(low);
     drop(high);
     drop(closed);

@@ -160,7 +160,7 @@ fn are_known<R: Abort + Wait, A: Access<Any> + Drop>(
     for node in nodes {
         let copy = Arc::try_clone(node.charter()).expect(rt, "no copy");
         let report = node.report(copy).expect(rt, "no report");
-        assert!(rt; access.report(rt, &mut seat, &report) == Filed::Known);
+        assert_eq!(rt; access.report(rt, &mut seat, &report), Filed::Known);
         drop(report);
     }
     drop(seat);

@@ -53,10 +53,10 @@ fn end_whole<R: Abort + Threads + Wait>(rt: &R, alloc: Global, ground: Ground) {
         waiting,
     } = ground.end(rt);
     drop(table);
-    assert!(rt; waiting.is_empty());
+    assert_eq!(rt; waiting.len(), 0);
     drop(waiting);
     let nodes = nodes_of(rt, alloc, handed);
-    assert!(rt; nodes.len() == 3);
+    assert_eq!(rt; nodes.len(), 3);
     drop(nodes);
 }
 
