@@ -1,16 +1,16 @@
+use crate::trial::TWICE;
 use ring_server::{JournalFault, ProgramFault};
 use std::alloc::Global;
+use std::process::Abort;
 
-// Whether a fault has this line; asked for again where memory is refused.
-fn has_line(alloc: Global, fault: ProgramFault, line: &str) -> bool {
+// Stops the test if a fault has another line; asked for again where memory is refused.
+fn has_line(rt: &impl Abort, alloc: Global, fault: ProgramFault, line: &str) {
     let told = match fault.to_string(alloc) {
-        Ok(told) => Ok(told),
-        Err(_) => fault.to_string(alloc),
+        Ok(told) => told,
+        Err(_) => fault.to_string(alloc).expect(rt, TWICE),
     };
-    match told {
-        Ok(told) => told.as_str() == line,
-        Err(_) => false,
-    }
+    assert_eq!(rt; told.as_str(), line);
+    drop(told);
 }
 
 #[test]
@@ -26,7 +26,7 @@ fn each_fault_has_its_line(rt: HostRuntime) {
         (ProgramFault::Accept, "ringd: accept failed"),
         (ProgramFault::Thread, "ringd: thread failed"),
     ] {
-        assert!(rt; has_line(rt.alloc(), fault, line), "{line}");
+        has_line(&rt, rt.alloc(), fault, line);
     }
 }
 
@@ -44,9 +44,6 @@ fn each_fault_of_a_journal_has_its_line(rt: HostRuntime) {
         (JournalFault::Failed, "ringd: journal failed"),
         (JournalFault::Lives, "ringd: journal has no life left"),
     ] {
-        assert!(rt;
-            has_line(rt.alloc(), ProgramFault::from(fault), line),
-            "{line}"
-        );
+        has_line(&rt, rt.alloc(), ProgramFault::from(fault), line);
     }
 }

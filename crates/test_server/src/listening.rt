@@ -4,13 +4,14 @@ use ring_lines::DripOut;
 use ring_server::{ProgramFault, Serving, accept_all, accept_loop};
 use std::alloc::Global;
 use std::net::{Net, SocketAddr, TcpListener, TcpStream};
+use std::process::Abort;
 use std::sync::{Mutex, Wait};
+use std::thread;
 use std::thread::Threads;
 use std::time::Clock;
-use std::{io, thread};
 
-// Whether so many accepts, which fail, end so, and this was told, where the write call of this number fails; asked for
-// again where memory is refused.
+// Stops the test if so many accepts, which fail, end otherwise, or something else was told, where the write call of this
+// number fails. A run that ran out of memory is repeated.
 fn fails<R>(
     rt: &R,
     config: &Config,
@@ -18,20 +19,18 @@ fn fails<R>(
     fault_at: u64,
     told: &[u8],
     wanted: ProgramFault,
-) -> bool
+)
 where
-    R: AllocGlobal + Threads + Wait + Clock + Copy + Send + Sync + Drop + 'static,
+    R: Abort + AllocGlobal + Threads + Wait + Clock + Copy + Send + Sync + Drop + 'static,
 {
-    let Ok(mut out) = out_failing_at(rt.alloc(), fault_at) else {
-        return false;
-    };
+    let mut out = out_failing_at(rt, rt.alloc(), fault_at);
     let mut served = accept_loop(rt, NoClients, config, connections, &mut out);
     if served == Err(ProgramFault::NoMemory) {
         served = accept_loop(rt, NoClients, config, connections, &mut out);
     }
-    let fails = served == Err(wanted) && out.taken() == told;
+    assert_eq!(rt; served, Err(wanted));
+    assert_eq!(rt; out.taken(), told);
     drop(out);
-    fails
 }
 
 #[test]
@@ -42,7 +41,7 @@ fn a_failed_accept_is_told_after_the_first_line(rt: HostRuntime) {
         port: 7400,
     };
     let told = b"listening 127.0.0.1:7400\n";
-    assert!(rt; fails(&rt, &config, 1, 0, told, ProgramFault::Accept));
+    fails(&rt, &config, 1, 0, told, ProgramFault::Accept);
 }
 
 #[test]
@@ -52,12 +51,12 @@ fn a_failed_write_is_told(rt: HostRuntime) {
         inbox: 1024,
         port: 80,
     };
-    assert!(rt; fails(&rt, &config, 1, 1, b"", ProgramFault::Write));
-    assert!(rt; fails(&rt, &config, 1, 5, b"list", ProgramFault::Write));
+    fails(&rt, &config, 1, 1, b"", ProgramFault::Write);
+    fails(&rt, &config, 1, 5, b"list", ProgramFault::Write);
     let first = b"listening 127.0.0.1:80\n";
-    assert!(rt; fails(&rt, &config, 1, 24, first, ProgramFault::Accept));
+    fails(&rt, &config, 1, 24, first, ProgramFault::Accept);
     let both = b"listening 127.0.0.1:80\nclosed";
-    assert!(rt; fails(&rt, &config, 0, 30, both, ProgramFault::Write));
+    fails(&rt, &config, 0, 30, both, ProgramFault::Write);
 }
 
 // Counts the sessions that have the number of their client, and are told no places.
@@ -109,32 +108,32 @@ where
 
 #[test]
 fn sessions_have_the_numbers_of_their_clients(rt: HostRuntime) {
-    assert!(rt; numbered(&rt) == Some(3));
+    assert_eq!(rt; numbered(&rt), Some(3));
 }
 
-// Whether two clients, one after another, are told what they must: the second one finds what the first one left.
-fn are_told<R>(rt: &R, address: SocketAddr) -> io::Result<bool>
+// What two clients are told, one after another: the second one finds what the first one left.
+fn told<R>(rt: &R, address: SocketAddr) -> Option<(Vec<u8>, Vec<u8>)>
 where
     R: AllocGlobal + Net<Stream = TcpStream, Listener = TcpListener>,
 {
-    let first = replies_to(rt, address, b"create a chang\njoin a 5\n")?;
-    let second = replies_to(rt, address, b"members a\n")?;
-    let are_told = first.as_slice() == b"ok\nok\n".as_slice()
-        && second.as_slice() == b"members 5\n".as_slice();
-    drop(first);
-    drop(second);
-    Ok(are_told)
+    let first = replies_to(rt, address, b"create a chang\njoin a 5\n").ok()?;
+    let second = replies_to(rt, address, b"members a\n").ok()?;
+    Some((first, second))
 }
 
-// Accepts two clients, which come from another thread: what was answered, what was written, and whether the clients were
-// told what they must.
+// Accepts two clients, which come from another thread: what was answered, what was written, and what the clients were
+// told.
 fn accepts_two<R>(
     rt: &R,
     config: &Config,
     listener: TcpListener,
     address: SocketAddr,
     out: DripOut,
-) -> (Result<(), ProgramFault>, DripOut, bool)
+) -> (
+    Result<(), ProgramFault>,
+    DripOut,
+    Option<(Vec<u8>, Vec<u8>)>,
+)
 where
     R: AllocGlobal
         + Threads
@@ -154,7 +153,7 @@ where
             let served = accept_loop(rt, listener, config, 2, &mut out);
             (served, out)
         },
-        || matches!(are_told(rt, address), Ok(true)),
+        || told(rt, address),
     );
     (served, out, told)
 }
@@ -168,11 +167,15 @@ fn two_clients_are_accepted_and_told(rt: HostRuntime) {
         port: 7400,
     };
     let (listener, address) = listener(&rt).expect(&rt, "no listener");
-    let out = out_failing_at(rt.alloc(), 0).expect(&rt, "no memory");
+    let out = out_failing_at(&rt, rt.alloc(), 0);
     let (served, out, told) = accepts_two(&rt, &config, listener, address, out);
-    assert!(rt; told);
-    assert!(rt; served == Ok(()));
+    let (first, second) = told.expect(&rt, "a client has failed");
+    assert_eq!(rt; first.as_slice(), b"ok\nok\n".as_slice());
+    assert_eq!(rt; second.as_slice(), b"members 5\n".as_slice());
+    assert_eq!(rt; served, Ok(()));
     let both = b"listening 127.0.0.1:7400\nclosed 2\n".as_slice();
-    assert!(rt; out.taken() == both);
+    assert_eq!(rt; out.taken(), both);
+    drop(first);
+    drop(second);
     drop(out);
 }

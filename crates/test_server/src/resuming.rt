@@ -9,6 +9,7 @@ use ring_server::{JournalFault, Limits, ProgramFault, Resumed, resume_loop};
 use std::alloc::Global;
 use std::io::Read;
 use std::net::{Net, OpenListener, TcpListener, TcpStream};
+use std::process::Abort;
 use std::sync::{Arc, Wait};
 use std::thread::Threads;
 use std::time::{Clock, Duration};
@@ -71,8 +72,8 @@ fn medium_of(alloc: Global, recovered: &Recovered) -> Option<UnsyncedMedium>
     })
 }
 
-// Runs over such a table with so many sessions at a time. Returns whether it ends so after this was
-// told.
+// Runs over such a table with so many sessions at a time. Stops the test if it ends otherwise, or after something
+// else was told.
 fn ends<R, L>(
     rt: &R,
     listener: L,
@@ -80,9 +81,9 @@ fn ends<R, L>(
     fault_at: u64,
     told: &[u8],
     wanted: Result<(), ProgramFault>,
-) -> Option<bool>
+)
 where
-    R: AllocGlobal + Threads + Wait + Eprint + Clock + Copy + Send + Sync + Drop + 'static,
+    R: Abort + AllocGlobal + Threads + Wait + Eprint + Clock + Copy + Send + Sync + Drop + 'static,
     L: OpenListener<Stream = TcpStream> + Send + Drop + 'static,
 {
     let limits = Limits {
@@ -90,26 +91,27 @@ where
         idle: 0,
         places: false,
     };
-    let mut out = out_failing_at(rt.alloc(), fault_at).ok()?;
-    let resumed = unsynced(rt.alloc())?;
+    let mut out = out_failing_at(rt, rt.alloc(), fault_at);
+    let resumed = unsynced(rt.alloc()).expect(rt, "no table");
     let ran = resume_loop(rt, listener, None, &CONFIG, limits, resumed, &mut out);
-    let ends = ran == wanted && out.taken() == told;
+    assert_eq!(rt; ran, wanted);
+    assert_eq!(rt; out.taken(), told);
     drop(out);
-    Some(ends)
 }
 
 #[test]
 fn a_resumed_run_says_that_it_listens(rt: HostRuntime) {
     let line = b"listening 127.0.0.1:80\n";
-    assert!(rt; ends(&rt, NoClients, 0, 0, line, Ok(())) == Some(true));
+    ends(&rt, NoClients, 0, 0, line, Ok(()));
     let refused = Err(ProgramFault::Write);
-    assert!(rt; ends(&rt, NoClients, 0, 5, b"list", refused) == Some(true));
+    ends(&rt, NoClients, 0, 5, b"list", refused);
 }
 
-// Whether a client that creates a group gets no reply, and the run ends by its journal's fault.
-fn ends_without_a_reply<R>(rt: &R) -> Option<bool>
+// A client that creates a group gets no reply, and the run ends by its journal's fault.
+fn ends_without_a_reply<R>(rt: &R)
 where
-    R: AllocGlobal
+    R: Abort
+        + AllocGlobal
         + Threads
         + Wait
         + Eprint
@@ -121,20 +123,22 @@ where
         + 'static
         + Net<Stream = TcpStream, Listener = TcpListener>,
 {
-    let (listener, address) = listener(rt).ok()?;
-    let mut client = client(rt, address, b"create a chang\n").ok()?;
+    let (listener, address) = listener(rt).expect(rt, "no listener");
+    let mut client = client(rt, address, b"create a chang\n").expect(rt, "no client");
     client
         .set_read_timeout(Some(Duration::from_millis(300)))
-        .ok()?;
+        .expect(rt, "no time limit");
     let failed = Err(ProgramFault::Journal(JournalFault::Failed));
-    let ends = ends(rt, listener, 1, 0, b"listening 127.0.0.1:80\n", failed)?;
+    ends(rt, listener, 1, 0, b"listening 127.0.0.1:80\n", failed);
     let mut reply = [0];
-    let has_none = client.read(&mut reply).is_err();
+    assert!(rt;
+        client.read(&mut reply).is_err(),
+        "a reply begins by {reply:?}"
+    );
     drop(client);
-    Some(ends && has_none)
 }
 
 #[test]
 fn a_failed_journal_ends_the_run_without_a_reply(rt: HostRuntime) {
-    assert!(rt; ends_without_a_reply(&rt) == Some(true));
+    ends_without_a_reply(&rt);
 }

@@ -3,6 +3,7 @@ use ring_config::Config;
 use ring_server::{Door, Limits, ProgramFault, Serving, attend_all, run_loop};
 use std::io::Read;
 use std::net::{Net, SocketAddr, TcpListener, TcpStream};
+use std::process::Abort;
 use std::sync::{Mutex, Wait};
 use std::test::Fail;
 use std::thread::Threads;
@@ -16,11 +17,11 @@ const ONE_SESSION: Limits = Limits {
     places: true,
 };
 
-// Whether a run without sessions ends so, and this was told, where the write call of this number fails; asked for
-// again where memory is refused.
-fn ends<R>(rt: &R, fault_at: u64, told: &[u8], wanted: Result<(), ProgramFault>) -> bool
+// Stops the test if a run without sessions ends otherwise, or something else was told, where the write call of this
+// number fails. A run that ran out of memory is repeated.
+fn ends<R>(rt: &R, fault_at: u64, told: &[u8], wanted: Result<(), ProgramFault>)
 where
-    R: AllocGlobal + Threads + Wait + Eprint + Clock + Copy + Send + Sync + Drop + 'static,
+    R: Abort + AllocGlobal + Threads + Wait + Eprint + Clock + Copy + Send + Sync + Drop + 'static,
 {
     let config = Config {
         workers: 2,
@@ -32,47 +33,37 @@ where
         idle: 0,
         places: false,
     };
-    let Ok(mut out) = out_failing_at(rt.alloc(), fault_at) else {
-        return false;
-    };
+    let mut out = out_failing_at(rt, rt.alloc(), fault_at);
     let mut ran = run_loop(rt, NoClients, None, &config, nobody, &mut out);
     if ran == Err(ProgramFault::NoMemory) {
         ran = run_loop(rt, NoClients, None, &config, nobody, &mut out);
     }
-    let ends = ran == wanted && out.taken() == told;
+    assert_eq!(rt; ran, wanted);
+    assert_eq!(rt; out.taken(), told);
     drop(out);
-    ends
 }
 
 #[test]
 fn a_run_says_that_it_listens(rt: HostRuntime) {
-    assert!(rt; ends(&rt, 0, b"listening 127.0.0.1:80\n", Ok(())));
-    assert!(rt; ends(&rt, 5, b"list", Err(ProgramFault::Write)));
+    ends(&rt, 0, b"listening 127.0.0.1:80\n", Ok(()));
+    ends(&rt, 5, b"list", Err(ProgramFault::Write));
 }
 
-// Whether the guest that comes after this last one has this number.
-fn is_next<R>(
-    rt: &R,
-    door: &mut Door<TcpListener>,
-    address: SocketAddr,
-    last: u32,
-    wanted: u32,
-) -> bool
+// The number of the guest that comes after this last one. None if nobody comes.
+fn next<R>(rt: &R, door: &mut Door<TcpListener>, address: SocketAddr, last: u32) -> Option<u32>
 where
     R: Wait + Eprint + Clock + Net<Stream = TcpStream>,
 {
-    let Ok(client) = rt.connect(address) else {
-        return false;
-    };
+    let client = rt.connect(address).ok()?;
     door.last = last;
     let guest = door.admit(rt);
     drop(client);
-    let is_next = match &guest {
-        Some((number, _)) => *number == wanted,
-        None => false,
+    let number = match &guest {
+        Some((number, _)) => Some(*number),
+        None => None,
     };
     drop(guest);
-    is_next
+    number
 }
 
 #[test]
@@ -89,7 +80,7 @@ fn a_door_numbers_its_guests(rt: HostRuntime) -> Result<(), Fail> {
         (4_294_967_294, 4_294_967_295),
         (4_294_967_295, 1),
     ] {
-        assert!(rt; is_next(&rt, &mut door, address, last, wanted), "{last}");
+        assert_eq!(rt; next(&rt, &mut door, address, last), Some(wanted), "{last}");
     }
     drop(door);
     Ok(())
@@ -174,7 +165,7 @@ where
 // has the number of its client, and is told places.
 #[test]
 fn a_spent_guest_gives_way_to_a_spare_one(rt: HostRuntime) {
-    assert!(rt; servers(&rt) == Some(1122));
+    assert_eq!(rt; servers(&rt), Some(1122));
 }
 
 // Two sessions at a time.
@@ -187,7 +178,7 @@ const TWO_SESSIONS: Limits = Limits {
 // Runs in a thread of its own, which lasts as long as the test. Returns whether there is one.
 fn has_run<R>(rt: &R, listener: TcpListener) -> bool
 where
-    R: AllocGlobal + Threads + Wait + Eprint + Clock + Copy + Send + Sync + Drop + 'static,
+    R: Abort + AllocGlobal + Threads + Wait + Eprint + Clock + Copy + Send + Sync + Drop + 'static,
 {
     let inner = *rt;
     let run = move || {
@@ -196,10 +187,9 @@ where
             inbox: 1024,
             port: 80,
         };
-        if let Ok(mut out) = out_failing_at(inner.alloc(), 0) {
-            let _ = run_loop(&inner, listener, None, &config, TWO_SESSIONS, &mut out);
-            drop(out);
-        }
+        let mut out = out_failing_at(&inner, inner.alloc(), 0);
+        let _ = run_loop(&inner, listener, None, &config, TWO_SESSIONS, &mut out);
+        drop(out);
     };
     match thread::spawn(rt, run) {
         Ok(thread) => {
@@ -210,26 +200,27 @@ where
     }
 }
 
-// A client that has sent a line, and whether it is told this within some seconds. Its session lasts as long as it does.
-fn asks<R: Net<Stream = TcpStream>>(
+// A client that has sent a line, and is told this within some seconds. Its session lasts as long as it does.
+fn asks<R: Abort + Net<Stream = TcpStream>>(
     rt: &R,
     address: SocketAddr,
     line: &[u8],
     told: &[u8],
-) -> io::Result<(TcpStream, bool)> {
+) -> io::Result<TcpStream> {
     let mut client = client(rt, address, line)?;
     client.set_read_timeout(Some(Duration::from_secs(20)))?;
     let mut reply = [0; 16];
     let len = told.len().min(16);
     client.read_exact(&mut reply[..len])?;
-    let is_told = reply[..len] == told[..len];
-    Ok((client, is_told))
+    assert_eq!(rt; reply[..len], told[..len]);
+    Ok(client)
 }
 
-// Whether a second client is told what it must while the session of the first one lasts.
-fn serves_two<R>(rt: &R) -> io::Result<bool>
+// A second client is told what it must while the session of the first one lasts.
+fn serves_two<R>(rt: &R) -> io::Result<()>
 where
-    R: AllocGlobal
+    R: Abort
+        + AllocGlobal
         + Threads
         + Wait
         + Eprint
@@ -242,18 +233,16 @@ where
         + Net<Stream = TcpStream, Listener = TcpListener>,
 {
     let (listener, address) = listener(rt)?;
-    if !has_run(rt, listener) {
-        return Ok(false);
-    }
-    let (one, first) = asks(rt, address, b"create a chang\n", b"ok\n")?;
-    let (other, second) = asks(rt, address, b"groups\n", b"groups a\n")?;
+    assert!(rt; has_run(rt, listener));
+    let one = asks(rt, address, b"create a chang\n", b"ok\n")?;
+    let other = asks(rt, address, b"groups\n", b"groups a\n")?;
     drop(one);
     drop(other);
-    Ok(first && second)
+    Ok(())
 }
 
 // A run has a thread for each of two sessions.
 #[test]
 fn a_run_serves_two_clients_at_once(rt: HostRuntime) {
-    assert!(rt; matches!(serves_two(&rt), Ok(true)));
+    serves_two(&rt).expect(&rt, "a client has failed");
 }

@@ -8,6 +8,7 @@ use ring_workers::{Gate, Pass};
 use std::alloc::Global;
 use std::io::Read;
 use std::net::{Net, OpenListener, Shutdown, TcpListener, TcpStream};
+use std::process::Abort;
 use std::sync::atomic::{AtomicBool, Ordering};
 use std::sync::{Arc, Wait};
 use std::thread::Threads;
@@ -59,7 +60,7 @@ fn new_gate<R: Copy>(rt: &R, alloc: Global) -> Option<Arc<LastItem<R>>> {
 // What a client is told that sends these lines to a guest.
 fn replies<R>(rt: &R, guest: &mut Guest<'_>, lines: &[u8]) -> io::Result<Vec<u8>>
 where
-    R: Wait + AllocGlobal + Net<Stream = TcpStream, Listener = TcpListener>,
+    R: Wait + Clock + AllocGlobal + Net<Stream = TcpStream, Listener = TcpListener>,
 {
     let (listener, address) = listener(rt)?;
     let mut client = client(rt, address, lines)?;
@@ -75,19 +76,14 @@ where
     Ok(replies)
 }
 
-// Whether a client is told this that sends these lines to a guest.
-fn is_told<R>(rt: &R, guest: &mut Guest<'_>, lines: &[u8], told: &[u8]) -> bool
+// Stops the test if a client is told something else that sends these lines to a guest.
+fn is_told<R>(rt: &R, guest: &mut Guest<'_>, lines: &[u8], told: &[u8])
 where
-    R: Wait + AllocGlobal + Net<Stream = TcpStream, Listener = TcpListener>,
+    R: Abort + Wait + Clock + AllocGlobal + Net<Stream = TcpStream, Listener = TcpListener>,
 {
-    match replies(rt, guest, lines) {
-        Ok(replies) => {
-            let is_told = replies.as_slice() == told;
-            drop(replies);
-            is_told
-        }
-        Err(_) => false,
-    }
+    let replies = replies(rt, guest, lines).expect(rt, "a client has failed");
+    assert_eq!(rt; replies.as_slice(), told);
+    drop(replies);
 }
 
 // A group that is started, five more, and what is told of these.
@@ -102,24 +98,25 @@ const FIVE: &[u8] = b"create b chang\njoin b 1\nstart b\n\
 const FIVE_TOLD: &[u8] =
     b"ok\nok\nterm 1\nok\nok\nterm 1\nok\nok\nterm 1\nok\nok\nterm 1\nok\nok\nterm 1\n";
 
-// Starts a group, whose begin the worker takes, and five more: whether all were started.
-fn starts_six<R>(rt: &R, front: &Front, seats: Vec<Seat>, gate: &LastItem<R>) -> Option<bool>
+// Starts a group, whose begin the worker takes, and five more. None if memory was refused.
+fn starts_six<R>(rt: &R, front: &Front, seats: Vec<Seat>, gate: &LastItem<R>) -> Option<()>
 where
-    R: Wait + Clock + AllocGlobal + Net<Stream = TcpStream, Listener = TcpListener>,
+    R: Abort + Wait + Clock + AllocGlobal + Net<Stream = TcpStream, Listener = TcpListener>,
     requires { All (λ seat. seat.lock ≡ front.now.id) seats.items }
 {
     let mut guest = guests(rt.alloc(), front, seats, 0).ok()?.pop()?;
-    let begun = is_told(rt, &mut guest, ONE, b"ok\nok\nterm 1\n")
-        && has_come(rt, &gate.has_entered);
-    let all = begun && is_told(rt, &mut guest, FIVE, FIVE_TOLD);
+    is_told(rt, &mut guest, ONE, b"ok\nok\nterm 1\n");
+    assert!(rt; has_come(rt, &gate.has_entered));
+    is_told(rt, &mut guest, FIVE, FIVE_TOLD);
     drop(guest);
-    Some(all)
+    Some(())
 }
 
 // How many of five begins wait for the one worker, which takes none of them, where its inbox holds so many.
 fn begins_left<R>(rt: &R, inbox: usize) -> Option<usize>
 where
-    R: Threads
+    R: Abort
+        + Threads
         + Wait
         + Clock
         + AllocGlobal
@@ -146,12 +143,13 @@ where
     let closing = close(rt, service);
     let waiting = closing.waiting.len();
     drop(closing);
-    if all? { Some(waiting) } else { None }
+    all?;
+    Some(waiting)
 }
 
 #[test]
 fn an_inbox_holds_what_the_configuration_says(rt: HostRuntime) {
     for (inbox, left) in [(1, 4), (3, 2), (5, 0)] {
-        assert!(rt; begins_left(&rt, inbox) == Some(left), "{inbox}");
+        assert_eq!(rt; begins_left(&rt, inbox), Some(left), "{inbox}");
     }
 }

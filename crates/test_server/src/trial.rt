@@ -1,9 +1,13 @@
 //! What tests of the server share.
 use ring_lines::DripOut;
-use std::alloc::{AllocError, Global};
+use std::alloc::Global;
 use std::io;
 use std::io::{Read, Write};
 use std::net::{Ipv4Addr, Net, OpenListener, Shutdown, SocketAddr, TcpListener, TcpStream};
+use std::process::Abort;
+
+/// What a test says that stops where memory was refused twice.
+pub const TWICE: &str = "memory was refused twice";
 
 /// A listener whose accept fails.
 #[derive(Drop)]
@@ -18,10 +22,10 @@ impl OpenListener for NoClients {
 }
 
 /// A writer that fails at this call; asked for again where memory is refused.
-pub fn out_failing_at(alloc: Global, fault_at: u64) -> Result<DripOut, AllocError> {
+pub fn out_failing_at(rt: &impl Abort, alloc: Global, fault_at: u64) -> DripOut {
     match DripOut::new(alloc, 64, fault_at) {
-        Ok(out) => Ok(out),
-        Err(_) => DripOut::new(alloc, 64, fault_at),
+        Ok(out) => out,
+        Err(_) => DripOut::new(alloc, 64, fault_at).expect(rt, TWICE),
     }
 }
 
