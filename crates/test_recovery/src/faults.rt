@@ -114,7 +114,7 @@ fn begins(rt: &impl Abort, alloc: Global, lines: &[&[u8]], first: &[u8]) -> Opti
         return None;
     };
     let life = recovered.life().get();
-    assert!(rt; recovered.text().bytes().starts_with(first));
+    assert_eq!(rt; recovered.text().bytes().get(..first.len()), Some(first));
     drop(recovered);
     Some(life)
 }

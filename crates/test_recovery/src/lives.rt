@@ -132,8 +132,9 @@ fn a_table_goes_on_after_a_restart(rt: HostRuntime) {
     let (book, written) = table.into_parts();
     drop(book);
     let lines = file(&rt, alloc, &AGAIN, KNOWN);
-    assert!(rt; written.journal().medium().text().starts_with(&lines));
-    assert!(rt; written.journal().medium().text().ends_with(MORE));
+    let text = written.journal().medium().text();
+    assert_eq!(rt; text.get(..lines.len()), Some(lines.as_slice()));
+    assert_eq!(rt; text.get(lines.len()..), Some(MORE));
     assert_eq!(rt; written.journal().medium().kept(), lines.len() + MORE.len());
     drop(lines);
     drop(written);
@@ -195,7 +196,7 @@ fn fail<R: Abort + Threads + Wait + Copy + Send + Drop + 'static>(rt: &R, alloc:
     let handle = *rt;
     let settles = move || table.settle(&handle);
     drop(thread::spawn(rt, settles).expect(rt, "no thread"));
-    assert!(rt; alarm.wait(rt) == Ending::Failed);
+    assert_eq!(rt; alarm.wait(rt), Ending::Failed);
     drop(alarm);
 }
 
@@ -209,5 +210,5 @@ fn the_first_ring_counts(rt: HostRuntime) {
     let alarm = Alarm::new();
     alarm.ring(&rt, Ending::Stopped);
     alarm.ring(&rt, Ending::Failed);
-    assert!(rt; alarm.wait(&rt) == Ending::Stopped);
+    assert_eq!(rt; alarm.wait(&rt), Ending::Stopped);
 }

@@ -1,10 +1,10 @@
 //! A journal that is rewritten while its table is used, and what a crash leaves of it.
 
-use crate::files::{AGAIN, file};
+use crate::files::{AGAIN, TWICE, file};
 use crate::lives::{copy, new_alarm, reopened, tells};
 use ring_any::Any;
 use ring_journal::{Medium, MemoryMedium};
-use ring_recovery::{Recovered, Written, recover};
+use ring_recovery::{RecoverFault, Recovered, Written, recover};
 use ring_table::Recorded;
 use std::alloc::Global;
 use std::process::Abort;
@@ -41,7 +41,10 @@ fn text_of(rt: &impl Abort, alloc: Global, table: Table) -> (Table, Vec<u8>) {
 fn found(rt: &impl Abort, alloc: Global, text: &[u8]) -> Recovered {
     match recover(alloc, copy(rt, alloc, text)) {
         Ok(found) => found,
-        Err(_) => recover(alloc, copy(rt, alloc, text)).expect(rt, "no journal"),
+        Err(fault) => {
+            assert_eq!(rt; fault, RecoverFault::NoMemory);
+            recover(alloc, copy(rt, alloc, text)).expect(rt, TWICE)
+        }
     }
 }
 
@@ -74,7 +77,7 @@ fn a_long_journal_is_rewritten_when_it_is_settled(rt: HostRuntime) {
     tells(&rt, alloc, &mut table, &[(b"join a 5", b"ok\n")]);
     table.settle(&rt);
     let (table, more) = text_of(&rt, alloc, table);
-    assert!(rt; more.starts_with(&short));
+    assert_eq!(rt; more.get(..short.len()), Some(short.as_slice()));
     shows(&rt, alloc, &more, b"members 3/9 4 5\n");
     drop(short);
     drop(old);
