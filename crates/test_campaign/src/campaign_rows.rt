@@ -6,17 +6,9 @@ const MADE: &[&[u8]] = &[b"create a chang"];
 #[test]
 fn a_client_is_a_member_until_it_ends(rt: HostRuntime) {
     let mut field = Field::new(&rt, rt.alloc(), MADE);
-    assert!(rt;
-        field.tells(
-            &rt,
-            rt.alloc(),
-            b"join a 3/9\n\n",
-            [0, 0],
-            b"ok\nundecided 1\n"
-        )
-    );
-    assert!(rt; field.says(&rt, rt.alloc(), b"members a", b"members\n"));
-    assert!(rt; field.says(&rt, rt.alloc(), b"terms a", b"terms 1:-\n"));
+    field.tells(&rt, rt.alloc(), b"join a 3/9\n\n", b"ok\nundecided 1\n");
+    field.says(&rt, rt.alloc(), b"members a", b"members\n");
+    field.says(&rt, rt.alloc(), b"terms a", b"terms 1:-\n");
 }
 
 #[test]
@@ -29,20 +21,20 @@ fn a_refused_client_is_told_why(rt: HostRuntime) {
         (b"\n", b"no bad-line\n"),
         (b"", b""),
     ] {
-        assert!(rt; field.tells(&rt, rt.alloc(), lines, [0, 0], told));
+        field.tells(&rt, rt.alloc(), lines, told);
     }
-    assert!(rt; field.says(&rt, rt.alloc(), b"members a", b"members 3\n"));
-    assert!(rt; field.says(&rt, rt.alloc(), b"terms a", b"terms\n"));
+    field.says(&rt, rt.alloc(), b"members a", b"members 3\n");
+    field.says(&rt, rt.alloc(), b"terms a", b"terms\n");
 }
 
 #[test]
 fn nobody_stays_whichever_call_fails(rt: HostRuntime) {
     let mut field = Field::new(&rt, rt.alloc(), MADE);
     for call in 1..20u64 {
-        let _ = field.tells(&rt, rt.alloc(), b"join a 3\n\n", [call, 0], b"");
-        assert!(rt; field.says(&rt, rt.alloc(), b"members a", b"members\n"));
-        let _ = field.tells(&rt, rt.alloc(), b"join a 3\n\n", [0, call], b"");
-        assert!(rt; field.says(&rt, rt.alloc(), b"members a", b"members\n"));
+        drop(field.serve(&rt, rt.alloc(), b"join a 3\n\n", [call, 0]));
+        field.says(&rt, rt.alloc(), b"members a", b"members\n");
+        drop(field.serve(&rt, rt.alloc(), b"join a 3\n\n", [0, call]));
+        field.says(&rt, rt.alloc(), b"members a", b"members\n");
     }
 }
 
@@ -50,24 +42,16 @@ fn nobody_stays_whichever_call_fails(rt: HostRuntime) {
 fn a_client_follows_a_leader_that_is_there(rt: HostRuntime) {
     let mut field = Field::new(&rt, rt.alloc(), &[b"create a chang", b"join a 5"]);
     field.elect(&rt, rt.alloc());
-    assert!(rt;
-        field.tells(
-            &rt,
-            rt.alloc(),
-            b"join a 3\n",
-            [0, 0],
-            b"ok\nno not-in-term\n"
-        )
-    );
-    assert!(rt; field.says(&rt, rt.alloc(), b"members a", b"members 5\n"));
-    assert!(rt; field.says(&rt, rt.alloc(), b"terms a", b"terms 1:5\n"));
+    field.tells(&rt, rt.alloc(), b"join a 3\n", b"ok\nno not-in-term\n");
+    field.says(&rt, rt.alloc(), b"members a", b"members 5\n");
+    field.says(&rt, rt.alloc(), b"terms a", b"terms 1:5\n");
 }
 
 #[test]
 fn a_leader_that_is_gone_is_not_followed(rt: HostRuntime) {
     let mut field = Field::new(&rt, rt.alloc(), &[b"create a chang", b"join a 5"]);
     field.elect(&rt, rt.alloc());
-    assert!(rt; field.says(&rt, rt.alloc(), b"leave a 5", b"ok\n"));
-    assert!(rt; field.tells(&rt, rt.alloc(), b"join a 3\n", [0, 0], b"ok\nundecided 2\n"));
-    assert!(rt; field.says(&rt, rt.alloc(), b"members a", b"members\n"));
+    field.says(&rt, rt.alloc(), b"leave a 5", b"ok\n");
+    field.tells(&rt, rt.alloc(), b"join a 3\n", b"ok\nundecided 2\n");
+    field.says(&rt, rt.alloc(), b"members a", b"members\n");
 }

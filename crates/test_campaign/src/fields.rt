@@ -1,7 +1,8 @@
 //! A table that campaigns and a caller share, and what the rows ask of it.
 use ring_any::Any;
 use ring_campaign::campaign;
-use ring_id::{GroupName, NoMemory, Side};
+use ring_events::Reply;
+use ring_id::{GroupName, NoMemory, Refusal, Side};
 use ring_lines::{DripIn, DripOut, Spell, parse_command};
 use ring_node::{Charter, Node, Report, TakeFault};
 use ring_table::{Access, Answer, LockedSeat, LockedTable, Table};
@@ -46,7 +47,7 @@ impl Field {
         drop(seats);
         let mut field = Field { table, seat, other };
         for line in lines {
-            assert!(rt; field.says(rt, alloc, line, b"ok\n"));
+            field.says(rt, alloc, line, b"ok\n");
         }
         field
     }
@@ -57,37 +58,26 @@ impl Field {
         self.table.call(rt, &mut self.other, 9, command)
     }
 
-    /// Whether the answer to a line is this one. It is asked for once more where memory was refused.
-    pub fn says<R: Abort + Wait>(
-        &mut self,
-        rt: &R,
-        alloc: Global,
-        line: &[u8],
-        wanted: &[u8],
-    ) -> bool {
-        let first = self.answer(rt, line).into_reply();
-        let is_first = is_spelled(rt, alloc, &first, wanted);
-        let is_starved = is_spelled(rt, alloc, &first, b"no no-memory\n");
-        drop(first);
-        if !is_starved {
-            return is_first;
-        }
-        let second = self.answer(rt, line).into_reply();
-        let is_second = is_spelled(rt, alloc, &second, wanted);
-        drop(second);
-        is_second
+    /// Stops the test if the reply to a line is not `wanted`. A call that ran out of memory is repeated once.
+    pub fn says<R: Abort + Wait>(&mut self, rt: &R, alloc: Global, line: &[u8], wanted: &[u8]) {
+        let reply = match self.answer(rt, line).into_reply() {
+            Reply::Refused(Refusal::NoMemory) => self.answer(rt, line).into_reply(),
+            reply => reply,
+        };
+        let text = spelled(rt, alloc, &reply);
+        drop(reply);
+        assert_eq!(rt; text.as_slice(), wanted);
+        drop(text);
     }
 
-    /// Whether a campaign of these lines is told this, where the read call and the write call with these numbers
-    /// fail.
-    pub fn tells<R: Abort + Wait + Clock>(
+    /// Runs a campaign of these lines, whose read call and write call with these numbers fail. Returns its writer.
+    pub fn serve<R: Abort + Wait + Clock>(
         &mut self,
         rt: &R,
         alloc: Global,
         lines: &[u8],
         faults: [u64; 2],
-        told: &[u8],
-    ) -> bool {
+    ) -> DripOut {
         let mut reader = DripIn::new(lines, faults[0]);
         let mut out = writer(rt, alloc, faults[1]);
         campaign(
@@ -99,9 +89,20 @@ impl Field {
             &mut reader,
             &mut out,
         );
-        let is_told = out.taken() == told;
+        out
+    }
+
+    /// Stops the test if a campaign of these lines is not told `told`.
+    pub fn tells<R: Abort + Wait + Clock>(
+        &mut self,
+        rt: &R,
+        alloc: Global,
+        lines: &[u8],
+        told: &[u8],
+    ) {
+        let out = self.serve(rt, alloc, lines, [0, 0]);
+        assert_eq!(rt; out.taken(), told);
         drop(out);
-        is_told
     }
 
     /// Starts a term of the group `a`, whose one member learns that it leads.
@@ -120,20 +121,19 @@ impl Field {
     }
 }
 
-// Whether a reply is spelled by this line.
-fn is_spelled<S: Spell>(rt: &impl Abort, alloc: Global, told: &S, line: &[u8]) -> bool {
+// The line of a reply.
+fn spelled<S: Spell>(rt: &impl Abort, alloc: Global, told: &S) -> Vec<u8> {
     let mut text = match Vec::with_capacity(alloc, 64) {
         Ok(text) => text,
         Err(_) => Vec::with_capacity(alloc, 64).expect(rt, TWICE),
     };
-    let is_spelled = told.spell(&mut text).is_ok() && text.as_slice() == line;
-    drop(text);
-    is_spelled
+    assert_eq!(rt; told.spell(&mut text), Ok(()));
+    text
 }
 
 // The node of the one member of a charter's ring, once it knows that it leads.
 fn elect(rt: &impl Abort, alloc: Global, charter: &Arc<Charter<Any>>) -> Node<Any> {
-    assert!(rt; charter.roster().len() == 1);
+    assert_eq!(rt; charter.roster().len(), 1);
     let copy = Arc::try_clone(charter).expect(rt, "no copy");
     let mut node = match Node::seat(alloc, copy, 0) {
         Ok(node) => node,
