@@ -3,6 +3,7 @@
 //! Standard input has scripts of lines, which an empty line parts. All but the last are sessions, numbered
 //! from 1. They run at once, each in a thread of its own, over one service with four workers. Then the last
 //! script is answered again and again, as a session with the number 0, until no reply in it is `undecided`.
+//! Sessions and workers share the table by a turn lock, as those of `ringd` do.
 //!
 //! When the service is closed, standard output gets the history, one entry a line, and then the replies of
 //! each session, each after an empty line. The program ends with status 1 where any of this fails.
@@ -10,17 +11,16 @@
 #![tactic(auto)]
 
 mod crowd;
+mod diary;
 mod telling;
 
 use anyhow::{Context, Result};
 use crowd::{Crowd, gather};
-use std::alloc::Global;
 use std::io;
 use std::io::Write;
 use std::sync::Wait;
 use std::thread::Threads;
 use std::time::Clock;
-use telling::tell;
 
 // The scripts on standard input.
 fn read_scripts(rt: &(impl Input + AllocGlobal)) -> Result<Vec<Vec<u8>>> {
@@ -52,10 +52,8 @@ where
 }
 
 // Writes all that a crowd left.
-fn write_out<W: Write>(alloc: Global, crowd: &Crowd, out: &mut W) -> Result<()> {
-    for entry in crowd.table.history() {
-        out.write_all(tell(alloc, entry)?.as_slice())?;
-    }
+fn write_out<W: Write>(crowd: &Crowd, out: &mut W) -> Result<()> {
+    out.write_all(crowd.history.as_slice())?;
     for replies in &crowd.replies {
         out.write_all(b"\n")?;
         out.write_all(replies.as_slice())?;
@@ -68,5 +66,5 @@ fn main(rt: HostRuntime) -> Result<()> {
     let alloc = rt.alloc();
     let crowd = gather_input(&rt)?;
     let mut out = io::BufWriter::new(alloc, io::writer(&rt))?;
-    write_out(alloc, &crowd, &mut out)
+    write_out(&crowd, &mut out)
 }

@@ -1,47 +1,40 @@
 //! The lines of a history.
 use anyhow::{Result, ensure};
 use ring_any::Any;
-use ring_events::Command;
+use ring_events::{Command, Reply};
+use ring_grammar::print_reply;
 use ring_id::{GroupName, NodeId, TermNo};
-use ring_lines::Spell;
-use ring_table::Entry;
+use ring_node::Report;
 use ring_terms::Noting;
 use std::alloc::Global;
 use std::fmt::Write;
 use std::str;
 
-/// The line of an entry: `SESSION COMMAND => REPLY`, or `filed GROUP TERM MEMBER LEADER` and what became
-/// of the report.
-pub fn tell(alloc: Global, entry: &Entry<Any>) -> Result<Vec<u8>> {
+/// Returns the line of a call: `SESSION COMMAND => REPLY`.
+pub fn tell_call(
+    alloc: Global,
+    session: u32,
+    command: &Command<Any>,
+    reply: &Reply,
+) -> Result<Vec<u8>> {
     let mut text = String::new(alloc);
-    write_entry(&mut text, entry)?;
+    write_call(&mut text, session, command)?;
     let mut line = text.into_bytes();
-    if let Entry::Call { reply, .. } = entry {
-        ensure!(reply.spell(&mut line).is_ok(), "a reply is not written");
-    }
+    ensure!(
+        print_reply(reply, &mut line).is_ok(),
+        "a reply is not written"
+    );
     Ok(line)
 }
 
-// Writes an entry, up to the reply where it has one.
-fn write_entry(text: &mut String, entry: &Entry<Any>) -> Result<()> {
-    match entry {
-        Entry::Call {
-            session,
-            command,
-            ..
-        } => write_call(text, *session, command),
-        Entry::Filing {
-            group,
-            term,
-            member,
-            leader,
-            noting,
-        } => {
-            write_term(text, group, *term)?;
-            write_nodes(text, *member, *leader)?;
-            Ok(writeln!(text, " {}", word(*noting))?)
-        }
-    }
+/// Returns the line of a report: `filed GROUP TERM MEMBER LEADER` and what became of it.
+pub fn tell_filing(alloc: Global, report: &Report<Any>, noting: Noting) -> Result<Vec<u8>> {
+    let mut text = String::new(alloc);
+    let charter = report.charter();
+    write_term(&mut text, &charter.group(), charter.term())?;
+    write_nodes(&mut text, report.member(), report.leader())?;
+    writeln!(text, " {}", word(noting))?;
+    Ok(text.into_bytes())
 }
 
 // Writes a call, up to its reply.
