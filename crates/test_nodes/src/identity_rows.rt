@@ -21,8 +21,8 @@ fn identities_are_in_the_order_of_weights_and_then_of_numbers(rt: HostRuntime) {
     let weights = [heavy.weight(), light.weight()];
     equal(&rt, "weights", weights, [9, 0]);
     let number = heavy.number();
-    equal(&rt, "a number", NodeNo::new(1), Some(number));
     equal(&rt, "its digits", number.get(), heavy.get());
+    equal(&rt, "a number", NodeNo::new(1), Some(number));
     let same = [
         same_ids(&[light, heavy], &[light, heavy]),
         same_ids(&[light], &[heavy]),

@@ -32,7 +32,7 @@ fn sized<E: RingElection>(rt: &impl Abort, alloc: Global, kind: E, size: u16) ->
 fn all_know<E: RingElection>(rt: &impl Abort, world: &World<E>, leader: Option<NodeId>) {
     equal(rt, "in flight", world.pending(), 0);
     for node in world.nodes() {
-        equal(rt, "the leader", node.known(), leader);
+        assert_eq!(rt; node.known(), leader);
     }
 }
 
