@@ -21,24 +21,24 @@ SHARED = ("session_rows::", "thread_rows::")
 STARVED = ("starved_rows::",)
 # Tests that ask once more, by crate and by the beginnings of their names: for each growth they have to pass.
 ASK_AGAIN = {
-    "ring_line_rows_tests": ("",),
-    "ring_recovery_rows_tests": ("faults::", "lives::a_full_", "lives::a_table_", "lives::the_"),
-    "ring_rows_tests": (
+    "test_lines_tests": ("",),
+    "test_recovery_tests": ("faults::", "lives::a_full_", "lives::a_table_", "lives::the_"),
+    "test_nodes_tests": (
         "node_rows::", "note_rows::", "scan_rows::", "schedules::", "settle_rows::", "work_rows::",
         "workers::starved_worker::", "world_rows::",
     ),
-    "ring_table_rows_tests": ("closing_rows::", "seat_rows::", "table_rows::", *SHARED),
-    "ring_winner_rows_tests": ("",),
+    "test_table_tests": ("closing_rows::", "seat_rows::", "table_rows::", *SHARED),
+    "test_winner_tests": ("",),
 }
 # Tests that start threads, and end whichever growth is refused.
 THREADED = {
-    "ring_server_rows_tests": ("listening::a_failed_", "running::a_run_says_", "running::a_spent_guest_"),
-    "ring_table_rows_tests": SHARED + STARVED,
+    "test_server_tests": ("listening::a_failed_", "running::a_run_says_", "running::a_spent_guest_"),
+    "test_table_tests": SHARED + STARVED,
 }
 # Tests in which each growth is refused, without a gap: worked cases of a mux, a node, a book, a table, a service and a worker.
 WHOLE = {
-    "ring_rows_tests": ("node_rows::", "note_rows::", "schedules::", "workers::starved_worker::"),
-    "ring_table_rows_tests": ("closing_rows::", "starved_rows::", "table_rows::"),
+    "test_nodes_tests": ("node_rows::", "note_rows::", "schedules::", "workers::starved_worker::"),
+    "test_table_tests": ("closing_rows::", "starved_rows::", "table_rows::"),
 }
 # What the test program says where a test ends by an error, and where it stops at an assertion.
 ENDED, STOPPED = b"the test failed: its result gives status 1\n", b"\ntest stopped at "

@@ -1,0 +1,240 @@
+use crate::memory::{TWICE, text};
+use ring_grammar::{Sink, SinkFailed};
+use ring_lines::{
+    Answerer, Intake, LineFault, Outlet, Queued, ReadFault, Spell, WriteFailed, answer_lines,
+};
+use std::alloc::Global;
+use std::cell::RefCell;
+use std::process::Abort;
+use std::sync::{Mutex, Wait};
+
+// The lock at which answers queue, and marks of what was done: `r` a line was read, `l` a long one, `q` it was queued for,
+// `a` a line was answered, `z` the answerer rests, `t` it settles, `s` an answer was spelled, `<` a read call, `>` a write
+// call. If the lock was held, the letter is a capital one, and the others are `!`.
+#[derive(Drop)]
+struct Watched {
+    door: Mutex<()>,
+    log: RefCell<Vec<u8>>,
+}
+
+impl Watched {
+    // Notes one of two marks. Nothing where memory is refused.
+    fn note(&self, free: u8, held: u8) {
+        let mark = match self.door.try_lock() {
+            Some(_) => free,
+            None => held,
+        };
+        if let Ok(mut log) = self.log.try_borrow_mut() {
+            let _ = log.push(mark);
+        }
+    }
+}
+
+// Answers each line by a text, and queues where it doesn't hold the head of the queue.
+#[derive(Drop)]
+struct Queueing<'a, R> {
+    rt: &'a R,
+    watched: &'a Watched,
+    text: &'a [u8],
+}
+
+// A text, which notes how the lock is while it is spelled.
+#[derive(Drop)]
+struct Told<'a> {
+    watched: &'a Watched,
+    text: &'a [u8],
+}
+
+impl Spell for Told<'_> {
+    ghost spelling = { λ told. told.text.now };
+
+    ghost is_legal = { λ _. Unit {0} };
+
+    fn spell<S: Sink>(&self, out: &mut S) -> Result<(), SinkFailed> {
+        self.watched.note(b's', b'S');
+        out.put(self.text)
+    }
+}
+
+impl<'b, R: Wait> Answerer for Queueing<'b, R> {
+    ghost use Rattle.std.specs.Prelude.{◌≡◌};
+
+    type State = ();
+
+    type Asked = ();
+
+    type Answer = Told<'b>;
+
+    ghost holds = { λ _ _. Unit {0} };
+
+    ghost asks = { λ _ _. Unit {0} };
+
+    ghost answers = { λ _ _ _ _ _. Unit {0} };
+
+    ghost settles = { λ _ old new. new ≡ old };
+
+    ghost may_tell = { λ _ _. Unit {0} };
+
+    fn read(&self, _line: &[u8]) {
+        self.watched.note(b'r', b'R');
+    }
+
+    fn read_long(&self) {
+        self.watched.note(b'l', b'L');
+    }
+
+    fn answer<'a>(
+        &'a self,
+        _state: &mut (),
+        _alloc: Global,
+        queued: &mut Queued<'a>,
+        _asked: (),
+    ) -> Told<'b> {
+        if queued.is_none() {
+            self.watched.note(b'q', b'!');
+            *queued = Some(self.watched.door.lock(self.rt));
+        }
+        self.watched.note(b'a', b'A');
+        Told {
+            watched: self.watched,
+            text: self.text,
+        }
+    }
+
+    fn rest(&self, _state: &mut ()) {
+        self.watched.note(b'z', b'Z');
+    }
+
+    fn settle(&self, _state: &mut ()) {
+        self.watched.note(b't', b'T');
+    }
+
+    ghost settles_behind = { λ _ _ _ _ _ _ given _. given };
+}
+
+// A reader that gives these pieces, one for each read call.
+#[derive(Drop)]
+struct Pieces<'a> {
+    watched: &'a Watched,
+    pieces: &'a [&'a [u8]],
+    next: usize,
+}
+
+impl Intake for Pieces<'_> {
+    ghost read_gives = { λ _ _ _. Unit {0} };
+
+    fn read(&mut self, buffer: &mut [u8]) -> Result<usize, ReadFault> {
+        self.watched.note(b'<', b'!');
+        let Some(piece) = self.pieces.get(self.next) else {
+            return Ok(0);
+        };
+        self.next = self.next.saturating_add(1);
+        let len = piece.len().min(buffer.len());
+        buffer[..len].copy_from_slice(&piece[..len]);
+        Ok(len)
+    }
+}
+
+// A writer that takes all.
+#[derive(Drop)]
+struct Taking<'a> {
+    watched: &'a Watched,
+}
+
+impl Outlet for Taking<'_> {
+    ghost write_gives = { λ _ _ _. Unit {0} };
+
+    fn write(&mut self, bytes: &[u8]) -> Result<usize, WriteFailed> {
+        self.watched.note(b'>', b'!');
+        Ok(bytes.len())
+    }
+}
+
+// So many zeros.
+fn zeros(rt: &impl Abort, alloc: Global, len: usize) -> Vec<u8> {
+    match vec![in alloc; 0; len] {
+        Ok(zeros) => zeros,
+        Err(_) => vec![in alloc; 0; len].expect(rt, TWICE),
+    }
+}
+
+// What comes of the lines of these pieces, which are answered by this text.
+fn answered<'a, R: Wait + AllocGlobal>(
+    rt: &'a R,
+    watched: &'a Watched,
+    pieces: &'a [&'a [u8]],
+    text: &'a [u8],
+) -> Result<u64, LineFault> {
+    let queueing = Queueing { rt, watched, text };
+    let mut reader = Pieces {
+        watched,
+        pieces,
+        next: 0,
+    };
+    let mut writer = Taking { watched };
+    answer_lines(
+        rt.alloc(),
+        &queueing,
+        &mut (),
+        &mut reader,
+        &mut writer,
+        100,
+    )
+}
+
+// What comes of the lines of these pieces, which are answered by a text of so many bytes, and the marks that are noted.
+fn noted<R: Wait + Abort + AllocGlobal>(
+    rt: &R,
+    pieces: &[&[u8]],
+    len: usize,
+) -> (Result<u64, LineFault>, Vec<u8>) {
+    let zeros = zeros(rt, rt.alloc(), len);
+    let watched = Watched {
+        door: Mutex::new(()),
+        log: RefCell::new(text(rt, rt.alloc(), 210)),
+    };
+    let answer = answered(rt, &watched, pieces, &zeros);
+    drop(zeros);
+    (answer, watched.log.into_inner())
+}
+
+// Stops the test if other marks are noted. It is tried again if it ran out of memory.
+fn assert_notes<R: Wait + Abort + AllocGlobal>(
+    rt: &R,
+    pieces: &[&[u8]],
+    len: usize,
+    wanted: &[u8],
+) {
+    let (mut answer, mut marks) = noted(rt, pieces, len);
+    if answer == Err(LineFault::NoMemory) {
+        drop(marks);
+        (answer, marks) = noted(rt, pieces, len);
+    }
+    assert_eq!(rt; marks.as_slice(), wanted);
+    assert!(rt; answer.is_ok(), "{answer:?}");
+    drop(marks);
+}
+
+#[test]
+fn the_queue_is_held_while_lines_are_answered(rt: HostRuntime) {
+    assert_notes(&rt, &[b"a\nb\nc", b"d\n"], 9, b"<rrqAAZtss><rqAZts><");
+    assert_notes(&rt, &[b"a\n", b"b"], 9, b"<rqAZts><<rqAZts>");
+    assert_notes(&rt, &[&[b'a'; 200], b"\nb\n"], 9, b"<<lrqAAZtss><");
+}
+
+#[test]
+fn the_queue_is_left_where_the_page_is_full(rt: HostRuntime) {
+    assert_notes(&rt, &[b"a\nb\nc\nd"], 40000, b"<rrrqAAAZtss>>s><rqAZts>");
+}
+
+#[test]
+fn at_most_64_lines_are_answered_together(rt: HostRuntime) {
+    let mut wanted = [b'r'; 204];
+    wanted[0] = b'<';
+    wanted[65] = b'q';
+    wanted[66..130].fill(b'A');
+    wanted[130..132].copy_from_slice(b"Zt");
+    wanted[132..196].fill(b's');
+    wanted[196..].copy_from_slice(b"rqAZts><");
+    assert_notes(&rt, &[&[b'\n'; 65]], 9, &wanted);
+}

@@ -1,0 +1,279 @@
+use crate::memory::TWICE;
+use command_line::WordsFault;
+use ring_words::{Order, asks_version, not_text, read_words};
+use std::alloc::{AllocError, Global};
+use std::process::Abort;
+
+// The words of a command line, as the program gets them.
+fn words_of(alloc: Global, line: &str) -> Result<Vec<String>, AllocError> {
+    let mut words = Vec::new(alloc);
+    for word in line.split_whitespace() {
+        words.push(String::from_str(alloc, word)?)?;
+    }
+    Ok(words)
+}
+
+// What a command line asks for.
+fn read(alloc: Global, line: &str) -> Result<Order, WordsFault> {
+    let words = words_of(alloc, line)?;
+    read_words(alloc, words.as_slice())
+}
+
+// The same, read again where memory is refused.
+fn read_again(alloc: Global, line: &str) -> Result<Order, WordsFault> {
+    match read(alloc, line) {
+        Err(WordsFault::NoMemory) => read(alloc, line),
+        answer => answer,
+    }
+}
+
+// What the user is told; asked for again where memory is refused.
+fn text_of(rt: &impl Abort, alloc: Global, error: &clap::Error) -> String {
+    match error.to_string(alloc) {
+        Ok(text) => text,
+        Err(_) => error.to_string(alloc).expect(rt, TWICE),
+    }
+}
+
+// Stops the test if a command line doesn't ask for a replay.
+fn replays(rt: &impl Abort, alloc: Global, line: &str) {
+    let order = read_again(alloc, line);
+    assert!(rt; matches!(order, Ok(Order::Replay)), "{line}: {order:?}");
+    drop(order);
+}
+
+#[test]
+fn replay_is_an_order(rt: HostRuntime) {
+    for line in ["ringd replay", "./ringd replay", "ringd replay --"] {
+        replays(&rt, rt.alloc(), line);
+    }
+}
+
+// Stops the test if a command line doesn't have so many clients served, by the file `x`.
+fn serves(rt: &impl Abort, alloc: Global, line: &str, wanted: u32) {
+    let order = read_again(alloc, line);
+    match &order {
+        Ok(Order::Serve { path, connections }) => {
+            assert_eq!(rt; path.as_str(), "x", "{line}");
+            assert_eq!(rt; *connections, wanted, "{line}");
+        }
+        _ => panic!(rt; "{line}: {order:?}"),
+    }
+    drop(order);
+}
+
+#[test]
+fn serve_names_a_file_and_a_number(rt: HostRuntime) {
+    for (line, wanted) in [
+        ("ringd serve x --connections 2", 2),
+        ("ringd serve --connections=64 x", 64),
+        ("ringd serve --connections +1 -- x", 1),
+    ] {
+        serves(&rt, rt.alloc(), line, wanted);
+    }
+}
+
+// Stops the test if a command line doesn't have clients served by the file `x`, so many at a time, each for so many
+// silent seconds, with places if these are told, and campaigns at this port, if it isn't 0. The journal is the file
+// `kept`, and there is none if that is empty.
+fn runs(rt: &impl Abort, alloc: Global, line: &str, numbers: [u32; 3], tells: bool, kept: &str) {
+    let order = read_again(alloc, line);
+    match &order {
+        Ok(
+            Order::Run {
+                path,
+                sessions,
+                idle,
+                places,
+                journal,
+                campaign,
+            },
+        ) => {
+            assert_eq!(rt; path.as_str(), "x", "{line}");
+            assert_eq!(rt; [*sessions, *idle, *campaign], numbers, "{line}");
+            assert_eq!(rt; *places, tells, "{line}");
+            assert_eq!(rt; file_of(journal), kept, "{line}");
+        }
+        _ => panic!(rt; "{line}: {order:?}"),
+    }
+    drop(order);
+}
+
+// The file of a journal, or the empty text if there is no journal.
+fn file_of(journal: &Option<String>) -> &str {
+    match journal {
+        Some(file) => file.as_str(),
+        None => "",
+    }
+}
+
+#[test]
+fn run_has_its_usual_numbers(rt: HostRuntime) {
+    for (line, numbers, tells, kept) in [
+        ("ringd run x", [16, 0, 0], false, ""),
+        ("ringd run --sessions 64 x", [64, 0, 0], false, ""),
+        (
+            "ringd run x --idle=30 --places --sessions 1",
+            [1, 30, 0],
+            true,
+            "",
+        ),
+        ("ringd run x --idle 86400", [16, 86400, 0], false, ""),
+        ("ringd run x --journal y", [16, 0, 0], false, "y"),
+        (
+            "ringd run --journal=y/z x --places",
+            [16, 0, 0],
+            true,
+            "y/z",
+        ),
+        ("ringd run x --campaign 7401", [16, 0, 7401], false, ""),
+        (
+            "ringd run x --campaign=65535 --idle 5",
+            [16, 5, 65535],
+            false,
+            "",
+        ),
+    ] {
+        runs(&rt, rt.alloc(), line, numbers, tells, kept);
+    }
+}
+
+// Stops the test if a command line doesn't ask for what the journal `x` holds.
+fn shows(rt: &impl Abort, alloc: Global, line: &str) {
+    let order = read_again(alloc, line);
+    match &order {
+        Ok(Order::Journal { path }) => assert_eq!(rt; path.as_str(), "x", "{line}"),
+        _ => panic!(rt; "{line}: {order:?}"),
+    }
+    drop(order);
+}
+
+#[test]
+fn journal_names_a_file(rt: HostRuntime) {
+    for line in ["ringd journal x", "ringd journal -- x"] {
+        shows(&rt, rt.alloc(), line);
+    }
+}
+
+// Stops the test if a text is told without this part.
+fn tells(rt: &impl Abort, alloc: Global, error: &clap::Error, part: &str) {
+    let text = text_of(rt, alloc, error);
+    assert!(rt; text.as_str().contains(part), "no {part} in {text}");
+    drop(text);
+}
+
+// Stops the test if a command line isn't refused by a text that has this part.
+fn is_refused(rt: &impl Abort, alloc: Global, line: &str, part: &str) {
+    let order = read_again(alloc, line);
+    match &order {
+        Err(WordsFault::Usage(error)) => tells(rt, alloc, error, part),
+        _ => panic!(rt; "{line}: {order:?}"),
+    }
+    drop(order);
+}
+
+#[test]
+fn numbers_out_of_range_and_missing_words_are_refused(rt: HostRuntime) {
+    for line in [
+        "ringd serve",
+        "ringd serve x",
+        "ringd serve --connections 2",
+        "ringd serve x --connections",
+        "ringd serve x --connections 0",
+        "ringd serve x --connections 65",
+        "ringd serve x --connections x",
+        "ringd serve x --connections -1",
+        "ringd serve x --connections 4294967298",
+        "ringd serve x --connections 2 --connections 2",
+        "ringd serve x y --connections 2",
+        "ringd serve x --connections 2 --sessions 2",
+        "ringd run",
+        "ringd run x y",
+        "ringd run x --sessions 0",
+        "ringd run x --sessions 65",
+        "ringd run x --idle 86401",
+        "ringd run x --idle 1.5",
+        "ringd run x --connections 2",
+        "ringd run x --places --places",
+        "ringd run x --places=true",
+        "ringd run x --journal",
+        "ringd run x --journal y --journal z",
+        "ringd run --journal y",
+        "ringd run x --campaign 0",
+        "ringd run x --campaign 65536",
+        "ringd run x --campaign",
+        "ringd serve x --connections 2 --campaign 7401",
+        "ringd serve x --connections 2 --journal y",
+        "ringd replay --journal y",
+        "ringd journal",
+        "ringd journal x y",
+        "ringd journal x --places",
+        "ringd serve --help",
+    ] {
+        is_refused(&rt, rt.alloc(), line, "--help");
+    }
+}
+
+#[test]
+fn other_words_are_refused_with_the_usage(rt: HostRuntime) {
+    for line in [
+        "",
+        "ringd",
+        "ringd x",
+        "ringd replay y",
+        "ringd replay replay",
+        "ringd Replay",
+        "ringd -- replay",
+        "ringd replay --version",
+        "ringd --help",
+        "ringd help",
+        "ringd help replay",
+        "ringd replay -h",
+    ] {
+        is_refused(&rt, rt.alloc(), line, "Usage: ringd");
+    }
+}
+
+// Stops the test if bytes that are no text aren't refused by a text that has this part.
+fn refuses_bytes(rt: &impl Abort, alloc: Global, part: &str) {
+    let error = match not_text(alloc) {
+        Ok(error) => error,
+        Err(_) => not_text(alloc).expect(rt, TWICE),
+    };
+    tells(rt, alloc, &error, part);
+    drop(error);
+}
+
+#[test]
+fn bytes_that_are_no_text_are_refused_with_the_usage(rt: HostRuntime) {
+    for part in ["a word is not UTF-8 text", "Usage: ringd"] {
+        refuses_bytes(&rt, rt.alloc(), part);
+    }
+}
+
+// Stops the test if a command line doesn't ask for the version, or isn't told it alone.
+fn tells_version(rt: &impl Abort, alloc: Global, line: &str) {
+    let order = read_again(alloc, line);
+    match &order {
+        Err(WordsFault::Usage(error)) => {
+            assert!(rt; asks_version(error), "{line}");
+            is_version(rt, alloc, error);
+        }
+        _ => panic!(rt; "{line}: {order:?}"),
+    }
+    drop(order);
+}
+
+// Stops the test if the version is not told, or something else.
+fn is_version(rt: &impl Abort, alloc: Global, error: &clap::Error) {
+    let text = text_of(rt, alloc, error);
+    assert_eq!(rt; text.as_str(), "ringd 1.0.0\n");
+    drop(text);
+}
+
+#[test]
+fn the_version_is_told(rt: HostRuntime) {
+    for line in ["ringd --version", "ringd -V", "ringd --version replay"] {
+        tells_version(&rt, rt.alloc(), line);
+    }
+}

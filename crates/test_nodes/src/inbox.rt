@@ -1,0 +1,20 @@
+//! What no clause of inboxes says: that calls succeed where they can, in one thread and across threads, for items that own memory.
+ghost use Rattle.std.specs.Prelude.{◌≡◌};
+
+mod one_thread;
+mod threads;
+
+use ring_inbox::{ReceiverPass, SenderPass, inbox};
+use std::alloc::Global;
+use std::process::Abort;
+
+// An inbox of two, which has one sender.
+fn alone<T: Drop>(rt: &impl Abort, alloc: Global) -> (ReceiverPass<T>, SenderPass<T>)
+    ensures { result.1.inbox ≡ result.0.inbox }
+{
+    let (receiver, mut senders) = inbox::<T>(alloc, 2, 1).expect(rt, "no memory");
+    assert_eq!(rt; senders.len(), 1);
+    let sender = senders.remove(0);
+    drop(senders);
+    (receiver, sender)
+}

@@ -1,0 +1,135 @@
+//! Rings: which lists are one, and what one shows.
+
+use crate::equal::equal;
+use crate::rings::{identities, identity, ring, rising, weighted};
+use ring_id::{NodeId, Refusal, Side};
+use ring_roster::Roster;
+use std::alloc::Global;
+use std::process::Abort;
+
+/// The identities with these numbers are no ring, for this reason.
+fn is_refused(rt: &impl Abort, alloc: Global, numbers: &[u32], refusal: Refusal) {
+    let members = identities(rt, alloc, numbers);
+    let answer = Roster::from_members(alloc, &members).err();
+    drop(members);
+    equal(rt, "a list", answer, Some(refusal));
+}
+
+#[test]
+fn a_list_is_refused_for_the_first_that_holds(rt: HostRuntime) {
+    let alloc = rt.alloc();
+    let many = rising(&rt, alloc, 257);
+    let mut repeating = rising(&rt, alloc, 256);
+    let most = ring(&rt, alloc, &repeating).len();
+    equal(&rt, "the longest", most, Roster::MOST);
+    repeating.push(1).expect(&rt, "no memory");
+    is_refused(&rt, alloc, &[], Refusal::Empty);
+    is_refused(&rt, alloc, &[3, 1, 3], Refusal::Member);
+    is_refused(&rt, alloc, &many, Refusal::RingFull);
+    is_refused(&rt, alloc, &repeating, Refusal::RingFull);
+    drop(many);
+    drop(repeating);
+}
+
+/// The ring of these numbers, made of what is known to be one: it is the same as where it is looked at.
+fn known_ring(rt: &impl Abort, alloc: Global, numbers: &[u32]) -> Roster {
+    let members = identities(rt, alloc, numbers);
+    let looked_at = Roster::from_members(alloc, &members).expect(rt, "a ring");
+    let _length = looked_at.len();
+    let known = Roster::of_ring(alloc, &members).expect(rt, "no memory");
+    assert!(rt; known.same(&looked_at));
+    drop(members);
+    drop(looked_at);
+    known
+}
+
+#[test]
+fn a_ring_is_made_of_what_is_known_to_be_one(rt: HostRuntime) {
+    let alloc = rt.alloc();
+    let three = known_ring(&rt, alloc, &[3, 1, 2]);
+    let most = known_ring(&rt, alloc, &rising(&rt, alloc, 256));
+    let lengths = [three.len(), most.len()];
+    equal(&rt, "lengths", lengths, [3, Roster::MOST]);
+    let members = [three.at(0), three.at(1), three.at(2), most.at(255)];
+    drop(three);
+    drop(most);
+    let wanted = [
+        NodeId::new(3),
+        NodeId::new(1),
+        NodeId::new(2),
+        NodeId::new(256),
+    ];
+    equal(&rt, "members", members, wanted);
+}
+
+/// Whether this is the ring of these numbers.
+fn is_ring(rt: &impl Abort, alloc: Global, roster: &Roster, numbers: &[u32]) -> bool {
+    let other = ring(rt, alloc, numbers);
+    let is_same = roster.same(&other);
+    drop(other);
+    is_same
+}
+
+#[test]
+fn members_differ_in_their_numbers_whatever_they_weigh(rt: HostRuntime) {
+    let alloc = rt.alloc();
+    let three = identity(&rt, 3);
+    let heavy_one = weighted(&rt, 1, 9);
+    let heavy_three = weighted(&rt, 3, 9);
+    let twice = Roster::from_members(alloc, &[three, heavy_one, heavy_three]).err();
+    equal(&rt, "a member twice", twice, Some(Refusal::Member));
+    let both = Roster::from_members(alloc, &[three, heavy_one]).expect(&rt, "a ring");
+    let is_light = is_ring(&rt, alloc, &both, &[3, 1]);
+    let found = (both.position(heavy_one.number()), both.at(1), is_light);
+    drop(both);
+    equal(&rt, "the other", found, (Some(1), Some(heavy_one), false));
+}
+
+#[test]
+fn a_ring_shows_its_members_and_neighbours(rt: HostRuntime) {
+    let alloc = rt.alloc();
+    let three = ring(&rt, alloc, &[3, 1, 2]);
+    let one = identity(&rt, 1).number();
+    let four = identity(&rt, 4).number();
+    assert_eq!(rt; three.len(), 3);
+    let members = [three.at(2), three.at(3)];
+    equal(&rt, "members", members, [NodeId::new(2), None]);
+    let positions = [three.position(one), three.position(four)];
+    equal(&rt, "positions", positions, [Some(1), None]);
+    let neighbours = [
+        three.neighbour(2, Side::Right),
+        three.neighbour(0, Side::Left),
+    ];
+    equal(&rt, "neighbours", neighbours, [0, 2]);
+    let same = [
+        is_ring(&rt, alloc, &three, &[3, 1, 2]),
+        is_ring(&rt, alloc, &three, &[1, 2, 3]),
+    ];
+    drop(three);
+    equal(&rt, "the same", same, [true, false]);
+}
+
+/// Whether a ring is that of the identities with these numbers.
+fn is_of(rt: &impl Abort, alloc: Global, roster: &Roster, numbers: &[u32]) -> bool {
+    let members = identities(rt, alloc, numbers);
+    let is_of = roster.is_of(&members);
+    drop(members);
+    is_of
+}
+
+#[test]
+fn a_ring_may_have_several_owners(rt: HostRuntime) {
+    let alloc = rt.alloc();
+    let three = ring(&rt, alloc, &[3, 1, 2]);
+    let again = three.shared().expect(&rt, "no memory");
+    let is_same = again.same(&three);
+    drop(three);
+    let found = [
+        is_same,
+        is_of(&rt, alloc, &again, &[3, 1, 2]),
+        is_of(&rt, alloc, &again, &[1, 2, 3]),
+        is_of(&rt, alloc, &again, &[3, 1]),
+    ];
+    drop(again);
+    equal(&rt, "the same", found, [true, true, false, false]);
+}

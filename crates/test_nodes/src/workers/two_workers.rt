@@ -1,0 +1,133 @@
+//! Two workers, each in its own thread, on Peterson's election on 4, 1, 3, 2: worker 0 owns 4 and 2, worker 1 owns 1
+//! and 3.
+ghost use Rattle.std.specs.Prelude.{◌<◌};
+
+use crate::equal::equal;
+use crate::workers::courses::{Place, moved, worked};
+use crate::workers::gates::{LOOKS, Meeting, wait_for_a_look};
+use crate::workers::items::{Ring, charter, stores};
+use ring_election::RingElection;
+use ring_inbox::SenderPass;
+use ring_node::{Charter, Node};
+use ring_peterson::Peterson;
+use ring_workers::{Filed, Handed, Item, Why};
+use ring_world::{Settlement, settle};
+use std::alloc::Global;
+use std::process::Abort;
+use std::sync::{Arc, Wait};
+use std::thread::Threads;
+use std::time::Clock;
+use std::{mem, thread};
+
+/// How many workers there are.
+const WORKERS: usize = 2;
+
+/// How many items they handle: a charter each, 24 messages and 4 announcements.
+const ITEMS: u64 = 30;
+
+/// Puts the word to stop, until it is stored.
+fn stop<E: RingElection, R: Wait + Clock>(rt: &R, to: &mut SenderPass<Item<E>>) {
+    for _ in 0..LOOKS {
+        if stores(rt, to, Item::Stop) {
+            return;
+        }
+        wait_for_a_look(rt);
+    }
+}
+
+/// Waits until the workers have handled all items, and stops them.
+fn watch<E: RingElection, R: Abort + Wait + Clock>(
+    rt: &R,
+    gate: &Meeting<R>,
+    zero: &mut SenderPass<Item<E>>,
+    one: &mut SenderPass<Item<E>>,
+) {
+    assert!(rt; gate.waits_for(ITEMS));
+    stop(rt, zero);
+    stop(rt, one);
+}
+
+/// Moves the nodes of a worker behind a list, which stopped with nothing left.
+fn take_nodes<E: RingElection>(rt: &impl Abort, handed: Handed<E>, nodes: &mut Vec<Node<E>>) {
+    let rest = moved(rt, handed, nodes);
+    let end = (rest.why, rest.dropped, rest.outbox.len());
+    drop(rest);
+    equal(rt, "why, dropped, and left", end, (Why::Stopped, 0, 0));
+}
+
+/// A place with two passes to its own inbox, which has this capacity and holds the item by which a charter begins; and
+/// one more pass to that inbox.
+fn begun<E: RingElection, R: Abort + Wait>(
+    rt: &R,
+    alloc: Global,
+    charter: &Arc<Charter<E>>,
+    capacity: usize,
+) -> (Place<E>, SenderPass<Item<E>>)
+    requires { 0 < capacity }
+{
+    let mut place = Place::opened(rt, alloc, capacity, WORKERS + 1);
+    let mut own = place.senders.pop().expect(rt, "three passes");
+    let copy = Arc::try_clone(charter).expect(rt, "no copy");
+    assert!(rt; stores(rt, &mut own, Item::Begin(copy)));
+    (place, own)
+}
+
+/// Exchanges a pass of two workers that have two each, all to their own inbox: then each has one to each inbox.
+fn exchange<T>(rt: &impl Abort, zero: &mut Vec<T>, one: &mut Vec<T>) {
+    assert_eq!(rt; zero.len(), WORKERS);
+    assert_eq!(rt; one.len(), WORKERS);
+    mem::swap(&mut zero[1], &mut one[0]);
+}
+
+/// Runs both workers, and gives their nodes.
+fn both<R: Abort + Threads + Wait + Clock + Copy + Send + Sync>(
+    rt: &R,
+    alloc: Global,
+    first: Place<Peterson>,
+    last: Place<Peterson>,
+    gate: &Meeting<R>,
+) -> Vec<Node<Peterson>> {
+    let (zero, one) = thread::join(
+        rt,
+        || worked(rt, alloc, 0, first, gate, Filed::Noted),
+        || worked(rt, alloc, 1, last, gate, Filed::Noted),
+    );
+    let mut nodes = Vec::new(alloc);
+    take_nodes(rt, zero, &mut nodes);
+    take_nodes(rt, one, &mut nodes);
+    nodes
+}
+
+/// The nodes of the two workers settle, with inboxes of this capacity.
+fn settles<R: Abort + Threads + Wait + Clock + Copy + Send + Sync>(
+    rt: &R,
+    alloc: Global,
+    capacity: usize,
+)
+    requires { 0 < capacity }
+{
+    let charter = charter(rt, alloc, Peterson, Ring(1, &[4, 1, 3, 2]));
+    let (mut first, mut to_first) = begun(rt, alloc, &charter, capacity);
+    let (mut last, mut to_last) = begun(rt, alloc, &charter, capacity);
+    exchange(rt, &mut first.senders, &mut last.senders);
+    let gate = Meeting::new(*rt, 2);
+    let (nodes, _) = thread::join(
+        rt,
+        || both(rt, alloc, first, last, &gate),
+        || watch(rt, &gate, &mut to_first, &mut to_last),
+    );
+    let settlement = settle(&charter, &nodes);
+    equal(rt, "the nodes", settlement, Settlement::Settled);
+    drop(to_first);
+    drop(to_last);
+    drop(charter);
+    drop(nodes);
+}
+
+#[test]
+fn two_workers_settle_a_ring(rt: HostRuntime) {
+    for _ in 0..100 {
+        settles(&rt, rt.alloc(), 64);
+        settles(&rt, rt.alloc(), 1);
+    }
+}
