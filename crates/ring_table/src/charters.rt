@@ -22,7 +22,8 @@ pub(crate) fn start_shared<E: RingElection>(
     group: GroupName,
     copies: usize,
 ) -> (Reply, Vec<Arc<Charter<E>>>)
-    ensures step { StepOf E.is_two_way E.is_greatest book.old (command.Start group) result.0 book.new }
+    ensures step { StepOf E.is_two_way E.is_greatest
+        book.old (command.Start group) result.0 book.new }
     ensures charters { GivesCharters group copies
         result.0 (map (λ charter. charter.value) result.1.items) book.new }
 {
@@ -46,7 +47,8 @@ fn share<E: RingElection>(
     charter: &Arc<Charter<E>>,
     copies: usize,
 ) -> Result<Vec<Arc<Charter<E>>>, NoMemory>
-    ensures { IfOk result (λ shared. map (λ c. c.value) shared.items ≡ replicate copies charter.now.value) }
+    ensures { IfOk result (λ shared.
+        map (λ c. c.value) shared.items ≡ replicate copies charter.now.value) }
 {
     let Ok(mut shared) = Vec::with_capacity(alloc, copies) else {
         return Err(NoMemory);

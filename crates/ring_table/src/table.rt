@@ -127,6 +127,7 @@ impl<E: RingElection> Table<E> {
         if is_starved(&reply) {
             return (reply, charters);
         }
+        // the copy allocates only for a list, and no reply to a start has one
         let Ok(kept) = KeptReply::copy_of(self.alloc, &reply) else {
             unreachable!()
         };
