@@ -1,13 +1,12 @@
 -- What a mux keeps: after each command the last term of each group has its world still.
 use Rattle.std.proofs.Common.{◌≡◌, ◌<◌, ℕ, Bool, true, false, cond, List, [], ◌∷◌, ◌++◌, length, replicate, Option, None, Some, is_some, refl, sym, ap, subst, ◌∙◌, arith, inl, inr}
-use Rattle.std.specs.Prelude.{◌⊎◌, ◌-◌, Result, Ok, Err, slice_get}
+use Rattle.std.specs.Prelude.{◌⊎◌, ◌-◌, slice_get}
 use Rattle.std.specs.Map.{lookup}
 use Rattle.std.specs.Str.{bytes_eq}
 use Rattle.std.proofs.lemmas.Bool.{cases_Bool}
 use Rattle.std.proofs.lemmas.Cmp.{nat_list_eq_equiv}
 use Rattle.std.proofs.lemmas.List.{get_or-replicate, get_or_push, length-replicate, length_push}
 use Rattle.std.proofs.lemmas.Option.{none-some, same_Some, slice_get-get_or}
-use Rattle.ring_id.specs.declared.refusal.Refusal.{Refusal}
 use Rattle.ring_id.specs.declared.side.Side.{Side}
 use Rattle.ring_election.specs.Tables.{Table}
 use Rattle.ring_node.specs.declared.charter.Charter.{Charter}
@@ -15,7 +14,7 @@ use Rattle.ring_node.specs.declared.packet.Packet.{Packet}
 use Rattle.ring_node.specs.Nodes.{known_of}
 use Rattle.ring_world.specs.Worlds.{Running, node_at}
 use Rattle.ring_terms.specs.Charters.{next_charter, running_charter}
-use Rattle.ring_terms.specs.Commands.{Answers, Creates, Joins, Leaves, StartsWith}
+use Rattle.ring_terms.specs.Commands.{Creates, Joins, Leaves, StartsWith}
 use Rattle.ring_terms.specs.Object.{GroupView, InGroup, Object, OfGroup, TermView, find, last_term, new_group, new_term, with_group}
 use Rattle.ring_terms.proofs.Objects.{find-with_group, same_name}
 use Rattle.ring_mux.specs.Journeys.{begun_of}
@@ -71,12 +70,6 @@ module _ {E S M : Type 0} (t : E → Table S M) where
       held_with_group object worlds name before (record before { members = members }) worlds held found
       (λ term last. world_with_members name before members term worlds (held.each name before term found last))
       (λ other differ. refl)
-
-  -- a mux is held after a call that was refused, and after one that was done where that keeps it so
-  pub held_answered : {A : Type 0} (first : Option Refusal) (grows : Bool) (object : Object E) (worlds : List (List ℕ × Running E M)) (answer : Result A Refusal) (after : Object E) (Does : A → Type 0) →
-      IsHeld t object worlds → Answers first grows object answer after Does → ((a : A) → Does a → IsHeld t after worlds) → IsHeld t after worlds
-  held_answered first grows object worlds (Ok a) after Does held answers done = done a answers.1
-  held_answered first grows object worlds (Err refusal) after Does held answers done = subst (λ o. IsHeld t o worlds) (sym answers.0) held
 
   -- after create: the new group has no term
   pub held_creates : (object : Object E) (worlds : List (List ℕ × Running E M)) (name : List ℕ) (algorithm : E) (after : Object E) → IsHeld t object worlds → Creates name algorithm object after →

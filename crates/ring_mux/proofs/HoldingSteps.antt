@@ -1,13 +1,8 @@
 -- What is so of an answer where it is known which one came, and a run of the worlds with one step more.
 use Rattle.std.proofs.Common.{◌≡◌, Bool, false, List, [], ◌∷◌, ◌++◌, refl, sym, subst, true≢false}
-use Rattle.std.specs.Prelude.{true, Option, Result, Ok, Err, OnErr, OnOk, is_err}
+use Rattle.std.specs.Prelude.{true, Result, Ok, Err, OnErr, OnOk, is_err}
 use Rattle.ring_events.specs.declared.event.Event.{Event}
 use Rattle.ring_events.specs.declared.reply.Reply.{Reply}
-use Rattle.ring_events.specs.declared.reply.Reply.TheVariants.{Done}
-use Rattle.ring_id.specs.declared.refusal.Refusal.{Refusal}
-use Rattle.ring_terms.specs.Commands.{Answers}
-use Rattle.ring_terms.specs.private.Replies.{done_reply}
-use Rattle.ring_terms.specs.Steps.{Replies}
 use Rattle.ring_mux.specs.Views.{Held}
 use Rattle.ring_mux.specs.WorldSteps.{HasStepped, RunOfWorlds}
 use Rattle.ring_election.specs.Tables.{Table}
@@ -21,12 +16,6 @@ where_not_err (Err b) none says = absurd (true≢false none)
 pub where_err : {A B P : Type 0} (answer : Result A B) → is_err answer ≡ true → OnErr answer P → P
 where_err (Ok a) some says = absurd (true≢false (sym some))
 where_err (Err b) some says = says
-
--- the reply to what is done, or refused
-pub replies_done : {S : Type 0} (P : Type 0) (first : Option Refusal) (grows : Bool) (old : S) (answer : Result (Unit {0}) Refusal) (new : S) → Answers first grows old answer new (λ _. P)
-    → Replies first grows old (done_reply answer) new (λ r. (r ≡ Done) × P)
-replies_done P first grows old (Ok done) new answers = (answers.0, (refl, answers.1))
-replies_done P first grows old (Err refusal) new answers = answers
 
 module _ {E S M : Type 0} (t : E → Table S M) (two_way greatest : E → Bool) where
   -- and likewise below the object

@@ -7,6 +7,7 @@ pub mod Keeping
 pub mod Leavings
 pub mod Outcomes
 pub mod Passages
+pub mod Performing
 pub mod Places
 pub mod Seats
 pub mod Standing

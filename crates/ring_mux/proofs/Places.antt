@@ -12,11 +12,9 @@ use Rattle.std.proofs.lemmas.List.Sums.{position_or_len_is}
 use Rattle.std.proofs.lemmas.Option.{get_or_from_slice_get, none-some, same_Some, slice_get-get_or, slice_get_within}
 use Rattle.std.proofs.lemmas.Slice.Eq.{bytes_eq-Decides}
 use Rattle.std.specs.Option.{ok_or}
-use Rattle.std.specs.Prelude.{Result, Ok, Err}
 use Rattle.std.proofs.lemmas.List.{length_push}
-use Rattle.ring_id.specs.declared.refusal.Refusal.{Refusal}
 use Rattle.ring_id.specs.declared.refusal.Refusal.TheVariants.{NoGroup}
-use Rattle.ring_terms.specs.Commands.{Answers, Creates, Shows, StartsWith, in_group, running_refusal}
+use Rattle.ring_terms.specs.Commands.{Creates, Shows, StartsWith, in_group, running_refusal}
 use Rattle.ring_terms.specs.Charters.{next_charter}
 use Rattle.ring_node.specs.declared.charter.Charter.{Charter}
 use Rattle.ring_terms.specs.Kept.{IsKept}
@@ -338,13 +336,6 @@ module _ {E M : Type 0} (object after : Object E) (slots : List (Option (Running
   group_sees name Does inside =
       let same = names_kept name Does object after inside in
       record { seen = ap (λ ns. placed ns slots) same; few = let long = ap length same in omega (arith, long, few) }
-
-  -- and after a call that was refused
-  pub answered_sees : {A : Type 0} (first : Option Refusal) (grows : Bool) (answer : Result A Refusal) (Does : A → Type 0) → Answers first grows object answer after Does → ((a : A) → Does a → SeesSame object after slots) → SeesSame object after slots
-  answered_sees first grows (Ok a) Does answers sees = sees a answers.1
-  answered_sees first grows (Err refusal) Does answers sees =
-      let same = answers.0 in
-      record { seen = ap (λ (o : Object E). placed (names o) slots) same; few = let long = ap (λ (o : Object E). length (names o)) same in omega (arith, long, few) }
 
 -- what is kept stays where the same worlds are seen
 pub kept_sees : {E S M : Type 0} (t : E → Table S M) (fits : E → Fitting M) (winner : E → List ℕ → ℕ) (object after : Object E) (slots : List (Option (Running E M))) → IsKeptAt t fits winner object slots →

@@ -3,8 +3,8 @@ ghost use Rattle.ring_roster.specs.Ring.{position_of};
 ghost use Rattle.ring_terms.specs.Commands.{Shows, in_group, running_refusal, who_refusal};
 ghost use Rattle.ring_terms.specs.Object.{OfGroup, OfLast, names};
 ghost use Rattle.ring_mux.specs.Quiet.{QuietIsKnown};
-ghost use Rattle.ring_terms.specs.private.Replies.{done_reply, told_reply};
-ghost use Rattle.ring_terms.specs.Steps.{KnownIfNone, Run, Step, StepOf, standing_reply};
+ghost use Rattle.ring_terms.specs.private.Replies.{done_reply};
+ghost use Rattle.ring_terms.specs.Steps.{KnownIfNone, Run, Step, StepOf};
 ghost use Rattle.ring_mux.specs.private.Views.{HasGrown, IsAt};
 ghost use Rattle.ring_mux.specs.Views.{IsHeld, IsPendingIn};
 ghost use Rattle.ring_mux.specs.WorldSteps.{CommandOfWorlds, LeavesQuiet, RunOfWorlds, StartOfWorlds, StepOfWorlds};
@@ -14,7 +14,7 @@ use crate::deliveries::{carry, carry_many};
 use ring_election::RingElection;
 use ring_events::{Command, Count, Event, Reply};
 use ring_id::{GroupName, NoMemory, NodeNo, Refusal, Side};
-use ring_terms::{Book, Standing};
+use ring_terms::Book;
 use ring_world::{TalliedCircle, Traffic, World};
 use std::alloc::Global;
 use std::marker::Model;
@@ -110,7 +110,8 @@ impl<E: RingElection, T: Traffic<E>> Mux<E, T> {
         Ok(replies)
     }
 
-    /// The reply to a client's command.
+    /// The reply to a client's command. A start also makes the world of its term; every other
+    /// command leaves the worlds as they are.
     #[inline(always)]
     fn command(&mut self, alloc: Global, command: Command<E>) -> Reply
         ensures object { StepOf E.is_two_way E.is_greatest
@@ -118,23 +119,8 @@ impl<E: RingElection, T: Traffic<E>> Mux<E, T> {
         ensures worlds { CommandOfWorlds self.old command result self.new }
     {
         match command {
-            Command::Create(group, algorithm) => done(self.book.create(alloc, group, algorithm)),
-            Command::Join(group, node) => done(self.book.join(group, node)),
-            Command::Leave(group, node) => done(self.book.leave(group, node)),
             Command::Start(group) => self.start(alloc, group),
-            Command::Who(group, node) => told(self.book.who(group, node)),
-            Command::Members(group) => match self.book.members(alloc, group) {
-                Ok(members) => Reply::Members(members),
-                Err(refusal) => Reply::Refused(refusal),
-            },
-            Command::Terms(group) => match self.book.terms(alloc, group) {
-                Ok(terms) => Reply::Terms(terms),
-                Err(refusal) => Reply::Refused(refusal),
-            },
-            Command::Groups => match self.book.groups(alloc) {
-                Ok(groups) => Reply::Groups(groups),
-                Err(refusal) => Reply::Refused(refusal),
-            },
+            other => self.book.perform(alloc, other),
         }
     }
 
@@ -317,25 +303,5 @@ fn done(answer: Result<(), Refusal>) -> Reply
     match answer {
         Ok(()) => Reply::Done,
         Err(refusal) => Reply::Refused(refusal),
-    }
-}
-
-/// The reply to `who`: the standing of a member, or the refusal.
-fn told(answer: Result<Standing, Refusal>) -> Reply
-    ensures { result ≡ told_reply answer }
-{
-    match answer {
-        Ok(standing) => says(standing),
-        Err(refusal) => Reply::Refused(refusal),
-    }
-}
-
-/// The reply that says a standing.
-fn says(standing: Standing) -> Reply
-    ensures { result ≡ standing_reply standing }
-{
-    match standing {
-        Standing::Leader { term, leader } => Reply::Leader(term, leader),
-        Standing::Undecided(term) => Reply::Undecided(term),
     }
 }

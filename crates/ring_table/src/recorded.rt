@@ -4,7 +4,7 @@ ghost use Rattle.ring_terms.specs.Kept.{IsKept};
 ghost use Rattle.ring_table.specs.Histories.{IsLegal};
 ghost use Rattle.ring_table.specs.Tables.{Calls, Files, GivesCharters, plain};
 
-use crate::charters::plan_charters;
+use crate::charters::start_shared;
 use crate::entry::filed_from;
 use crate::recorder::Recorder;
 use crate::table::is_starved;
@@ -141,13 +141,16 @@ impl<E: RingElection, H: Recorder<E> + Drop> Recorded<E, H> {
         ensures charters { GivesCharters group copies
             result.0 (map (λ charter. charter.value) result.1.items) self.new.book }
     {
-        let Ok(charters) = plan_charters(self.alloc, &self.book, group, copies) else {
+        let Ok(()) = self.recorder.reserve() else {
             return (Reply::Refused(Refusal::NoMemory), Vec::new(self.alloc));
         };
-        match self.call(session, Command::Start(group)) {
-            Reply::Term(term) => (Reply::Term(term), charters),
-            reply => (reply, Vec::new(self.alloc)),
+        let (reply, charters) = start_shared(self.alloc, &mut self.book, group, copies);
+        if is_starved(&reply) {
+            return (reply, charters);
         }
+        self.recorder
+            .record_call(session, Command::Start(group), &reply);
+        (reply, charters)
     }
 
     /// Files a report. What the book makes of it is the answer, and one entry. If the room for the

@@ -10,7 +10,7 @@ ghost use Rattle.ring_table.specs.Finishing.{AllInformed, Finishes, FilesOne};
 ghost use Rattle.ring_table.specs.Histories.{IsLegal, starved};
 ghost use Rattle.ring_table.specs.Tables.{Calls, Files, GivesCharters};
 
-use crate::charters::plan_charters;
+use crate::charters::start_shared;
 use crate::entry::{Entry, filed_from, is_refused};
 use crate::history::History;
 use crate::kept::KeptReply;
@@ -120,13 +120,23 @@ impl<E: RingElection> Table<E> {
         ensures charters { GivesCharters group copies
             result.0 (map (λ charter. charter.value) result.1.items) self.new.book }
     {
-        let Ok(charters) = plan_charters(self.alloc, &self.book, group, copies) else {
+        let Ok(()) = self.history.entries.reserve() else {
             return (Reply::Refused(Refusal::NoMemory), Vec::new(self.alloc));
         };
-        match self.call(session, Command::Start(group)) {
-            Reply::Term(term) => (Reply::Term(term), charters),
-            reply => (reply, Vec::new(self.alloc)),
+        let (reply, charters) = start_shared(self.alloc, &mut self.book, group, copies);
+        if is_starved(&reply) {
+            return (reply, charters);
         }
+        // the copy allocates only for a list, and no reply to a start has one
+        let Ok(kept) = KeptReply::copy_of(self.alloc, &reply) else {
+            unreachable!()
+        };
+        self.history.entries.push_reserved(Entry::Call {
+            session,
+            command: Command::Start(group),
+            reply: kept,
+        });
+        (reply, charters)
     }
 
     /// Returns no charters, as a list over the table's allocator. Does not allocate.

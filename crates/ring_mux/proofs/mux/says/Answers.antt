@@ -1,6 +1,0 @@
--- A term that is undecided is told as undecided.
-use Rattle.std.proofs.Common.{refl}
-use Rattle.ring_mux.proofs.mux.says.Goals as goal
-
-pub returns-in-Undecided : goal.returns-in-Undecided
-returns-in-Undecided c = rw c.in-Undecided.is refl
