@@ -102,7 +102,7 @@ where
 ///
 /// Its faults, in this order: the file can't be read, is too long or spells no configuration; the port
 /// can't be listened on; and those of `run_loop`.
-#[tactic(auto, using(crate::proofs::Causes::ran_unloaded))]
+#[tactic(auto, using(crate::proofs::Causes::ran_unloaded, crate::proofs::Causes::ran_unheard))]
 pub fn run<R, O>(
     rt: &R,
     path: &str,
@@ -137,7 +137,7 @@ where
 ///
 /// Its faults, in this order: those of the configuration; those of taking up the journal; the port can't be
 /// listened on; and those of `resume_loop`.
-#[tactic(auto, using(crate::proofs::Causes::kept_unloaded))]
+#[tactic(auto, using(crate::proofs::Causes::kept_unloaded, crate::proofs::Causes::kept_unheard))]
 pub fn run_kept<R, O>(
     rt: &R,
     path: &str,
