@@ -1,5 +1,5 @@
 -- Causes: what is told where no configuration was found.
-use Rattle.std.proofs.Common.{◌≡◌, ◌≤◌, ℕ, List, length, refl, subst, sym, inl, inr}
+use Rattle.std.proofs.Common.{◌≤◌, ℕ, List, length, refl, subst, sym, inl, inr}
 use Rattle.ring_config.specs.Reading.{Spells}
 use Rattle.ring_config.specs.declared.config.Config.{Config}
 use Rattle.ring_door.specs.Telling.{closed_line, listening_line}
@@ -28,10 +28,3 @@ module _ {V : Type 0} (gives : V → Writing → V → Type 0) (from : V) where
   kept_unloaded fault (inl (inl unreadable)) = (0, subst (λ (f : ProgramFault). KeptAt gives from (listening_line 0) f from) (sym unreadable) refl)
   kept_unloaded fault (inl (inr memory)) = (0, subst (λ (f : ProgramFault). KeptAt gives from (listening_line 0) f from) (sym memory) refl)
   kept_unloaded fault (inr bad) = (0, subst (λ (f : ProgramFault). KeptAt gives from (listening_line 0) f from) (sym bad.0) (refl, bad.1))
-
-  -- and where nothing was listened on
-  pub ran_unheard : (fault : ProgramFault) → fault ≡ program.Listen → (port : ℕ) × RanAt gives from (listening_line port) fault from
-  ran_unheard fault is = (0, subst (λ (f : ProgramFault). RanAt gives from (listening_line 0) f from) (sym is) refl)
-
-  pub kept_unheard : (fault : ProgramFault) → fault ≡ program.Listen → (port : ℕ) × KeptAt gives from (listening_line port) fault from
-  kept_unheard fault is = (0, subst (λ (f : ProgramFault). KeptAt gives from (listening_line 0) f from) (sym is) refl)

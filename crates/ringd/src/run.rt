@@ -102,7 +102,7 @@ where
 ///
 /// Its faults, in this order: the file can't be read, is too long or spells no configuration; the port
 /// can't be listened on; and those of `run_loop`.
-#[tactic(auto, using(crate::proofs::Causes::ran_unloaded, crate::proofs::Causes::ran_unheard))]
+#[tactic(auto, using(crate::proofs::Causes::ran_unloaded))]
 pub fn run<R, O>(
     rt: &R,
     path: &str,
@@ -137,7 +137,7 @@ where
 ///
 /// Its faults, in this order: those of the configuration; those of taking up the journal; the port can't be
 /// listened on; and those of `resume_loop`.
-#[tactic(auto, using(crate::proofs::Causes::kept_unloaded, crate::proofs::Causes::kept_unheard))]
+#[tactic(auto, using(crate::proofs::Causes::kept_unloaded))]
 pub fn run_kept<R, O>(
     rt: &R,
     path: &str,
@@ -167,7 +167,9 @@ where
 {
     let config = load(rt, path)?;
     let resumed = journal::take_up(rt, file)?;
-    let (listener, campaigns) = listen_both(rt, config.port, campaigns)?;
+    let Ok((listener, campaigns)) = listen_both(rt, config.port, campaigns) else {
+        return Err(ProgramFault::Listen);
+    };
     resume_loop(rt, listener, campaigns, &config, limits, resumed, out)
 }
 
