@@ -174,7 +174,9 @@ where
 {
     let config = load(rt, path)?;
     let resumed = journal::take_up(rt, file)?;
-    let (listener, campaigns) = listen_both(rt, config.port, campaigns)?;
+    let Ok((listener, campaigns)) = listen_both(rt, config.port, campaigns) else {
+        return Err(ProgramFault::Listen);
+    };
     resume_loop(rt, listener, campaigns, &config, limits, resumed, out)
 }
 
