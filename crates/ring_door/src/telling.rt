@@ -26,7 +26,7 @@ pub fn tell<O: Outlet>(out: &mut O, line: &str) -> Result<(), ProgramFault>
     ensures { MatchResult result
         (λ _. Wrote O.write_gives out.old line.now out.new)
         (λ fault. (fault ≡ ProgramFault.Write)
-            × WroteFront O.write_gives out.old line.now out.new) }
+        × WroteFront O.write_gives out.old line.now out.new) }
 {
     match put(out, line.as_bytes()) {
         Ok(()) => Ok(()),

@@ -40,5 +40,5 @@ pub record HasServed (base : Option ℕ) (most session reads : ℕ)
   pub served : MatchOption base
       (Serves Adds Adds (λ seat. seat.mine) session old [] [] reads result new read written)
       (λ base.
-          ServesPlaced Adds Adds (λ seat. seat.mine) base most session old [] [] reads result new
-          read written)
+      ServesPlaced Adds Adds (λ seat. seat.mine) base most session old [] [] reads result new
+      read written)

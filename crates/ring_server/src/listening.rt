@@ -41,10 +41,10 @@ where
     O: Outlet,
     ensures { MatchResult result
         (λ _. Wrote O.write_gives out.old
-            (listening_line config.now.port ++ closed_line connections) out.new)
+        (listening_line config.now.port ++ closed_line connections) out.new)
         (λ fault.
-            BothAt O.write_gives out.old (listening_line config.now.port) (closed_line connections)
-            fault out.new) }
+        BothAt O.write_gives out.old (listening_line config.now.port) (closed_line connections)
+        fault out.new) }
 {
     let alloc = rt.alloc();
     let listening = say_listening(alloc, config.port)?;

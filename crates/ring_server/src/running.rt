@@ -51,7 +51,7 @@ where
     ensures { MatchResult result
         (λ _. Wrote O.write_gives out.old (listening_line config.now.port) out.new)
         (λ fault.
-            FirstOrNone O.write_gives out.old (listening_line config.now.port) fault out.new) }
+        FirstOrNone O.write_gives out.old (listening_line config.now.port) fault out.new) }
 {
     let alloc = rt.alloc();
     let listening = say_listening(alloc, config.port)?;

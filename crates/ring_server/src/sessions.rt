@@ -255,10 +255,10 @@ fn answer<R: Wait, I: Intake, O: Outlet, T: Tabled<Any> + Drop>(
     ensures told { (seat.new ≡ seat.old) ⊎ Settled seat.new }
     ensures served { MatchOption base
         (Serves I.read_gives O.write_gives (λ seat. seat.mine) session seat.old reader.old
-            writer.old reads result seat.new reader.new writer.new)
+        writer.old reads result seat.new reader.new writer.new)
         (λ base.
-            ServesPlaced I.read_gives O.write_gives (λ seat. seat.mine) base T.most session seat.old
-            reader.old writer.old reads result seat.new reader.new writer.new) }
+        ServesPlaced I.read_gives O.write_gives (λ seat. seat.mine) base T.most session seat.old
+        reader.old writer.old reads result seat.new reader.new writer.new) }
 {
     match base {
         Some(base) => front.serve_placed(rt, seat, base, session, reader, writer, reads),

@@ -119,7 +119,7 @@ fn tell_bytes<O: Outlet>(out: &mut O, text: &[u8]) -> Result<(), ProgramFault>
     ensures { MatchResult result
         (λ _. Wrote O.write_gives out.old text.now out.new)
         (λ fault. (fault ≡ ProgramFault.Write)
-            × WroteFront O.write_gives out.old text.now out.new) }
+        × WroteFront O.write_gives out.old text.now out.new) }
 {
     match put(out, text) {
         Ok(()) => Ok(()),

@@ -63,8 +63,8 @@ pub fn tell_version<O: Outlet>(
     ensures { MatchResult result
         (λ _. (text : List ℕ) × Wrote O.write_gives out.old text out.new)
         (λ fault. ((fault ≡ ProgramFault.NoMemory) × (out.new ≡ out.old))
-            ⊎ ((fault ≡ ProgramFault.Write)
-            × ((text : List ℕ) × WroteFront O.write_gives out.old text out.new))) }
+        ⊎ ((fault ≡ ProgramFault.Write)
+        × ((text : List ℕ) × WroteFront O.write_gives out.old text out.new))) }
 {
     let Ok(text) = version.to_string(alloc) else {
         return Err(ProgramFault::NoMemory);
@@ -93,10 +93,10 @@ where
     O: Outlet,
     ensures { MatchResult result
         (λ _. (port : ℕ) × Wrote O.write_gives out.old
-            (listening_line port ++ closed_line connections) out.new)
+        (listening_line port ++ closed_line connections) out.new)
         (λ fault.
-            (port : ℕ) × ServedAt O.write_gives out.old (listening_line port)
-            (closed_line connections) fault out.new) }
+        (port : ℕ) × ServedAt O.write_gives out.old (listening_line port)
+        (closed_line connections) fault out.new) }
 {
     let config = load(rt, path)?;
     let listener = listen(rt, config.port)?;
