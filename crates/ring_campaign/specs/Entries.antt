@@ -1,5 +1,5 @@
--- What a campaign adds to the entries of its seat: its join, then questions about its group, and last its leave. Here
--- they are those of a session, for a group and for the number of its member.
+-- What a campaign adds to the entries of its seat: its join, then questions about its group, and
+-- last its leave. Here they are those of a session, for a group and for the number of its member.
 use Rattle.std.specs.Prelude.{◌≡◌, ◌⊎◌, ◌==◌, ℕ, Bool, true, false, List, [], ◌∷◌, ◌++◌, Option, Some, All}
 use Rattle.std.specs.List.{list_any}
 use Rattle.ring_id.specs.Identity.{number_of}
@@ -12,7 +12,8 @@ use Rattle.ring_events.specs.declared.reply.Reply.TheVariants as reply
 use Rattle.ring_table.specs.declared.entry.Entry.{Entry}
 use Rattle.ring_table.specs.declared.entry.Entry.TheVariants.{Call}
 
--- whether this member has to be followed once it has gone: it leads the last term, or has not heard who does
+-- whether this member has to be followed once it has gone: it leads the last term, or has not heard
+-- who does
 abbrev pub may_lead : ℕ → Reply → Bool
 may_lead number (Leader term leader) = number_of leader == number
 may_lead number (Undecided term) = true
@@ -27,7 +28,8 @@ module _ (session : ℕ) (group : List ℕ) (number : ℕ) where
 
   -- such a question, or one of who leads this member
   abbrev pub IsQuestion : Entry Any → Type 0
-  IsQuestion (Call caller (Who name node) answer) = (caller ≡ session) × (name ≡ group) × (node ≡ number)
+  IsQuestion (Call caller (Who name node) answer) = (caller ≡ session) × (name ≡ group)
+      × (node ≡ number)
   IsQuestion (Call caller (Members name) answer) = (caller ≡ session) × (name ≡ group)
   IsQuestion (Call caller (Terms name) answer) = (caller ≡ session) × (name ≡ group)
   IsQuestion _ = ⊥
@@ -38,7 +40,10 @@ module _ (session : ℕ) (group : List ℕ) (number : ℕ) where
     pub leaders : List (Option ℕ)
     pub leader : ℕ
     pub members : List ℕ
-    pub whole : asked ≡ earlier ++ Call session (Terms group) (reply.Terms (leaders ++ Some leader ∷ [])) ∷ Call session (Members group) (reply.Members members) ∷ []
+    pub whole : asked ≡ earlier
+        ++ Call session (Terms group) (reply.Terms (leaders ++ Some leader ∷ []))
+        ∷ Call session (Members group) (reply.Members members)
+        ∷ []
     pub is : list_any (has_number leader) members ≡ there
     pub other : number_of leader ≡ number → ⊥
 
@@ -47,7 +52,9 @@ module _ (session : ℕ) (group : List ℕ) (number : ℕ) where
     pub earlier : List (Entry Any)
     pub leaders : List (Option ℕ)
     pub leader : ℕ
-    pub whole : asked ≡ earlier ++ Call session (Terms group) (reply.Terms (leaders ++ Some leader ∷ [])) ∷ []
+    pub whole : asked ≡ earlier
+        ++ Call session (Terms group) (reply.Terms (leaders ++ Some leader ∷ []))
+        ∷ []
     pub own : number_of leader ≡ number
 
   -- The last answer says that no term has begun.
@@ -81,8 +88,8 @@ module _ (session : ℕ) (group : List ℕ) (number : ℕ) where
     pub leader : HasLeader true asked
     pub questions : All IsQuestion later
 
-  -- Between the join and the leave: it is asked whether there is a leader to follow. Who leads this member is asked only
-  -- behind that, or behind a start.
+  -- Between the join and the leave: it is asked whether there is a leader to follow. Who leads this
+  -- member is asked only behind that, or behind a start.
   abbrev pub Looks : List (Entry Any) → Type 0
   Looks entries = All IsQuiet entries ⊎ Follows entries ⊎ StartsOnce entries
 
@@ -96,7 +103,9 @@ module _ (session : ℕ) (group : List ℕ) (number : ℕ) where
     pub left : Reply
     pub told : Reply
     pub again : List (Entry Any)
-    pub whole : entries ≡ Call session (Leave group number) left ∷ Call session (Who group number) told ∷ again
+    pub whole : entries ≡ Call session (Leave group number) left
+        ∷ Call session (Who group number) told
+        ∷ again
     pub starts : StartsIf (may_lead number told) again
 
 module _ (session : ℕ) (mine now : List (Entry Any)) where

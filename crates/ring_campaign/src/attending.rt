@@ -22,8 +22,8 @@ pub(crate) enum Turn {
 }
 
 impl<A: Access<Any> + Drop, R: Wait + Clock> Candidate<'_, A, R> {
-    /// Tells the client what the member knows of its leader, each time that it changes, until the campaign is
-    /// over. The client was told that it has joined.
+    /// Tells the client what the member knows of its leader, each time that it changes, until the
+    /// campaign is over. The client was told that it has joined.
     pub(crate) fn attend<I: Intake, O: Outlet>(
         &self,
         seat: &mut A::Seat,
@@ -33,7 +33,9 @@ impl<A: Access<Any> + Drop, R: Wait + Clock> Candidate<'_, A, R> {
     )
         requires { A.has_seat self.now.caller.access.now seat.old }
         ensures seat { A.has_seat self.now.caller.access.now seat.new }
-        ensures attends { Attends I.read_gives O.write_gives self.now.caller.session self.now.group self.now.number (A.mine seat.old) reader.old writer.old (A.mine seat.new) reader.new writer.new }
+        ensures attends { Attends I.read_gives O.write_gives self.now.caller.session self.now.group
+            self.now.number (A.mine seat.old) reader.old writer.old (A.mine seat.new) reader.new
+            writer.new }
     {
         let mut last = Reply::Done;
         let mut follows = false;
@@ -61,7 +63,9 @@ impl<A: Access<Any> + Drop, R: Wait + Clock> Candidate<'_, A, R> {
     ) -> Turn
         requires { A.has_seat self.now.caller.access.now seat.old }
         ensures seat { A.has_seat self.now.caller.access.now seat.new }
-        ensures turns { Turns O.write_gives self.now.caller.session self.now.group self.now.number follows.old last.old (A.mine seat.old) writer.old result follows.new last.new (A.mine seat.new) writer.new }
+        ensures turns { Turns O.write_gives self.now.caller.session self.now.group self.now.number
+            follows.old last.old (A.mine seat.old) writer.old result follows.new last.new
+            (A.mine seat.new) writer.new }
     {
         match self.look(seat, follows) {
             Look::Nothing => Turn::On,
@@ -81,7 +85,8 @@ impl<A: Access<Any> + Drop, R: Wait + Clock> Candidate<'_, A, R> {
 
 // Whether a read call may follow one with this answer.
 fn may_go_on(answer: Result<usize, ReadFault>) -> bool
-    ensures { (bytes : List ℕ) → IfOk answer (λ n. n ≤ length bytes) → goes_on (reading answer bytes) ≡ result }
+    ensures { (bytes : List ℕ) → IfOk answer (λ n. n ≤ length bytes)
+        → goes_on (reading answer bytes) ≡ result }
 {
     match answer {
         Ok(count) => count > 0,

@@ -28,12 +28,13 @@ pub(crate) struct Candidate<'a, A: Drop, R> {
 }
 
 impl<A: Access<Any> + Drop, R: Wait> Candidate<'_, A, R> {
-    /// Looks for a leader to follow until one was found. From then on it asks what the member knows of its
-    /// leader.
+    /// Looks for a leader to follow until one was found. From then on it asks what the member knows
+    /// of its leader.
     pub(crate) fn look(&self, seat: &mut A::Seat, follows: &mut bool) -> Look
         requires { A.has_seat self.now.caller.access.now seat.old }
         ensures seat { A.has_seat self.now.caller.access.now seat.new }
-        ensures looks { AddsLook self.now.caller.session self.now.group self.now.number follows.old (A.mine seat.old) result follows.new (A.mine seat.new) }
+        ensures looks { AddsLook self.now.caller.session self.now.group self.now.number follows.old
+            (A.mine seat.old) result follows.new (A.mine seat.new) }
     {
         if *follows {
             return self.look_up(seat);
@@ -56,7 +57,8 @@ impl<A: Access<Any> + Drop, R: Wait> Candidate<'_, A, R> {
     fn look_up(&self, seat: &mut A::Seat) -> Look
         requires { A.has_seat self.now.caller.access.now seat.old }
         ensures seat { A.has_seat self.now.caller.access.now seat.new }
-        ensures asks { AddsWho self.now.caller.session self.now.group self.now.number (A.mine seat.old) result (A.mine seat.new) }
+        ensures asks { AddsWho self.now.caller.session self.now.group self.now.number
+            (A.mine seat.old) result (A.mine seat.new) }
     {
         let who = Command::Who(self.group, self.number);
         let Caller {

@@ -20,8 +20,9 @@ use std::time::Clock;
 
 /// Takes all members out of all groups, and has that kept for good. No term is started.
 ///
-/// A service of campaigns that goes on after a restart does so before its first client. No connection of
-/// those members is left, so nobody else takes them out. Each command is given again until it is placed.
+/// A service of campaigns that goes on after a restart does so before its first client. No
+/// connection of those members is left, so nobody else takes them out. Each command is given again
+/// until it is placed.
 pub fn clear<A, R>(rt: &R, access: &A, seat: &mut A::Seat, session: u32)
 where
     A: Access<Any> + Drop,

@@ -30,12 +30,13 @@ pub(crate) enum Found {
 }
 
 impl<A: Access<Any> + Drop, R: Wait> Candidate<'_, A, R> {
-    /// Looks for a leader to follow. If there is none, a term is started. All is asked in one turn of the
-    /// seat, if it has turns that do so.
+    /// Looks for a leader to follow. If there is none, a term is started. All is asked in one turn
+    /// of the seat, if it has turns that do so.
     pub(crate) fn find(&self, seat: &mut A::Seat) -> Found
         requires { A.has_seat self.now.caller.access.now seat.old }
         ensures seat { A.has_seat self.now.caller.access.now seat.new }
-        ensures finds { Finds self.now.caller.session self.now.group self.now.number (A.mine seat.old) result (A.mine seat.new) }
+        ensures finds { Finds self.now.caller.session self.now.group self.now.number
+            (A.mine seat.old) result (A.mine seat.new) }
     {
         let queued = self.caller.access.queue(self.caller.rt);
         self.caller.access.keep(seat);
@@ -49,7 +50,8 @@ impl<A: Access<Any> + Drop, R: Wait> Candidate<'_, A, R> {
     fn find_now(&self, seat: &mut A::Seat) -> Found
         requires { A.has_seat self.now.caller.access.now seat.old }
         ensures seat { A.has_seat self.now.caller.access.now seat.new }
-        ensures finds { Finds self.now.caller.session self.now.group self.now.number (A.mine seat.old) result (A.mine seat.new) }
+        ensures finds { Finds self.now.caller.session self.now.group self.now.number
+            (A.mine seat.old) result (A.mine seat.new) }
     {
         let Some(terms) = self.caller.ask(seat, &Command::Terms(self.group)) else {
             return Found::Unknown;
@@ -74,7 +76,8 @@ impl<A: Access<Any> + Drop, R: Wait> Candidate<'_, A, R> {
     fn find_leader(&self, seat: &mut A::Seat, leader: NodeId) -> Found
         requires { A.has_seat self.now.caller.access.now seat.old }
         ensures seat { A.has_seat self.now.caller.access.now seat.new }
-        ensures seeks { Seeks self.now.caller.session self.now.group self.now.number leader (A.mine seat.old) result (A.mine seat.new) }
+        ensures seeks { Seeks self.now.caller.session self.now.group self.now.number leader
+            (A.mine seat.old) result (A.mine seat.new) }
     {
         let Some(members) = self.caller.ask(seat, &Command::Members(self.group)) else {
             return Found::Unknown;
@@ -92,7 +95,8 @@ impl<A: Access<Any> + Drop, R: Wait> Candidate<'_, A, R> {
     fn start(&self, seat: &mut A::Seat) -> Found
         requires { A.has_seat self.now.caller.access.now seat.old }
         ensures seat { A.has_seat self.now.caller.access.now seat.new }
-        ensures starts { Starts self.now.caller.session self.now.group self.now.number (A.mine seat.old) result (A.mine seat.new) }
+        ensures starts { Starts self.now.caller.session self.now.group self.now.number
+            (A.mine seat.old) result (A.mine seat.new) }
     {
         let Some(reply) = self.caller.ask(seat, &Command::Start(self.group)) else {
             return Found::Unknown;

@@ -15,7 +15,8 @@ use std::sync::Wait;
 use std::time::Clock;
 
 impl<A: Access<Any> + Drop, R: Wait + Clock> Candidate<'_, A, R> {
-    /// Joins as this node, whose number is the candidate's. If that is done, it campaigns and leaves.
+    /// Joins as this node, whose number is the candidate's. If that is done, it campaigns and
+    /// leaves.
     pub(crate) fn join<I: Intake, O: Outlet>(
         &self,
         node: NodeId,
@@ -27,7 +28,8 @@ impl<A: Access<Any> + Drop, R: Wait + Clock> Candidate<'_, A, R> {
         requires seat { A.has_seat self.now.caller.access.now seat.old }
         requires number { self.now.number ≡ number_of node }
         ensures seat { A.has_seat self.now.caller.access.now seat.new }
-        ensures joins { Joins I.read_gives O.write_gives self.now.caller.session self.now.group node (A.mine seat.old) reader.old writer.old (A.mine seat.new) reader.new writer.new }
+        ensures joins { Joins I.read_gives O.write_gives self.now.caller.session self.now.group node
+            (A.mine seat.old) reader.old writer.old (A.mine seat.new) reader.new writer.new }
         ensures settled { A.is_settled seat.new }
     {
         let command = Command::Join(self.group, node);
@@ -55,7 +57,8 @@ impl<A: Access<Any> + Drop, R: Wait + Clock> Candidate<'_, A, R> {
     fn part(&self, seat: &mut A::Seat)
         requires { A.has_seat self.now.caller.access.now seat.old }
         ensures seat { A.has_seat self.now.caller.access.now seat.new }
-        ensures leaves { AddsLeave self.now.caller.session self.now.group self.now.number (A.mine seat.old) (A.mine seat.new) }
+        ensures leaves { AddsLeave self.now.caller.session self.now.group self.now.number
+            (A.mine seat.old) (A.mine seat.new) }
         ensures settled { A.is_settled seat.new }
     {
         self.leave(seat);

@@ -10,12 +10,13 @@ use std::sync::Wait;
 use std::time::Clock;
 
 impl<A: Access<Any> + Drop, R: Wait + Clock> Candidate<'_, A, R> {
-    /// Takes the member out, and then starts a term exactly if the member may lead the last one. Each command is
-    /// given again until it is placed.
+    /// Takes the member out, and then starts a term exactly if the member may lead the last one.
+    /// Each command is given again until it is placed.
     pub(crate) fn leave(&self, seat: &mut A::Seat)
         requires { A.has_seat self.now.caller.access.now seat.old }
         ensures seat { A.has_seat self.now.caller.access.now seat.new }
-        ensures leaves { AddsLeave self.now.caller.session self.now.group self.now.number (A.mine seat.old) (A.mine seat.new) }
+        ensures leaves { AddsLeave self.now.caller.session self.now.group self.now.number
+            (A.mine seat.old) (A.mine seat.new) }
     {
         let left = self
             .caller

@@ -36,12 +36,14 @@ Asks session command mine None now = now ≡ mine
 abbrev pub SaysLast : Reply → Last → Type 0
 SaysLast answer last.Unknown = Unit {0}
 SaysLast answer last.NoTerm = answer ≡ reply.Terms []
-SaysLast answer (last.Leader leader) = (leaders : List (Option ℕ)) × (answer ≡ reply.Terms (leaders ++ Some leader ∷ []))
+SaysLast answer (last.Leader leader) = (leaders : List (Option ℕ))
+    × (answer ≡ reply.Terms (leaders ++ Some leader ∷ []))
 
 -- what the list of members says of one of them
 abbrev pub SaysMember : ℕ → Reply → Option Bool → Type 0
 SaysMember leader answer None = Unit {0}
-SaysMember leader answer (Some there) = (members : List ℕ) × (answer ≡ reply.Members members) × (there ≡ list_any (has_number leader) members)
+SaysMember leader answer (Some there) = (members : List ℕ) × (answer ≡ reply.Members members)
+    × (there ≡ list_any (has_number leader) members)
 
 module _ (session : ℕ) (group : List ℕ) (number : ℕ) where
   -- Questions of which nothing is told were added.
@@ -57,7 +59,8 @@ module _ (session : ℕ) (group : List ℕ) (number : ℕ) where
     pub leader : HasLeader session group number true asked.added
 
   -- Such questions found nobody, and a start is behind them.
-  pub record AddsStart (mine : List (Entry Any)) (answer : Reply) (now : List (Entry Any)) : Type 0 where
+  pub record AddsStart (mine : List (Entry Any)) (answer : Reply) (now : List (Entry Any))
+      : Type 0 where
     pub asked : List (Entry Any)
     pub gained : now ≡ mine ++ (asked ++ Call session (Start group) answer ∷ [])
     pub nobody : FindNobody session group number asked
@@ -66,7 +69,9 @@ module _ (session : ℕ) (group : List ℕ) (number : ℕ) where
   -- whether there is a leader to follow, or a term was started
   abbrev pub Finds : List (Entry Any) → Found → List (Entry Any) → Type 0
   Finds mine found.Unknown now = AddsQuestions mine now
-  Finds mine found.Follows now = AddsLeader mine now ⊎ ((answer : Reply) × AddsStart mine answer now × (told_of (Call session (Start group) answer) ≡ []))
+  Finds mine found.Follows now = AddsLeader mine now
+      ⊎ ((answer : Reply) × AddsStart mine answer now
+      × (told_of (Call session (Start group) answer) ≡ []))
   Finds mine (found.Refused refusal) now = AddsStart mine (Refused refusal) now
 
   -- The members were asked for, of which this leader is one or not.
@@ -76,7 +81,8 @@ module _ (session : ℕ) (group : List ℕ) (number : ℕ) where
     pub gained : now ≡ mine ++ Call session (Members group) (reply.Members members) ∷ []
 
   -- This leader is no member any more, and a start was placed behind the question.
-  pub record SeeksOn (leader : ℕ) (mine : List (Entry Any)) (answer : Reply) (now : List (Entry Any)) : Type 0 where
+  pub record SeeksOn (leader : ℕ) (mine : List (Entry Any)) (answer : Reply)
+      (now : List (Entry Any)) : Type 0 where
     pub between : List (Entry Any)
     pub asked : AddsMembers leader false mine between
     pub gained : now ≡ between ++ Call session (Start group) answer ∷ []
@@ -84,14 +90,19 @@ module _ (session : ℕ) (group : List ℕ) (number : ℕ) where
   -- whether this leader is a member, or a term was started
   abbrev pub Seeks : ℕ → List (Entry Any) → Found → List (Entry Any) → Type 0
   Seeks leader mine found.Unknown now = AddsQuestions mine now
-  Seeks leader mine found.Follows now = AddsMembers leader true mine now ⊎ ((answer : Reply) × SeeksOn leader mine answer now × (told_of (Call session (Start group) answer) ≡ []))
+  Seeks leader mine found.Follows now = AddsMembers leader true mine now
+      ⊎ ((answer : Reply) × SeeksOn leader mine answer now
+      × (told_of (Call session (Start group) answer) ≡ []))
   Seeks leader mine (found.Refused refusal) now = SeeksOn leader mine (Refused refusal) now
 
   -- a start, given the entries before it
   abbrev pub Starts : List (Entry Any) → Found → List (Entry Any) → Type 0
   Starts mine found.Unknown now = now ≡ mine
-  Starts mine found.Follows now = (answer : Reply) × (now ≡ mine ++ Call session (Start group) answer ∷ []) × (told_of (Call session (Start group) answer) ≡ [])
-  Starts mine (found.Refused refusal) now = now ≡ mine ++ Call session (Start group) (Refused refusal) ∷ []
+  Starts mine found.Follows now = (answer : Reply)
+      × (now ≡ mine ++ Call session (Start group) answer ∷ [])
+      × (told_of (Call session (Start group) answer) ≡ [])
+  Starts mine (found.Refused refusal) now =
+      now ≡ mine ++ Call session (Start group) (Refused refusal) ∷ []
 
   -- the entries since the join, before a term to follow was found and after that
   abbrev pub IsAt : Bool → List (Entry Any) → Type 0
@@ -108,16 +119,19 @@ module _ (session : ℕ) (group : List ℕ) (number : ℕ) where
   abbrev pub IsLook : Look → List (Entry Any) → Type 0
   IsLook look.Nothing added = Unit {0}
   IsLook (look.Tell answer) added = IsTold answer
-  IsLook (look.Last refusal) added = (before : List (Entry Any)) × (added ≡ before ++ Call session (Start group) (Refused refusal) ∷ [])
+  IsLook (look.Last refusal) added = (before : List (Entry Any))
+      × (added ≡ before ++ Call session (Start group) (Refused refusal) ∷ [])
 
   -- The member's question was placed, or nothing was.
   abbrev pub AddsWho : List (Entry Any) → Look → List (Entry Any) → Type 0
   AddsWho mine look.Nothing now = now ≡ mine
-  AddsWho mine (look.Tell answer) now = (now ≡ mine ++ Call session (Who group number) answer ∷ []) × IsTold answer
+  AddsWho mine (look.Tell answer) now = (now ≡ mine ++ Call session (Who group number) answer ∷ [])
+      × IsTold answer
   AddsWho mine (look.Last refusal) now = ⊥
 
   -- A look adds entries behind those since the join.
-  pub record AddsLook (old : Bool) (mine : List (Entry Any)) (result : Look) (new : Bool) (now : List (Entry Any)) : Type 0 where
+  pub record AddsLook (old : Bool) (mine : List (Entry Any)) (result : Look) (new : Bool)
+      (now : List (Entry Any)) : Type 0 where
     pub added : List (Entry Any)
     pub gained : now ≡ mine ++ added
     pub at : (during : List (Entry Any)) → IsAt old during → IsAt new (during ++ added)
