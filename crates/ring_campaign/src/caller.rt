@@ -38,6 +38,9 @@ impl<A: Access<Any> + Drop, R: Wait> Caller<'_, A, R> {
 
 impl<A: Access<Any> + Drop, R: Wait + Clock> Caller<'_, A, R> {
     /// The reply to a command, which is given again until it is placed.
+    ///
+    /// Each time it is given at the head of the queue. A start waits for its turn while it holds what tells
+    /// the workers, and a seat that keeps the table may wait for that.
     pub(crate) fn insist(&self, seat: &mut A::Seat, command: &Command<Any>) -> Reply
         requires { A.has_seat self.now.access.now seat.old }
         ensures seat { A.has_seat self.now.access.now seat.new }
@@ -45,7 +48,10 @@ impl<A: Access<Any> + Drop, R: Wait + Clock> Caller<'_, A, R> {
             ≡ A.mine seat.old ++ entry.Call self.now.session command.now result ∷ [] }
     {
         for _ in self.rt.forever() {
-            if let Some(reply) = self.ask(seat, command) {
+            let queued = self.access.queue(self.rt);
+            let placed = self.ask(seat, command);
+            drop(queued);
+            if let Some(reply) = placed {
                 return reply;
             }
             thread::sleep(self.rt, Duration::from_millis(PAUSE));
