@@ -1,11 +1,10 @@
 -- What a candidate's questions add up to.
-use Rattle.std.proofs.Common.{◌≡◌, ℕ, Bool, true, false, List, [], ◌∷◌, ◌++◌, Option, Some, All, refl, ap, sym, ◌∙◌, subst, append_assoc, append-nil, inl, inr}
-use Rattle.std.specs.List.{flat_map, list_any}
+use Rattle.std.proofs.Common.{◌≡◌, ℕ, Bool, true, false, List, [], ◌∷◌, ◌++◌, Option, None, Some, All, refl, ap, sym, ◌∙◌, subst, append_assoc, append-nil, inl, inr}
+use Rattle.std.specs.List.{flat_map}
 use Rattle.std.proofs.lemmas.List.Concat.{flat_map-append}
 use Rattle.std.proofs.lemmas.List.Elements.{All-append, All-cons, All-nil}
 use Rattle.ring_id.specs.Identity.{number_of}
 use Rattle.ring_id.specs.declared.refusal.Refusal.{Refusal}
-use Rattle.ring_roster.specs.Ring.{has_number}
 use Rattle.ring_any.specs.Any.{any_greatest, any_two_way, any_winner}
 use Rattle.ring_any.specs.declared.any.Any.{Any}
 use Rattle.ring_events.specs.declared.event.Command.TheVariants.{Members, Start, Terms, Who}
@@ -19,12 +18,12 @@ use Rattle.ring_table.specs.Accesses.{HasStep}
 use Rattle.ring_table.specs.declared.entry.Entry.{Entry}
 use Rattle.ring_table.specs.declared.entry.Entry.TheVariants.{Call}
 use Rattle.ring_campaign.specs.Campaigns.{told_of}
-use Rattle.ring_campaign.specs.Entries.{FindNobody, HasLeader, HasNobody, IsQuestion, IsQuiet}
+use Rattle.ring_campaign.specs.Entries.{FindNobody, HasLeader, HasMember, HasNobody, IsFirst, IsQuestion, IsQuiet}
 use Rattle.ring_campaign.specs.declared.candidate.Look.{Look}
 use Rattle.ring_campaign.specs.declared.candidate.Look.TheVariants as look
 use Rattle.ring_campaign.specs.declared.finding.Found.{Found}
 use Rattle.ring_campaign.specs.declared.finding.Found.TheVariants as found
-use Rattle.ring_campaign.specs.private.Looking.{AddsLeader, AddsLook, AddsMembers, AddsQuestions, AddsStart, AddsWho, Finds, IsAt, IsTold, Seeks, SeeksOn, Starts}
+use Rattle.ring_campaign.specs.private.Looking.{AddsLeader, AddsLook, AddsMembers, AddsQuestions, AddsStart, AddsWho, Finds, IsAt, IsTold, Never, Seeks, SeeksOn, Starts}
 
 -- ---- what `who` answers
 
@@ -123,31 +122,26 @@ module _ (session : ℕ) (group : List ℕ) (number : ℕ) where
       → mid ≡ mine ++ Call session (Terms group) (reply.Terms (leaders ++ Some leader ∷ [])) ∷ [] → Starts session group number mid result now → Finds session group number mine result now
   finds_old_term mine mid now result leaders leader own asked starts =
       finds_nobody mine mid now result (reply.Terms (leaders ++ Some leader ∷ []))
-      (inr (inr (record { earlier = []; leaders = leaders; leader = leader; whole = refl; own = own }))) asked starts
+      (inr (inr (inl (record { earlier = []; leaders = leaders; leader = leader; whole = refl; own = own })))) asked starts
 
-  -- what is known of another leader
-  pub finds_leader : (mine mid now : List (Entry Any)) (result : Found) (leaders : List (Option ℕ)) (leader : ℕ) → (number_of leader ≡ number → ⊥)
-      → mid ≡ mine ++ Call session (Terms group) (reply.Terms (leaders ++ Some leader ∷ [])) ∷ [] → Seeks session group number leader mid result now → Finds session group number mine result now
+  -- what the members say, behind what the leaders of the terms said
+  finds_by : (mine mid now : List (Entry Any)) (result : Found) (terms : Reply) (There Gone : List ℕ → Type 0)
+      → ((members : List ℕ) → There members → HasLeader session group number true (Call session (Terms group) terms ∷ Call session (Members group) (reply.Members members) ∷ []))
+      → ((members : List ℕ) → Gone members → HasNobody session group number (Call session (Terms group) terms ∷ Call session (Members group) (reply.Members members) ∷ []))
+      → mid ≡ mine ++ Call session (Terms group) terms ∷ [] → Seeks session group number There Gone mid result now → Finds session group number mine result now
   unfolding adds_more adds_terms adds_members
-  finds_leader mine mid now result leaders leader other asked seeks = go result seeks
+  finds_by mine mid now result terms There Gone leads nobody asked seeks = go result seeks
     where
-      terms : Reply
-      terms = reply.Terms (leaders ++ Some leader ∷ [])
-
       both : AddsQuestions session group number mid now → AddsQuestions session group number mine now
       both later = adds_more mine mid now (adds_terms mine mid terms asked) later
 
-      has : (there : Bool) (members : List ℕ) → list_any (has_number leader) members ≡ there
-          → HasLeader session group number there (Call session (Terms group) terms ∷ Call session (Members group) (reply.Members members) ∷ [])
-      has there members is = record { earlier = []; leaders = leaders; leader = leader; members = members; whole = refl; is = is; other = other }
-
-      follows : AddsMembers session group number leader true mid now → AddsLeader session group number mine now
+      follows : AddsMembers session group number There mid now → AddsLeader session group number mine now
       follows there = record {
         asked = both (adds_members mid now (reply.Members there.members) there.gained);
-        leader = has true there.members there.is;
+        leader = leads there.members there.such;
       }
 
-      behind : (answer : Reply) → SeeksOn session group number leader mid answer now → AddsStart session group number mine answer now
+      behind : (answer : Reply) → SeeksOn session group number Gone mid answer now → AddsStart session group number mine answer now
       behind answer on =
           let members : Reply = reply.Members on.asked.members in
           let start : List (Entry Any) = Call session (Start group) answer ∷ [] in
@@ -160,25 +154,47 @@ module _ (session : ℕ) (group : List ℕ) (number : ℕ) where
                 ∙ ap (λ (l : List (Entry Any)). l ++ start) (on.asked.gained ∙ ap (λ (l : List (Entry Any)). l ++ two) asked)
                 ∙ append_assoc (mine ++ one) two start
                 ∙ append_assoc mine one (two ++ start);
-            nobody = (both_quiet terms members, inr (inl (has false on.asked.members on.asked.is)));
+            nobody = (both_quiet terms members, nobody on.asked.members on.asked.such);
             silent = refl;
           }
 
-      go : (f : Found) → Seeks session group number leader mid f now → Finds session group number mine f now
+      go : (f : Found) → Seeks session group number There Gone mid f now → Finds session group number mine f now
       go found.Unknown later = both later
       go found.Follows (inl there) = inl (follows there)
       go found.Follows (inr s) = inr (s.0, behind s.0 s.1, s.2)
       go (found.Refused refusal) on = behind (reply.Refused refusal) on
 
-  -- a start, where the leader is no member any more
-  pub seeks_start : (mine mid now : List (Entry Any)) (result : Found) (leader : ℕ) (members : List ℕ) → list_any (has_number leader) members ≡ false
-      → mid ≡ mine ++ Call session (Members group) (reply.Members members) ∷ [] → Starts session group number mid result now → Seeks session group number leader mine result now
-  seeks_start mine mid now result leader members gone asked starts = go result starts
+  -- what is known of another leader
+  pub finds_leader : (mine mid now : List (Entry Any)) (result : Found) (leaders : List (Option ℕ)) (leader : ℕ) → (number_of leader ≡ number → ⊥)
+      → mid ≡ mine ++ Call session (Terms group) (reply.Terms (leaders ++ Some leader ∷ [])) ∷ []
+      → Seeks session group number (HasMember leader true) (HasMember leader false) mid result now → Finds session group number mine result now
+  finds_leader mine mid now result leaders leader other asked seeks =
+      finds_by mine mid now result (reply.Terms (leaders ++ Some leader ∷ [])) (HasMember leader true) (HasMember leader false)
+      (λ members is. has true members is) (λ members is. inr (inl (has false members is))) asked seeks
     where
-      behind : (answer : Reply) → now ≡ mid ++ Call session (Start group) answer ∷ [] → SeeksOn session group number leader mine answer now
-      behind answer gained = record { between = mid; asked = record { members = members; is = gone; gained = asked }; gained = gained }
+      has : (there : Bool) (members : List ℕ) → HasMember leader there members
+          → HasLeader session group number there (Call session (Terms group) (reply.Terms (leaders ++ Some leader ∷ [])) ∷ Call session (Members group) (reply.Members members) ∷ [])
+      has there members is = record { earlier = []; leaders = leaders; leader = leader; members = members; whole = refl; is = is; other = other }
 
-      go : (f : Found) → Starts session group number mid f now → Seeks session group number leader mine f now
+  -- what is known of an undecided term
+  pub finds_first : (mine mid now : List (Entry Any)) (result : Found) (leaders : List (Option ℕ))
+      → mid ≡ mine ++ Call session (Terms group) (reply.Terms (leaders ++ None ∷ [])) ∷ []
+      → Seeks session group number Never (IsFirst number) mid result now → Finds session group number mine result now
+  finds_first mine mid now result leaders asked seeks =
+      finds_by mine mid now result (reply.Terms (leaders ++ None ∷ [])) Never (IsFirst number)
+      (λ members is. absurd is)
+      (λ members first. inr (inr (inr (record { earlier = []; leaders = leaders; members = members; whole = refl; first = first }))))
+      asked seeks
+
+  -- a start, where the members say that there is nobody to follow
+  pub seeks_start : (mine mid now : List (Entry Any)) (result : Found) (There Gone : List ℕ → Type 0) (members : List ℕ) → Gone members
+      → mid ≡ mine ++ Call session (Members group) (reply.Members members) ∷ [] → Starts session group number mid result now → Seeks session group number There Gone mine result now
+  seeks_start mine mid now result There Gone members gone asked starts = go result starts
+    where
+      behind : (answer : Reply) → now ≡ mid ++ Call session (Start group) answer ∷ [] → SeeksOn session group number Gone mine answer now
+      behind answer gained = record { between = mid; asked = record { members = members; such = gone; gained = asked }; gained = gained }
+
+      go : (f : Found) → Starts session group number mid f now → Seeks session group number There Gone mine f now
       go found.Unknown same = adds_members mine now (reply.Members members) (same ∙ asked)
       go found.Follows s = inr (s.0, behind s.0 s.1, s.2)
       go (found.Refused refusal) gained = behind (reply.Refused refusal) gained
@@ -233,16 +249,28 @@ module _ (session : ℕ) (group : List ℕ) (number : ℕ) where
   more_nobody during asked (inl none) =
       inl (record { earlier = during ++ none.earlier; whole = ap (λ (l : List (Entry Any)). during ++ l) none.whole ∙ sym (append_assoc during none.earlier (Call session (Terms group) (reply.Terms []) ∷ [])) })
   more_nobody during asked (inr (inl lost)) = inr (inl (more_leader false during asked lost))
-  more_nobody during asked (inr (inr old)) =
+  more_nobody during asked (inr (inr (inl old))) =
       inr
       (inr
+      (inl
       (record {
         earlier = during ++ old.earlier;
         leaders = old.leaders;
         leader = old.leader;
         whole = ap (λ (l : List (Entry Any)). during ++ l) old.whole ∙ sym (append_assoc during old.earlier (Call session (Terms group) (reply.Terms (old.leaders ++ Some old.leader ∷ [])) ∷ []));
         own = old.own;
-      }))
+      })))
+  more_nobody during asked (inr (inr (inr left))) =
+      inr
+      (inr
+      (inr
+      (record {
+        earlier = during ++ left.earlier;
+        leaders = left.leaders;
+        members = left.members;
+        whole = ap (λ (l : List (Entry Any)). during ++ l) left.whole ∙ sym (append_assoc during left.earlier (Call session (Terms group) (reply.Terms (left.leaders ++ None ∷ [])) ∷ Call session (Members group) (reply.Members left.members) ∷ []));
+        first = left.first;
+      })))
 
   -- a start behind questions that found nobody
   start_behind : (during asked : List (Entry Any)) (answer : Reply) → FindNobody session group number asked → All (IsQuiet session group number) during → IsAt session group number true (during ++ (asked ++ Call session (Start group) answer ∷ []))

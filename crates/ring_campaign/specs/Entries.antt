@@ -1,6 +1,6 @@
 -- What a campaign adds to the entries of its seat: its join, then questions about its group, and
 -- last its leave. Here they are those of a session, for a group and for the number of its member.
-use Rattle.std.specs.Prelude.{◌≡◌, ◌⊎◌, ◌==◌, ℕ, Bool, true, false, List, [], ◌∷◌, ◌++◌, Option, Some, All}
+use Rattle.std.specs.Prelude.{◌≡◌, ◌⊎◌, ◌==◌, ℕ, Bool, true, false, List, [], ◌∷◌, ◌++◌, Option, None, Some, All}
 use Rattle.std.specs.List.{list_any}
 use Rattle.ring_id.specs.Identity.{number_of}
 use Rattle.ring_roster.specs.Ring.{has_number}
@@ -18,6 +18,15 @@ abbrev pub may_lead : ℕ → Reply → Bool
 may_lead number (Leader term leader) = number_of leader == number
 may_lead number (Undecided term) = true
 may_lead number _ = false
+
+-- whether this leader is one of the members
+abbrev pub HasMember : ℕ → Bool → List ℕ → Type 0
+HasMember leader there members = list_any (has_number leader) members ≡ there
+
+-- The first of the members, who joined before all others, has this number.
+abbrev pub IsFirst : ℕ → List ℕ → Type 0
+IsFirst number [] = ⊥
+IsFirst number (member ∷ members) = number_of member ≡ number
 
 module _ (session : ℕ) (group : List ℕ) (number : ℕ) where
   -- a question about this group, of whose answer nothing is told
@@ -44,7 +53,7 @@ module _ (session : ℕ) (group : List ℕ) (number : ℕ) where
         ++ Call session (Terms group) (reply.Terms (leaders ++ Some leader ∷ []))
         ∷ Call session (Members group) (reply.Members members)
         ∷ []
-    pub is : list_any (has_number leader) members ≡ there
+    pub is : HasMember leader there members
     pub other : number_of leader ≡ number → ⊥
 
   -- The last answer says that this number leads the last term, in which another connection had it.
@@ -62,9 +71,21 @@ module _ (session : ℕ) (group : List ℕ) (number : ℕ) where
     pub earlier : List (Entry Any)
     pub whole : asked ≡ earlier ++ Call session (Terms group) (reply.Terms []) ∷ []
 
+  -- The last answers say that the last term is undecided, and that this member joined before all
+  -- others. It found that term when it had joined, so nobody is left who may decide it.
+  pub record HasLeftTerm (asked : List (Entry Any)) : Type 0 where
+    pub earlier : List (Entry Any)
+    pub leaders : List (Option ℕ)
+    pub members : List ℕ
+    pub whole : asked ≡ earlier
+        ++ Call session (Terms group) (reply.Terms (leaders ++ None ∷ []))
+        ∷ Call session (Members group) (reply.Members members)
+        ∷ []
+    pub first : IsFirst number members
+
   -- there is no leader to follow
   abbrev pub HasNobody : List (Entry Any) → Type 0
-  HasNobody asked = HasNoTerm asked ⊎ HasLeader false asked ⊎ HasOldTerm asked
+  HasNobody asked = HasNoTerm asked ⊎ HasLeader false asked ⊎ HasOldTerm asked ⊎ HasLeftTerm asked
 
   -- questions, the last of which say that there is no leader to follow
   abbrev pub FindNobody : List (Entry Any) → Type 0

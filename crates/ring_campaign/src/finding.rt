@@ -1,8 +1,10 @@
 //! Whether there is a leader to follow.
-ghost use Rattle.ring_campaign.specs.private.Looking.{Finds, Seeks, Starts};
+ghost use Rattle.std.specs.Prelude.{false, true};
+ghost use Rattle.ring_campaign.specs.Entries.{HasMember, IsFirst};
+ghost use Rattle.ring_campaign.specs.private.Looking.{Finds, Never, Seeks, Starts};
 
 use crate::candidate::Candidate;
-use crate::replies::{last_in, member_in};
+use crate::replies::{is_first, last_in, member_in};
 use ring_any::Any;
 use ring_events::{Command, Reply};
 use ring_id::{NodeId, Refusal};
@@ -11,10 +13,12 @@ use std::sync::Wait;
 
 /// What the leaders of a group's terms say of the last one.
 pub(crate) enum Last {
-    /// It is undecided, or nothing was said.
+    /// Nothing was said.
     Unknown,
     /// No term has begun.
     NoTerm,
+    /// It is undecided.
+    Undecided,
     /// This member leads it.
     Leader(NodeId),
 }
@@ -61,6 +65,7 @@ impl<A: Access<Any> + Drop, R: Wait> Candidate<'_, A, R> {
         match last {
             Last::Unknown => Found::Unknown,
             Last::NoTerm => self.start(seat),
+            Last::Undecided => self.find_first(seat),
             Last::Leader(leader) => {
                 // That was another connection: no two of them are to lead one term.
                 if leader.number() == self.number {
@@ -76,8 +81,9 @@ impl<A: Access<Any> + Drop, R: Wait> Candidate<'_, A, R> {
     fn find_leader(&self, seat: &mut A::Seat, leader: NodeId) -> Found
         requires { A.has_seat self.now.caller.access.now seat.old }
         ensures seat { A.has_seat self.now.caller.access.now seat.new }
-        ensures seeks { Seeks self.now.caller.session self.now.group self.now.number leader
-            (A.mine seat.old) result (A.mine seat.new) }
+        ensures seeks { Seeks self.now.caller.session self.now.group self.now.number
+            (HasMember leader true) (HasMember leader false) (A.mine seat.old) result
+            (A.mine seat.new) }
     {
         let Some(members) = self.caller.ask(seat, &Command::Members(self.group)) else {
             return Found::Unknown;
@@ -88,6 +94,26 @@ impl<A: Access<Any> + Drop, R: Wait> Candidate<'_, A, R> {
             None => Found::Unknown,
             Some(true) => Found::Follows,
             Some(false) => self.start(seat),
+        }
+    }
+
+    // Looks whether this member joined before all others, and starts a term if so. Then nobody is left
+    // who may decide the last term.
+    fn find_first(&self, seat: &mut A::Seat) -> Found
+        requires { A.has_seat self.now.caller.access.now seat.old }
+        ensures seat { A.has_seat self.now.caller.access.now seat.new }
+        ensures seeks { Seeks self.now.caller.session self.now.group self.now.number Never
+            (IsFirst self.now.number) (A.mine seat.old) result (A.mine seat.new) }
+    {
+        let Some(members) = self.caller.ask(seat, &Command::Members(self.group)) else {
+            return Found::Unknown;
+        };
+        let first = is_first(self.number, &members);
+        drop(members);
+        if first {
+            self.start(seat)
+        } else {
+            Found::Unknown
         }
     }
 

@@ -3,8 +3,8 @@ ghost use Rattle.std.specs.Prelude.{◌≡◌, ◌↔◌, IsTrue};
 ghost use Rattle.std.specs.List.{list_any};
 ghost use Rattle.ring_roster.specs.Ring.{has_number};
 ghost use Rattle.ring_events.specs.declared.reply.Reply.TheVariants as variant;
-ghost use Rattle.ring_campaign.specs.Entries.{may_lead};
-ghost use Rattle.ring_campaign.specs.private.Looking.{IsTold, SaysLast, SaysMember};
+ghost use Rattle.ring_campaign.specs.Entries.{IsFirst, may_lead};
+ghost use Rattle.ring_campaign.specs.private.Looking.{IsTold, SaysFirst, SaysLast, SaysMember};
 
 use crate::finding::Last;
 use ring_events::Reply;
@@ -93,7 +93,7 @@ fn last_of(leaders: &[Option<NodeId>]) -> Last
     match leaders.split_last() {
         None => Last::NoTerm,
         Some((last, _)) => match last {
-            None => Last::Unknown,
+            None => Last::Undecided,
             Some(leader) => Last::Leader(*leader),
         },
     }
@@ -117,4 +117,24 @@ fn has_member(members: &[NodeId], leader: NodeId) -> bool
     members
         .iter()
         .any(|member| member.number() == leader.number())
+}
+
+/// Returns whether the first of a list of members has this number.
+pub(crate) fn is_first(number: NodeNo, reply: &Reply) -> bool
+    ensures { IsTrue result ↔ SaysFirst number reply.now }
+{
+    match reply {
+        Reply::Members(list) => has_first(list.as_slice(), number),
+        _ => false,
+    }
+}
+
+// Returns whether the first of these members has this number.
+fn has_first(members: &[NodeId], number: NodeNo) -> bool
+    ensures { IsTrue result ↔ IsFirst number members.now }
+{
+    match members.first() {
+        Some(first) => first.number() == number,
+        None => false,
+    }
 }

@@ -76,6 +76,16 @@ fn nothing_is_told_while_the_last_term_is_undecided(rt: HostRuntime) {
 }
 
 #[test]
+fn a_term_that_nobody_can_decide_is_not_waited_for(rt: HostRuntime) {
+    let lines: &[&[u8]] = &[b"create a chang", b"join a 5"];
+    let mut field = Field::new(&rt, rt.alloc(), lines);
+    field.says(&rt, rt.alloc(), b"start a", b"term 1\n");
+    field.says(&rt, rt.alloc(), b"leave a 5", b"ok\n");
+    field.tells(&rt, rt.alloc(), b"join a 3\n", b"ok\nundecided 2\n");
+    field.says(&rt, rt.alloc(), b"members a", b"members\n");
+}
+
+#[test]
 fn all_members_are_taken_out_of_all_groups(rt: HostRuntime) {
     let lines: &[&[u8]] = &[
         b"create a chang",

@@ -11,7 +11,7 @@ use Rattle.ring_events.specs.declared.reply.Reply.TheVariants as reply
 use Rattle.ring_table.specs.declared.entry.Entry.{Entry}
 use Rattle.ring_table.specs.declared.entry.Entry.TheVariants.{Call}
 use Rattle.ring_campaign.specs.Campaigns.{told_of}
-use Rattle.ring_campaign.specs.Entries.{FindNobody, Follows, HasLeader, IsQuiet, StartsOnce}
+use Rattle.ring_campaign.specs.Entries.{FindNobody, Follows, HasLeader, IsFirst, IsQuiet, StartsOnce}
 use Rattle.ring_campaign.specs.declared.finding.Found.{Found}
 use Rattle.ring_campaign.specs.declared.finding.Found.TheVariants as found
 use Rattle.ring_campaign.specs.declared.finding.Last.{Last}
@@ -36,6 +36,8 @@ Asks session command mine None now = now ≡ mine
 abbrev pub SaysLast : Reply → Last → Type 0
 SaysLast answer last.Unknown = Unit {0}
 SaysLast answer last.NoTerm = answer ≡ reply.Terms []
+SaysLast answer last.Undecided = (leaders : List (Option ℕ))
+    × (answer ≡ reply.Terms (leaders ++ None ∷ []))
 SaysLast answer (last.Leader leader) = (leaders : List (Option ℕ))
     × (answer ≡ reply.Terms (leaders ++ Some leader ∷ []))
 
@@ -44,6 +46,15 @@ abbrev pub SaysMember : ℕ → Reply → Option Bool → Type 0
 SaysMember leader answer None = Unit {0}
 SaysMember leader answer (Some there) = (members : List ℕ) × (answer ≡ reply.Members members)
     × (there ≡ list_any (has_number leader) members)
+
+-- The list of members begins with this number.
+abbrev pub SaysFirst : ℕ → Reply → Type 0
+SaysFirst number (reply.Members members) = IsFirst number members
+SaysFirst number _ = ⊥
+
+-- no list of members
+abbrev pub Never : List ℕ → Type 0
+Never _ = ⊥
 
 module _ (session : ℕ) (group : List ℕ) (number : ℕ) where
   -- Questions of which nothing is told were added.
@@ -74,26 +85,27 @@ module _ (session : ℕ) (group : List ℕ) (number : ℕ) where
       × (told_of (Call session (Start group) answer) ≡ []))
   Finds mine (found.Refused refusal) now = AddsStart mine (Refused refusal) now
 
-  -- The members were asked for, of which this leader is one or not.
-  pub record AddsMembers (leader : ℕ) (there : Bool) (mine now : List (Entry Any)) : Type 0 where
+  -- The members were asked for, and their list is such.
+  pub record AddsMembers (Such : List ℕ → Type 0) (mine now : List (Entry Any)) : Type 0 where
     pub members : List ℕ
-    pub is : list_any (has_number leader) members ≡ there
+    pub such : Such members
     pub gained : now ≡ mine ++ Call session (Members group) (reply.Members members) ∷ []
 
-  -- This leader is no member any more, and a start was placed behind the question.
-  pub record SeeksOn (leader : ℕ) (mine : List (Entry Any)) (answer : Reply)
+  -- Their list is such, and a start was placed behind the question.
+  pub record SeeksOn (Such : List ℕ → Type 0) (mine : List (Entry Any)) (answer : Reply)
       (now : List (Entry Any)) : Type 0 where
     pub between : List (Entry Any)
-    pub asked : AddsMembers leader false mine between
+    pub asked : AddsMembers Such mine between
     pub gained : now ≡ between ++ Call session (Start group) answer ∷ []
 
-  -- whether this leader is a member, or a term was started
-  abbrev pub Seeks : ℕ → List (Entry Any) → Found → List (Entry Any) → Type 0
-  Seeks leader mine found.Unknown now = AddsQuestions mine now
-  Seeks leader mine found.Follows now = AddsMembers leader true mine now
-      ⊎ ((answer : Reply) × SeeksOn leader mine answer now
+  -- whether the members say that there is a leader to follow, or a term was started since they say
+  -- that there is none
+  abbrev pub Seeks : (There Gone : List ℕ → Type 0) → List (Entry Any) → Found → List (Entry Any) → Type 0
+  Seeks There Gone mine found.Unknown now = AddsQuestions mine now
+  Seeks There Gone mine found.Follows now = AddsMembers There mine now
+      ⊎ ((answer : Reply) × SeeksOn Gone mine answer now
       × (told_of (Call session (Start group) answer) ≡ []))
-  Seeks leader mine (found.Refused refusal) now = SeeksOn leader mine (Refused refusal) now
+  Seeks There Gone mine (found.Refused refusal) now = SeeksOn Gone mine (Refused refusal) now
 
   -- a start, given the entries before it
   abbrev pub Starts : List (Entry Any) → Found → List (Entry Any) → Type 0

@@ -6,9 +6,9 @@ use Rattle.ring_campaign.proofs.candidate.Candidate.find_leader.Goals as goal
 pub returns-in-Some-false-clause-seeks : goal.returns-in-Some-false-clause-seeks
 returns-in-Some-false-clause-seeks g c =
     let says = c.in-Some-false.ensures in
-    seeks_start _ _ _ _ _ _ _ _ says.0 (sym says.2 ∙ c.in-Some-false.field-0-test) (rw says.1 at c.in-Some.ensures.asks) c.start.ensures.starts
+    seeks_start _ _ _ _ _ _ _ _ _ says.0 (sym says.2 ∙ c.in-Some-false.field-0-test) (rw says.1 at c.in-Some.ensures.asks) c.start.ensures.starts
 
 pub returns-in-Some-true-clause-seeks : goal.returns-in-Some-true-clause-seeks
 returns-in-Some-true-clause-seeks g c =
     let says = c.in-Some-true.ensures in
-    inl (record { members = says.0; is = sym says.2 ∙ c.in-Some-true.field-0-test; gained = rw says.1 at c.in-Some.ensures.asks })
+    inl (record { members = says.0; such = sym says.2 ∙ c.in-Some-true.field-0-test; gained = rw says.1 at c.in-Some.ensures.asks })

@@ -2,7 +2,7 @@
 use Rattle.std.proofs.Common.{◌≡◌, ◌∙◌, sym, true≢false}
 use Rattle.std.proofs.lemmas.Bool.{eq-eqb, eqb-true}
 use Rattle.ring_id.specs.Identity.{number_of}
-use Rattle.ring_campaign.proofs.Looking.{finds_leader, finds_no_term, finds_old_term}
+use Rattle.ring_campaign.proofs.Looking.{finds_first, finds_leader, finds_no_term, finds_old_term}
 use Rattle.ring_campaign.proofs.candidate.Candidate.find_now.Goals as goal
 
 pub returns-else-eq-clause-finds : goal.returns-else-eq-clause-finds
@@ -21,3 +21,7 @@ returns-then-eq-clause-finds g c =
 
 pub returns-in-NoTerm-clause-finds : goal.returns-in-NoTerm-clause-finds
 returns-in-NoTerm-clause-finds g c = finds_no_term _ _ _ _ _ _ _ (rw c.in-NoTerm.ensures at c.in-Some.ensures.asks) c.start.ensures.starts
+
+pub returns-in-Undecided-clause-finds : goal.returns-in-Undecided-clause-finds
+returns-in-Undecided-clause-finds g c =
+    let says = c.in-Undecided.ensures in finds_first _ _ _ _ _ _ _ says.0 (rw says.1 at c.in-Some.ensures.asks) c.find_first.ensures.seeks
