@@ -11,6 +11,10 @@
 //! service answers.
 #![tactic(auto)]
 
+ghost use Rattle.std.specs.Prelude.{◌≡◌, MatchResult};
+ghost use Rattle.std.specs.Process.{exit_status};
+ghost use Rattle.ringctl.specs.Faults.{status_of};
+
 mod campaign;
 mod client;
 mod fault;
@@ -45,6 +49,21 @@ where
     done
 }
 
+// Returns status 0, or prints the fault and returns its status.
+fn ended(rt: &impl Eprint, done: Result<(), Fault>) -> ExitCode
+    ensures { MatchResult done
+        (λ _. exit_status result ≡ 0)
+        (λ fault. exit_status result ≡ status_of fault) }
+{
+    ended_with(
+        rt,
+        done,
+        |fault: &Fault| -> u8
+            ensures { result ≡ status_of fault.now }
+        { fault.status() },
+    )
+}
+
 fn main(rt: HostRuntime) -> ExitCode {
     let asked = given_words(&rt, not_text).and_then(|words| read_words(rt.alloc(), &words));
     let done = match asked {
@@ -52,5 +71,5 @@ fn main(rt: HostRuntime) -> ExitCode {
         Err(WordsFault::NoMemory) => Err(Fault::NoMemory),
         Err(WordsFault::Usage(error)) => return refused(&rt, &error),
     };
-    ended_with(&rt, done, |fault| fault.status())
+    ended(&rt, done)
 }
