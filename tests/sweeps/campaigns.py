@@ -23,9 +23,9 @@ KINDS = (b"chang", b"lelann", b"hirschberg", b"peterson")
 MOVING = (("fail", 1), ("interrupt", 1), ("byte", 1))
 HOWS = {"read": MOVING, "write": MOVING, "accept": (("fail", 1), ("fail", 3), ("interrupt", 1)),
         "setsockopt": (("fail", 1),)}
-# The calls that each run makes the same number of, and before which one of the others the last run is made.
-CERTAIN, MOST = ("accept", "setsockopt"), 400
-SYNCS, MOST_SYNCS = ("fail", "exit", "done"), 40
+# The calls of which each run makes as many.
+CERTAIN = ("accept", "setsockopt")
+SYNCS = ("fail", "exit", "done")
 AGAIN = b"ringd: accept failed, trying again\n"
 UNTHREADED = b"ringd: thread failed\n"
 # What the program says if a call goes wrong before it listens.

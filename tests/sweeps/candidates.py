@@ -213,11 +213,13 @@ class Group:
         return not there or (leader is not None and all(it.last in (leader, NOT_IN_TERM) for it in there))
 
     def is_led(self):
-        """Whether a candidate was told of the newest term, and that is undecided or its leader is there."""
+        """Whether all have joined, one was told of the newest term, and that is undecided or its leader is there. If
+        nobody had joined when the members of an undecided term went, there would be nobody to start a term for."""
         there = self.there()
         leader = self.leaders.get(self.newest)
-        return (not there or any(it.knows() and it.term == self.newest for it in there)) and (
-            leader is None or not there or leader in [it.name for it in there])
+        is_told = any(it.knows() and it.term == self.newest for it in there)
+        is_there = leader is None or leader in [it.name for it in there]
+        return not there or (is_told and is_there and all(it.has_joined for it in there))
 
     def settle(self):
         """Waits for a leader, and compares what candidates were told with what the session is."""
