@@ -97,7 +97,9 @@ where
         bail!("there are too few seats");
     }
     let guests = seats.split_off(WORKERS)?;
-    let access = Arc::new(alloc, access)?;
+    let Ok(access) = Arc::new(alloc, access) else {
+        bail!("there is no memory for the table");
+    };
     match Service::new(rt, alloc, access, seats, WORKERS, INBOX) {
         Ok(service) => {
             let replies = answered(rt, alloc, service.front(), scripts, last, guests);
@@ -132,7 +134,9 @@ where
     requires seats { All (A.has_seat front.now) seats.items }
 {
     let mut seats = seats;
-    let seat = seats.pop().context("there is no seat")?;
+    let Some(seat) = seats.pop() else {
+        bail!("there is no seat");
+    };
     let guests = seated(alloc, front, scripts, seats)?;
     let mut replies = run_all(rt, alloc, front, guests)?;
     replies.push(look(rt, alloc, front, seat, last)?)?;
@@ -153,14 +157,19 @@ fn seated<'a, A: Access<Any> + Drop>(
     let mut rest = seats;
     let mut guests = Vec::new(alloc);
     let mut number = 0u32;
-    while let Some(seat) = rest.pop() {
-        let lines = scripts.get(number as usize).context("a seat is left")?;
+    for lines in scripts {
+        let Some(seat) = rest.pop() else {
+            bail!("there are too few seats");
+        };
         number = number.saturating_add(1);
-        guests.push(Guest {
+        let guest = Guest {
             number,
             seat,
             lines,
-        })?;
+        };
+        let Ok(()) = guests.push(guest) else {
+            bail!("there is no memory for the sessions");
+        };
     }
     Ok(guests)
 }

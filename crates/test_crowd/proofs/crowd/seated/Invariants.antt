@@ -2,9 +2,6 @@ use Rattle.std.proofs.Common.{All}
 use Rattle.test_crowd.proofs.crowd.seated.Given as goal
 
 -- the seats that are left and those of the sessions so far are of the access
-abbrev pub invariant-loop-seat : goal.invariant-loop-seat
-invariant-loop-seat g l =
+abbrev pub invariant-loop-lines : goal.invariant-loop-lines
+invariant-loop-lines g l =
     All (g.A.Access.has_seat l.front) l.rest.items × All (λ guest. g.A.Access.has_seat l.front guest.seat) l.guests.items
-
-abbrev pub decreases-loop-seat : goal.decreases-loop-seat
-decreases-loop-seat g l = goal.left-loop-seat g l
