@@ -1,13 +1,9 @@
 """The supervisor: keeps the workers running, and gives them a group to campaign in.
 
 It does not find out which worker leads, or hangs, or was cut off: `ringd` takes a member out when its
-connection ends or falls silent, and starts a term if that member led. Two things are left to do here.
-
-1. If `ringd` does not know the group of the last epoch, it was restarted without a journal and has forgotten
-   everything. Then a new epoch begins, with a group of its own. The same is done when the terms of the group
-   are used up.
-2. If `ringd` was restarted with a journal, its members are those of its life before, and all their connections
-   have ended. So all are taken out, once. The workers that live campaign again.
+connection ends or falls silent, and starts a term if that member led. One thing is left to do here. If `ringd`
+does not know the group of the last epoch, it was restarted without a journal and has forgotten everything. Then
+a new epoch begins, with a group of its own. The same is done when the terms of the group are used up.
 """
 
 import pathlib
@@ -35,7 +31,6 @@ class Supervisor:
         self.ring, self.store = Lines(ring_port), Lines(store_port)
         self.tell = tell
         self.workers = [None] * count  # (their processes)
-        self.is_lost = True  # whether ringd may have been restarted since it answered
         self.is_over = threading.Event()
 
     def run(self):
@@ -49,7 +44,6 @@ class Supervisor:
             except Refused as refusal:
                 self.tell(f"ringd: no {refusal}")
             except OSError as fault:
-                self.is_lost = True
                 if str(fault) != said:
                     self.tell(f"nobody answers: {fault}")
                 said = str(fault)
@@ -64,7 +58,7 @@ class Supervisor:
         return subprocess.Popen(self.words, stdin=subprocess.DEVNULL, start_new_session=True)
 
     def look(self):
-        """Begins an epoch if one is due. Takes all members out if ringd was restarted."""
+        """Begins an epoch if one is due."""
         group = group_of(*self.store.ask("epoch")[1:])
         try:
             _, *terms = self.ring.ask("terms", group)
@@ -74,23 +68,9 @@ class Supervisor:
             terms = None
         if terms is None or len(terms) == TERMS:
             self.begin()
-        elif self.is_lost:
-            self.clear(group)
-        self.is_lost = False
 
     def begin(self):
         """Begins an epoch with a group of its own."""
         group = group_of(*self.store.ask("begin")[1:])
         self.ring.ask("create", group, "chang")
         self.tell(f"{group} begins")
-
-    def clear(self, group):
-        """Takes out all members of a group."""
-        _, *members = self.ring.ask("members", group)
-        for member in members:
-            try:
-                self.ring.ask("leave", group, member)
-                self.tell(f"{group} leave {member}")
-            except Refused as refusal:
-                if str(refusal) != "not-member":
-                    raise
