@@ -1,4 +1,4 @@
-use Rattle.std.proofs.Common.{◌≡◌, ◌∙◌, All, sym, subst}
+use Rattle.std.proofs.Common.{◌∙◌, All, sym, subst}
 use Rattle.std.proofs.lemmas.List.Elements.{All-drop, All-take}
 use Rattle.test_crowd.proofs.crowd.run.Goals as goal
 
