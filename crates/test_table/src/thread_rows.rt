@@ -235,7 +235,10 @@ fn create<R: Abort + Wait, S: Shared>(rt: &R, table: &S, seat: &mut S::Seat)
     let first = parse_command(b"create a chang").expect(rt, "no command");
     let place = match place_of(rt, table, seat, 0, first) {
         Some(place) => place,
-        None => place_of(rt, table, seat, 0, first).expect(rt, TWICE),
+        None => {
+            let again = parse_command(b"create a chang").expect(rt, "no command");
+            place_of(rt, table, seat, 0, again).expect(rt, TWICE)
+        }
     };
     assert_eq!(rt; place, 1);
     table.rest(seat);
