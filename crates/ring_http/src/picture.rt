@@ -1,0 +1,17 @@
+//! What was answered about groups.
+
+use ring_events::{MemberList, TermList};
+use ring_id::{GroupName, NodeNo};
+
+/// What was answered about one group.
+#[derive(Debug, Drop)]
+pub struct GroupPicture {
+    /// Its name.
+    pub name: GroupName,
+    /// Its members in joining order.
+    pub members: MemberList,
+    /// The leader of each term.
+    pub leaders: TermList,
+    /// The numbers of the members that know the leader of the last term, in joining order.
+    pub informed: Vec<NodeNo>,
+}
