@@ -1,2 +1,4 @@
+pub mod Asking
 pub mod Json
 pub mod Metrics
+pub mod private
