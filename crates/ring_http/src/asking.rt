@@ -73,8 +73,8 @@ impl<A: Access<Any> + Drop, R: Wait> Asker<'_, A, R> {
         names_in(reply)
     }
 
-    // The members of a group.
-    fn members(
+    /// The members of a group.
+    pub(crate) fn members(
         &self,
         seat: &mut A::Seat,
         place: &mut usize,
@@ -90,8 +90,8 @@ impl<A: Access<Any> + Drop, R: Wait> Asker<'_, A, R> {
         members_in(reply)
     }
 
-    // The leaders of a group's terms.
-    fn terms(
+    /// The leaders of a group's terms.
+    pub(crate) fn terms(
         &self,
         seat: &mut A::Seat,
         place: &mut usize,
@@ -107,8 +107,8 @@ impl<A: Access<Any> + Drop, R: Wait> Asker<'_, A, R> {
         terms_in(reply)
     }
 
-    // The numbers of these members that know the leader of the last term.
-    fn informed(
+    /// The numbers of these members that know the leader of the last term.
+    pub(crate) fn informed(
         &self,
         seat: &mut A::Seat,
         place: &mut usize,

@@ -15,3 +15,13 @@ pub struct GroupPicture {
     /// The numbers of the members that know the leader of the last term, in joining order.
     pub informed: Vec<NodeNo>,
 }
+
+impl GroupPicture {
+    /// Whether another picture says the same. Tested, not proved: it decides when a watch ends, and not what is
+    /// answered then.
+    pub(crate) fn is_same(&self, other: &GroupPicture) -> bool {
+        self.members.as_slice() == other.members.as_slice()
+            && self.leaders.as_slice() == other.leaders.as_slice()
+            && self.informed.as_slice() == other.informed.as_slice()
+    }
+}

@@ -2,7 +2,7 @@
 ghost use Rattle.std.specs.Prelude.{◌≡◌, ◌≤◌, ◌+◌, ◌^◌, All, IfErr, IfOk};
 ghost use Rattle.ring_server.specs.Faults.{IsOfStart};
 
-use crate::crowd::{gather, seats_for};
+use crate::crowd::{Others, gather};
 use crate::handshake::Handshake;
 use crate::sessions;
 use crate::sessions::{Front, Seat, Service};
@@ -21,8 +21,8 @@ use std::time::Clock;
 #[derive(Drop)]
 pub(crate) struct Server<L: Drop, T: Tabled<Any> + Drop> {
     pub(crate) listener: L,
-    // where campaigns come in, if they may
-    pub(crate) campaigns: Option<L>,
+    // where campaigns and HTTP come in, if they may
+    pub(crate) others: Others<L>,
     pub(crate) config: Config,
     pub(crate) limits: Limits,
     pub(crate) table: T,
@@ -48,7 +48,7 @@ where
     {
         let Server {
             listener,
-            campaigns,
+            others,
             config,
             limits,
             table,
@@ -57,19 +57,19 @@ where
             handshake,
             bell,
         } = self;
-        let seats = seats_for(limits.sessions, campaigns.is_some());
+        let seats = others.seats_for(limits.sessions);
         let served = match open(rt, &config, seats, table, charters) {
             Ok((service, seats)) => {
                 let front = sessions::front(&service);
                 let served = serve(
-                    rt, front, listener, campaigns, seats, base, limits, &handshake,
+                    rt, front, listener, others, seats, base, limits, &handshake,
                 );
                 let _ = sessions::close(rt, service);
                 served
             }
             Err(fault) => {
                 drop(listener);
-                drop(campaigns);
+                drop(others);
                 Err(fault)
             }
         };
@@ -110,7 +110,7 @@ fn serve<R, L, T>(
     rt: &R,
     front: &Front<T>,
     listener: L,
-    campaigns: Option<L>,
+    others: Others<L>,
     seats: Vec<Seat<T>>,
     base: usize,
     limits: Limits,
@@ -124,16 +124,9 @@ where
     requires base { base + T.most ≤ 2 ^ 64 }
     ensures fault { IfErr result IsOfStart }
 {
-    let crowd = gather(
-        rt.alloc(),
-        front,
-        seats,
-        base,
-        limits.idle,
-        campaigns.is_some(),
-    )?;
+    let crowd = gather(rt.alloc(), front, seats, base, limits.idle, &others)?;
     if !handshake.open(rt) {
         return Ok(());
     }
-    crowd.serve(rt, listener, campaigns, limits)
+    crowd.serve(rt, listener, others, limits)
 }

@@ -1,6 +1,6 @@
 use crate::trial::{NoClients, client, clients, is_numbered, listener, out_failing_at};
 use ring_config::Config;
-use ring_server::{Door, Limits, ProgramFault, Serving, attend_all, run_loop};
+use ring_server::{Door, Limits, Others, ProgramFault, Serving, attend_all, run_loop};
 use std::io::Read;
 use std::net::{Net, SocketAddr, TcpListener, TcpStream};
 use std::sync::{Mutex, Wait};
@@ -35,9 +35,9 @@ where
     let Ok(mut out) = out_failing_at(rt.alloc(), fault_at) else {
         return false;
     };
-    let mut ran = run_loop(rt, NoClients, None, &config, nobody, &mut out);
+    let mut ran = run_loop(rt, NoClients, Others::none(), &config, nobody, &mut out);
     if ran == Err(ProgramFault::NoMemory) {
-        ran = run_loop(rt, NoClients, None, &config, nobody, &mut out);
+        ran = run_loop(rt, NoClients, Others::none(), &config, nobody, &mut out);
     }
     let ends = ran == wanted && out.taken() == told;
     drop(out);
@@ -197,7 +197,7 @@ where
             port: 80,
         };
         if let Ok(mut out) = out_failing_at(inner.alloc(), 0) {
-            let _ = run_loop(&inner, listener, None, &config, TWO_SESSIONS, &mut out);
+            let _ = run_loop(&inner, listener, Others::none(), &config, TWO_SESSIONS, &mut out);
             drop(out);
         }
     };

@@ -11,11 +11,15 @@ use crate::journal;
 use ring_config::{Config, ConfigFault, read_config};
 use ring_file::Replaces;
 use ring_lines::{FromRead, Intake, Outlet, ToWrite};
-use ring_server::{Limits, ProgramFault, accept_loop, resume_loop, run_loop, tell};
+use ring_server::{
+    Limits, Others, ProgramFault, Web, accept_loop, resume_loop, run_loop, tell,
+};
 use std::alloc::Global;
 use std::fs::{File, Files};
 use std::io::{ErrorKind, Read};
+use std::hash::RandomState;
 use std::net::{Ipv4Addr, Net, SocketAddr, TcpListener, TcpStream};
+use std::random::RandomSource;
 use std::sync::Wait;
 use std::thread::Threads;
 use std::time::Clock;
@@ -79,6 +83,7 @@ where
     R: Files
         + Clock
         + AllocGlobal
+        + RandomSource
         + Threads
         + Wait
         + Copy
@@ -98,7 +103,7 @@ where
 }
 
 /// Serves clients on 127.0.0.1 until the process is ended, at the port of the configuration in this file, and
-/// campaigns at a port of their own, if there is one.
+/// campaigns and HTTP at ports of their own, if there are any.
 ///
 /// Its faults, in this order: the file can't be read, is too long or spells no configuration; the port
 /// can't be listened on; and those of `run_loop`.
@@ -107,7 +112,7 @@ pub fn run<R, O>(
     rt: &R,
     path: &str,
     limits: Limits,
-    campaigns: Option<u16>,
+    ports: Ports,
     out: &mut O,
 ) -> Result<(), ProgramFault>
 where
@@ -115,6 +120,7 @@ where
         + Eprint
         + Clock
         + AllocGlobal
+        + RandomSource
         + Threads
         + Wait
         + Copy
@@ -130,8 +136,8 @@ where
 {
     let config = load(rt, path)?;
     let listener = listen(rt, config.port)?;
-    let campaigns = listen_if(rt, campaigns)?;
-    run_loop(rt, listener, campaigns, &config, limits, out)
+    let others = listen_elsewhere(rt, ports)?;
+    run_loop(rt, listener, others, &config, limits, out)
 }
 
 /// Serves clients as `run` does, by the table that a journal keeps, until the journal fails or the process is ended.
@@ -144,7 +150,7 @@ pub fn run_kept<R, O>(
     path: &str,
     file: &str,
     limits: Limits,
-    campaigns: Option<u16>,
+    ports: Ports,
     out: &mut O,
 ) -> Result<(), ProgramFault>
 where
@@ -153,6 +159,7 @@ where
         + Eprint
         + Clock
         + AllocGlobal
+        + RandomSource
         + Threads
         + Wait
         + Copy
@@ -169,8 +176,8 @@ where
     let config = load(rt, path)?;
     let resumed = journal::take_up(rt, file)?;
     let listener = listen(rt, config.port)?;
-    let campaigns = listen_if(rt, campaigns)?;
-    resume_loop(rt, listener, campaigns, &config, limits, resumed, out)
+    let others = listen_elsewhere(rt, ports)?;
+    resume_loop(rt, listener, others, &config, limits, resumed, out)
 }
 
 /// The port that a number says, and none at 0 or above 65535.
@@ -181,6 +188,47 @@ pub fn port_of(number: u32) -> Option<u16>
         return None;
     }
     Some(number as u16)
+}
+
+/// The ports at which others than sessions are served, if they are.
+#[derive(Clone, Copy)]
+pub struct Ports {
+    /// For campaigns.
+    pub campaigns: Option<u16>,
+    /// For HTTP.
+    pub web: Option<u16>,
+}
+
+// Listens for campaigns and for HTTP, if they are served.
+fn listen_elsewhere<R: Net + RandomSource>(
+    rt: &R,
+    ports: Ports,
+) -> Result<Others<R::Listener>, ProgramFault>
+where
+    R::Listener: Drop,
+    ensures { IfErr result (λ fault. fault ≡ ProgramFault.Listen) }
+{
+    let campaigns = listen_if(rt, ports.campaigns)?;
+    let web = listen_for_web(rt, ports.web)?;
+    Ok(Others { campaigns, web })
+}
+
+// Listens for HTTP, if it is served. Without random numbers it can't be.
+fn listen_for_web<R: Net + RandomSource>(
+    rt: &R,
+    port: Option<u16>,
+) -> Result<Option<Web<R::Listener>>, ProgramFault>
+where
+    R::Listener: Drop,
+    ensures { IfErr result (λ fault. fault ≡ ProgramFault.Listen) }
+{
+    match listen_if(rt, port)? {
+        Some(listener) => match RandomState::new(rt) {
+            Ok(keys) => Ok(Some(Web { listener, keys })),
+            Err(_) => Err(ProgramFault::Listen),
+        },
+        None => Ok(None),
+    }
 }
 
 // Listens on a port, if there is one.
