@@ -100,13 +100,13 @@ impl<A: Access<Any> + Drop, R: Wait + Clock> Asker<'_, A, R> {
         ensures told { A.is_settled seat.new }
     {
         let mut place = self.base;
-        let names = self.names(seat, &mut place);
+        let asked = self.names(seat, &mut place);
         self.access.settle(self.rt, seat);
-        match names {
+        match asked {
             Ok(names) => {
                 drop(names);
-                let put = put(b"ok\n", &mut response.body);
-                end(put, response);
+                let done = put(b"ok\n", &mut response.body);
+                end(done, response);
             }
             Err(lack) => fail(StatusCode::SERVICE_UNAVAILABLE, lack, response),
         }
@@ -122,12 +122,12 @@ impl<A: Access<Any> + Drop, R: Wait + Clock> Asker<'_, A, R> {
         ensures told { A.is_settled seat.new }
     {
         let mut place = self.base;
-        let names = self.names(seat, &mut place);
+        let asked = self.names(seat, &mut place);
         self.access.settle(self.rt, seat);
-        match names {
+        match asked {
             Ok(names) => {
-                let put = put_names(place, names.as_slice(), &mut response.body);
-                end(put, response);
+                let done = put_names(place, names.as_slice(), &mut response.body);
+                end(done, response);
             }
             Err(lack) => fail(StatusCode::SERVICE_UNAVAILABLE, lack, response),
         }
@@ -143,12 +143,12 @@ impl<A: Access<Any> + Drop, R: Wait + Clock> Asker<'_, A, R> {
         ensures told { A.is_settled seat.new }
     {
         let mut place = self.base;
-        let groups = self.look_at_all(seat, &mut place);
+        let asked = self.look_at_all(seat, &mut place);
         self.access.settle(self.rt, seat);
-        match groups {
+        match asked {
             Ok(groups) => {
-                let put = put_metrics(place, &groups, &mut response.body);
-                end(put, response);
+                let done = put_metrics(place, &groups, &mut response.body);
+                end(done, response);
             }
             Err(lack) => fail(StatusCode::SERVICE_UNAVAILABLE, lack, response),
         }
@@ -165,12 +165,12 @@ impl<A: Access<Any> + Drop, R: Wait + Clock> Asker<'_, A, R> {
         ensures told { A.is_settled seat.new }
     {
         let mut place = self.base;
-        let group = self.watch(seat, &mut place, name, wait);
+        let asked = self.watch(seat, &mut place, name, wait);
         self.access.settle(self.rt, seat);
-        match group {
+        match asked {
             Ok(group) => {
-                let put = put_group(place, &group, &mut response.body);
-                end(put, response);
+                let done = put_group(place, &group, &mut response.body);
+                end(done, response);
             }
             Err(lack) => fail(fault_code(lack), lack, response),
         }
