@@ -1,3 +1,4 @@
 pub mod Listing
+pub mod Paths
 pub mod Questions
 pub mod Saying

@@ -1,5 +1,5 @@
 -- What questions add up to.
-use Rattle.std.proofs.Common.{◌≡◌, ◌<◌, ◌≤◌, ◌+◌, ℕ, List, [], ◌∷◌, ◌++◌, Option, Result, Ok, Err, All, map, refl, ap, sym, ◌∙◌, subst, append_assoc, append-nil, inl, get_or, length, take}
+use Rattle.std.proofs.Common.{◌≡◌, ◌<◌, ◌≤◌, ◌+◌, ℕ, List, [], ◌∷◌, ◌++◌, Option, Result, Ok, Err, IfErr, All, map, refl, ap, sym, ◌∙◌, subst, append_assoc, append-nil, inl, get_or, length, take}
 use Rattle.std.specs.List.{flat_map}
 use Rattle.std.proofs.lemmas.List.{map-append, take_all, take_more}
 use Rattle.std.proofs.lemmas.List.Concat.{flat_map-append}
@@ -176,3 +176,9 @@ module _ (session : ℕ) where
       → two ≡ one ++ Call session (Terms group) (reply.Terms leaders) ∷ [] → Lacks session lack two now → Lacks session lack mine now
   lacks_each group members leaders mine one two now lack gained then lacks =
       lacks_terms group members mine one now lack gained (lacks_after one two now lack (adds_one one two (Call session (Terms group) (reply.Terms leaders)) refl then) lacks)
+
+  -- the same, where there may be an answer
+  pub lacks_if_listed : {T : Type 0} (names : List (List ℕ)) (mine mid now : List (Entry Any)) (result : Result T Lack) → mid ≡ mine ++ Call session Groups (reply.Groups names) ∷ [] → IfErr result (λ lack. Lacks session lack mid now)
+      → IfErr result (λ lack. Lacks session lack mine now)
+  lacks_if_listed names mine mid now (Ok value) listed lacks = tt
+  lacks_if_listed names mine mid now (Err lack) listed lacks = lacks_listed names mine mid now lack listed lacks

@@ -39,11 +39,10 @@ impl<A: Access<Any> + Drop, R: Wait + Clock> Asker<'_, A, R> {
         for _ in 0..wait * LOOKS {
             thread::sleep(self.rt, Duration::from_millis(PAUSE));
             let next = self.look(seat, place, name)?;
-            let same = shown.is_same(&next);
-            shown = next;
-            if !same {
-                break;
+            if !shown.is_same(&next) {
+                return Ok(next);
             }
+            shown = next;
         }
         Ok(shown)
     }

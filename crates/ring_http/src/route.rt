@@ -1,5 +1,5 @@
 //! What a request asks for.
-ghost use Rattle.std.specs.Prelude.{◌≡◌, ◌≤◌, length};
+ghost use Rattle.std.specs.Prelude.{◌≡◌, ◌≤◌, ◌↔◌, IsTrue, length};
 ghost use Rattle.std.specs.List.{prefix_len};
 ghost use Rattle.http.specs.Request.{head_of};
 ghost use Rattle.ring_http.specs.Routes.{IsRoute, Names, NamesGroup, is_for_here, is_local, is_no_colon, reads};
@@ -98,15 +98,32 @@ fn reads(method: &Method) -> bool
 fn resource_at(path: &[u8]) -> Option<Resource>
     ensures { Names path.now result }
 {
-    match path {
-        b"/" => Some(Resource::Page),
-        b"/app.js" => Some(Resource::Script),
-        b"/app.css" => Some(Resource::Style),
-        b"/healthz" => Some(Resource::Health),
-        b"/metrics" => Some(Resource::Metrics),
-        b"/v1/groups" => Some(Resource::Groups),
-        _ => group_at(path),
+    if is(path, b"/") {
+        return Some(Resource::Page);
     }
+    if is(path, b"/app.js") {
+        return Some(Resource::Script);
+    }
+    if is(path, b"/app.css") {
+        return Some(Resource::Style);
+    }
+    if is(path, b"/healthz") {
+        return Some(Resource::Health);
+    }
+    if is(path, b"/metrics") {
+        return Some(Resource::Metrics);
+    }
+    if is(path, b"/v1/groups") {
+        return Some(Resource::Groups);
+    }
+    group_at(path)
+}
+
+// Whether a path is this text.
+fn is(path: &[u8], text: &[u8]) -> bool
+    ensures { IsTrue result ↔ (path.now ≡ text.now) }
+{
+    path == text
 }
 
 // The group that a path names.

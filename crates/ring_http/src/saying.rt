@@ -14,9 +14,9 @@ use ring_id::Refusal;
 use std::alloc::AllocError;
 
 /// Begins a response: its status and its fields, and its text if it follows from the route.
-pub(crate) fn begin(route: Route, response: &mut Response) -> Result<(), AllocError>
+pub(crate) fn begin(route: &Route, response: &mut Response) -> Result<(), AllocError>
     requires { IsBlank response.old }
-    ensures { OnOk result (IsResponse (code_of route) (fields_for route) (text_of route) response.new) }
+    ensures { OnOk result (IsResponse (code_of route.now) (fields_for route.now) (text_of route.now) response.new) }
 {
     response.status = code_of(route);
     let policy = HeaderValue::from_static("default-src 'self'");
@@ -27,8 +27,8 @@ pub(crate) fn begin(route: Route, response: &mut Response) -> Result<(), AllocEr
 }
 
 // Adds the methods that are allowed, if the request has another.
-fn add_allow(route: Route, response: &mut Response) -> Result<(), AllocError>
-    ensures headers { OnOk result (fields_of response.new ≡ fields_of response.old ++ allow_of route) }
+fn add_allow(route: &Route, response: &mut Response) -> Result<(), AllocError>
+    ensures headers { OnOk result (fields_of response.new ≡ fields_of response.old ++ allow_of route.now) }
     ensures status { response.new.status ≡ response.old.status }
     ensures body { response.new.body ≡ response.old.body }
 {
@@ -41,8 +41,8 @@ fn add_allow(route: Route, response: &mut Response) -> Result<(), AllocError>
 }
 
 // The status that follows from the route.
-fn code_of(route: Route) -> StatusCode
-    ensures { result ≡ code_of route }
+fn code_of(route: &Route) -> StatusCode
+    ensures { result ≡ code_of route.now }
 {
     match route {
         Route::Misdirected => StatusCode::MISDIRECTED_REQUEST,
@@ -53,8 +53,8 @@ fn code_of(route: Route) -> StatusCode
 }
 
 // The type of what is sent.
-fn kind_of(route: Route) -> &'static str
-    ensures value { result.now ≡ kind_of route }
+fn kind_of(route: &Route) -> &'static str
+    ensures value { result.now ≡ kind_of route.now }
     ensures visible { IsTrue (is_visible_text result.now) }
 {
     match route {
@@ -64,8 +64,8 @@ fn kind_of(route: Route) -> &'static str
 }
 
 // The type of what is sent of a resource.
-fn kind_in(resource: Resource) -> &'static str
-    ensures value { result.now ≡ kind_in resource }
+fn kind_in(resource: &Resource) -> &'static str
+    ensures value { result.now ≡ kind_in resource.now }
     ensures visible { IsTrue (is_visible_text result.now) }
 {
     match resource {
@@ -79,8 +79,8 @@ fn kind_in(resource: Resource) -> &'static str
 }
 
 // The text that follows from the route.
-fn text_of(route: Route) -> &'static str
-    ensures { result.now ≡ text_of route }
+fn text_of(route: &Route) -> &'static str
+    ensures { result.now ≡ text_of route.now }
 {
     match route {
         Route::Misdirected => "This is another host.\n",
@@ -91,7 +91,7 @@ fn text_of(route: Route) -> &'static str
 }
 
 /// The page, its script or its style; nothing for what is asked of the table.
-pub(crate) fn page_of(resource: Resource) -> &'static str {
+pub(crate) fn page_of(resource: &Resource) -> &'static str {
     match resource {
         Resource::Page => PAGE,
         Resource::Script => SCRIPT,

@@ -42,8 +42,8 @@ impl<A: Access<Any> + Drop, R: Wait + Clock> Asker<'_, A, R> {
         ensures told { (seat.new ≡ seat.old) ⊎ A.is_settled seat.new }
     {
         let route = route_of(request);
-        begin(route, response)?;
-        match route {
+        begin(&route, response)?;
+        match &route {
             Route::Found(resource) => {
                 let wait = wait_of(request.uri().query());
                 self.show(resource, wait, seat, response)
@@ -55,7 +55,7 @@ impl<A: Access<Any> + Drop, R: Wait + Clock> Asker<'_, A, R> {
     // Shows what a path names.
     fn show(
         &self,
-        resource: Resource,
+        resource: &Resource,
         wait: u32,
         seat: &mut A::Seat,
         response: &mut Response,
@@ -63,9 +63,9 @@ impl<A: Access<Any> + Drop, R: Wait + Clock> Asker<'_, A, R> {
         requires seat { A.has_seat self.now.access.now seat.old }
         requires base { self.now.base + A.most ≤ 2 ^ 64 }
         requires wait { wait ≤ 60 }
-        requires begun { IsResponse 200 (fields_for (Route.Found resource)) [] response.old }
+        requires begun { IsResponse 200 (fields_for (Route.Found resource.now)) [] response.old }
         ensures seat { A.has_seat self.now.access.now seat.new }
-        ensures ok { OnOk result (Shows self.now.base A.most self.now.session (fields_for (Route.Found resource)) (A.mine seat.old) response.new (A.mine seat.new) resource) }
+        ensures ok { OnOk result (Shows self.now.base A.most self.now.session (fields_for (Route.Found resource.now)) (A.mine seat.old) response.new (A.mine seat.new) resource.now) }
         ensures err { OnErr result (seat.new ≡ seat.old) }
         ensures told { (seat.new ≡ seat.old) ⊎ A.is_settled seat.new }
     {
@@ -83,7 +83,7 @@ impl<A: Access<Any> + Drop, R: Wait + Clock> Asker<'_, A, R> {
                 Ok(())
             }
             Resource::Group(name) => {
-                self.show_group(name, wait, seat, response);
+                self.show_group(*name, wait, seat, response);
                 Ok(())
             }
             _ => put(page_of(resource).as_bytes(), &mut response.body),
