@@ -1,4 +1,4 @@
+pub mod Ending
 pub mod Listing
 pub mod Paths
 pub mod Questions
-pub mod Saying

@@ -1,6 +1,6 @@
 -- A group was answered for, or there is a reason.
 use Rattle.std.proofs.Common.{inl, refl}
-use Rattle.ring_http.proofs.Saying.{says_put}
+use Rattle.ring_http.proofs.Ending.{says_put}
 use Rattle.ring_http.proofs.asking.Asker.show_group.Goals as goal
 
 pub returns-in-Ok-clause-shows : goal.returns-in-Ok-clause-shows
