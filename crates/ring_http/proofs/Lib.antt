@@ -1,3 +1,4 @@
+pub mod Asked
 pub mod Ending
 pub mod Listing
 pub mod Paths

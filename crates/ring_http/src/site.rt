@@ -4,6 +4,7 @@ ghost use Rattle.http.specs.Request.{head_of};
 ghost use Rattle.http_server.specs.Response.{IsBlank, IsResponse, fields_of};
 ghost use Rattle.ring_http.specs.Answers.{Shows, fields_for};
 ghost use Rattle.ring_http.specs.Answering.{IsAnswered};
+ghost use Rattle.ring_http.specs.Asking.{AddsQuestions};
 ghost use Rattle.ring_http.specs.declared.route.Resource.TheVariants as Resource;
 ghost use Rattle.ring_http.specs.declared.route.Route.TheVariants as Route;
 
@@ -25,9 +26,28 @@ use std::sync::Wait;
 use std::time::Clock;
 
 impl<A: Access<Any> + Drop, R: Wait + Clock> Asker<'_, A, R> {
-    /// Answers a request by questions of a seat. Nothing is told before all that it was given from is kept for
-    /// good. At an error, for want of memory, nothing was asked.
+    /// Answers a request by questions of a seat, which change nothing. Nothing is told before all that it was
+    /// given from is kept for good. At an error, for want of memory, nothing was asked.
     pub fn answer(
+        &self,
+        seat: &mut A::Seat,
+        request: &Request<Bytes>,
+        response: &mut Response,
+    ) -> Result<(), AllocError>
+        requires seat { A.has_seat self.now.access.now seat.old }
+        requires base { self.now.base + A.most ≤ 2 ^ 64 }
+        requires blank { IsBlank response.old }
+        ensures seat { A.has_seat self.now.access.now seat.new }
+        ensures ok { OnOk result (IsAnswered self.now.base A.most self.now.session (head_of request.now) (A.mine seat.old) response.new (A.mine seat.new)) }
+        ensures err { OnErr result (seat.new ≡ seat.old) }
+        ensures questions { AddsQuestions self.now.session (A.mine seat.old) (A.mine seat.new) }
+        ensures told { (seat.new ≡ seat.old) ⊎ A.is_settled seat.new }
+    {
+        self.reply(seat, request, response)
+    }
+
+    // The same, without the clause that follows from the others.
+    fn reply(
         &self,
         seat: &mut A::Seat,
         request: &Request<Bytes>,
