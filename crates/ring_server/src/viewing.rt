@@ -6,6 +6,7 @@ ghost use Rattle.ring_door.specs.declared.fault.ProgramFault.TheVariants.{NoMemo
 ghost use Rattle.ring_http.specs.Answering.{IsAnswered};
 ghost use Rattle.ring_turn.specs.Seats.{Settled};
 
+use crate::base::Base;
 use crate::sessions::{Front, Seat};
 use bytes::Bytes;
 use http::Request;
@@ -16,6 +17,7 @@ use ring_http::Asker;
 use ring_table::{Table, Tabled};
 use std::alloc::{AllocError, Global};
 use std::hash::RandomState;
+use std::marker::PhantomData;
 use std::net::TcpStream;
 use std::sync::Wait;
 use std::time::Clock;
@@ -27,10 +29,9 @@ pub struct Viewer<'a, T: Tabled<Any> + Drop = Table<Any>> {
     front: &'a Front<T>,
     // it is away while a connection is served
     seat: Option<Seat<T>>,
-    base: usize,
+    base: Base<T>,
     keys: RandomState,
     ghost of_front: { ∥ IfSome seat (λ seat. seat.lock ≡ front.now.id) ∥₁ },
-    ghost fits: { base + T.most ≤ 2 ^ 64 },
 }
 
 /// A viewer for each seat, whose places are told from `base`. `keys` are for the names of header fields. Fails
@@ -56,7 +57,7 @@ pub fn viewers<T: Tabled<Any> + Drop>(
             alloc,
             front,
             seat: Some(seat),
-            base,
+            base: base_of(base),
             keys,
         });
     }
@@ -82,7 +83,7 @@ impl<T: Tabled<Any> + Drop> Serving for Viewer<'_, T> {
             alloc: self.alloc,
             front: self.front,
             seat,
-            base: self.base,
+            base: base_of(self.base.number),
             session,
         };
         let (mut reader, mut writer) = (stream, stream);
@@ -99,10 +100,9 @@ struct Site<'a, R, T: Tabled<Any> + Drop> {
     alloc: Global,
     front: &'a Front<T>,
     seat: Seat<T>,
-    base: usize,
+    base: Base<T>,
     session: u32,
     ghost of_front: { seat.lock ≡ front.now.id },
-    ghost fits: { base + T.most ≤ 2 ^ 64 },
 }
 
 impl<R: Wait + Clock, T: Tabled<Any> + Drop> Service for Site<'_, R, T> {
@@ -110,7 +110,7 @@ impl<R: Wait + Clock, T: Tabled<Any> + Drop> Service for Site<'_, R, T> {
     ghost use Rattle.http.specs.Request.{head_of};
     ghost use Rattle.ring_http.specs.Answering.{IsAnswered};
 
-    ghost answers = { λ old request response new. IsAnswered old.base T.most old.session (head_of request) old.seat.mine response new.seat.mine × (new.session ≡ old.session) };
+    ghost answers = { λ old request response new. IsAnswered old.base.number T.most old.session (head_of request) old.seat.mine response new.seat.mine × (new.session ≡ old.session) };
 
     fn call(
         &mut self,
@@ -123,11 +123,22 @@ impl<R: Wait + Clock, T: Tabled<Any> + Drop> Service for Site<'_, R, T> {
             alloc,
             front,
             seat,
-            self.base,
+            self.base.number,
             self.session,
             request,
             response,
         )
+    }
+}
+
+// What is added to each place.
+fn base_of<T: Tabled<Any> + Drop>(number: usize) -> Base<T>
+    requires { number + T.most ≤ 2 ^ 64 }
+    ensures { result.number ≡ number }
+{
+    Base {
+        number,
+        of: PhantomData,
     }
 }
 
