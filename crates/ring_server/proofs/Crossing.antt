@@ -15,6 +15,7 @@ use Rattle.ring_any.specs.contracts.any.AnyMsgPartialEq.TheImpl as same_message
 use Rattle.ring_table.specs.declared.tabled.Tabled as tabled
 use Rattle.ring_server.specs.contracts.hosting.Host as host
 use Rattle.ring_server.specs.contracts.sessions.Guest as guest
+use Rattle.ring_server.specs.contracts.viewing.Viewer as viewer
 use Rattle.ring_turn.specs.contracts.seat.Seat as seat
 use Rattle.ring_turn.specs.contracts.lock.TurnLock as lock
 use Rattle.ring_turn.proofs.lock.TurnLock.TheSendSync as lock_crosses
@@ -50,5 +51,14 @@ module _ (T : RattleType) (shows : tabled.Ghosts T.Denot any.the_row.Denot messa
       let fronts = front_sync send in
       let seats = seat_send send in
       let D : Declared = host.the_type a T shows in
+      let fields : AllSend (shape D).fields = search (crosses, sendable, fronts, seats) depth 20 in
+      recorded_send (Struct (shape D)) D.D D.to D.to_one (struct_send (shape D) fields)
+
+  -- and so may a viewer
+  pub viewer_send : (a : NamedLft) → IsSend T → IsSend (viewer.the_row a T shows)
+  viewer_send a send =
+      let fronts = front_sync send in
+      let seats = seat_send send in
+      let D : Declared = viewer.the_type a T shows in
       let fields : AllSend (shape D).fields = search (crosses, sendable, fronts, seats) depth 20 in
       recorded_send (Struct (shape D)) D.D D.to D.to_one (struct_send (shape D) fields)

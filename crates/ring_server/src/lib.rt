@@ -17,7 +17,9 @@ mod resuming;
 mod running;
 mod server;
 mod sessions;
+mod viewing;
 
+pub use crowd::{Others, Web};
 pub use hosting::{Host, hosts};
 pub use listening::accept_loop;
 pub use resumed::Resumed;
@@ -29,3 +31,4 @@ pub use running::run_loop;
 pub use sessions::{
     Access, Closing, Front, Guest, Seat, Service, close, front, guests, open, open_gated,
 };
+pub use viewing::{Viewer, viewers};

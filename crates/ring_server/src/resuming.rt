@@ -8,6 +8,7 @@ ghost use Rattle.ring_server.specs.Running.{FirstOrNone};
 ghost use Rattle.ring_server.specs.private.Faults.{start_told_as};
 ghost use Rattle.ring_server.specs.private.Resuming.{IsOfEnd};
 
+use crate::crowd::Others;
 use crate::handshake::Handshake;
 use crate::resumed::Resumed;
 use crate::server::Server;
@@ -39,7 +40,7 @@ use std::time::Clock;
 pub fn resume_loop<R, L, D, O>(
     rt: &R,
     listener: L,
-    campaigns: Option<L>,
+    others: Others<L>,
     config: &Config,
     limits: Limits,
     resumed: Resumed<D>,
@@ -66,7 +67,7 @@ where
     } = resumed;
     let server = Server {
         listener,
-        campaigns,
+        others,
         config: *config,
         limits,
         table,

@@ -4,14 +4,15 @@ ghost use Rattle.ring_lines.specs.Ends.{Wrote};
 ghost use Rattle.ring_door.specs.Telling.{listening_line};
 ghost use Rattle.ring_server.specs.Running.{FirstOrNone};
 
-use crate::crowd::{gather, seats_for};
+use crate::crowd::{Others, gather};
 use crate::hosting::Host;
 use crate::sessions;
 use crate::sessions::{Front, Guest, Seat, Service};
+use crate::viewing::Viewer;
 use ring_any::Any;
 use ring_config::Config;
 use ring_door::{
-    Door, Entrance, Limits, ProgramFault, attend_all, attend_both, say_listening, tell,
+    Door, Entrance, Limits, ProgramFault, attend_all, attend_both, attend_three, say_listening, tell,
 };
 use ring_lines::Outlet;
 use ring_table::{Recorded, Tabled, Unkept};
@@ -31,15 +32,15 @@ type Forgetful = Recorded<Any, Unkept<Any>>;
 /// again after 4294967295. A session's fault ends that session alone.
 ///
 /// The first failed accept, for want of a descriptor or of memory, is reported on standard error. A
-/// failed accept is tried again after 100 ms. If there is a listener for campaigns, as many threads
-/// accept those there, with seats of their own.
+/// failed accept is tried again after 100 ms. If there are listeners for campaigns or for HTTP, as
+/// many threads accept those there, with seats of their own.
 ///
 /// It returns only if it could not begin: an allocation or a write failed, or a thread could not be
 /// started.
 pub fn run_loop<R, L, O>(
     rt: &R,
     listener: L,
-    campaigns: Option<L>,
+    others: Others<L>,
     config: &Config,
     limits: Limits,
     out: &mut O,
@@ -55,14 +56,14 @@ where
 {
     let alloc = rt.alloc();
     let listening = say_listening(alloc, config.port)?;
-    let seats = seats_for(limits.sessions, campaigns.is_some());
+    let seats = others.seats_for(limits.sessions);
     let table = Recorded::new(alloc, Unkept::new(alloc));
     let (service, seats) = sessions::open(rt, config, seats, table)?;
     let begun = begin(
         rt,
         front_of(&service),
         listener,
-        campaigns,
+        others,
         listening.as_str(),
         seats,
         limits,
@@ -84,7 +85,7 @@ fn begin<R, L, O>(
     rt: &R,
     front: &Front<Forgetful>,
     listener: L,
-    campaigns: Option<L>,
+    others: Others<L>,
     listening: &str,
     seats: Vec<Seat<Forgetful>>,
     limits: Limits,
@@ -99,16 +100,9 @@ where
         (λ _. Wrote O.write_gives out.old listening.now out.new)
         (λ fault. FirstOrNone O.write_gives out.old listening.now fault out.new) }
 {
-    let crowd = gather(
-        rt.alloc(),
-        front,
-        seats,
-        0,
-        limits.idle,
-        campaigns.is_some(),
-    )?;
+    let crowd = gather(rt.alloc(), front, seats, 0, limits.idle, &others)?;
     tell(out, listening)?;
-    crowd.serve(rt, listener, campaigns, limits)
+    crowd.serve(rt, listener, others, limits)
 }
 
 /// Lets guests of a table serve at a door.
@@ -144,4 +138,39 @@ where
     ensures { IfErr result (λ fault. fault ≡ ProgramFault.Thread) }
 {
     attend_both(rt, first, guests, second, others, limits)
+}
+
+/// Lets guests of a table and its viewers serve, each at an entrance of their own.
+pub(crate) fn seat_views<'a, R, L, T>(
+    rt: &R,
+    first: &Entrance<L, Guest<'a, T>>,
+    second: &Entrance<L, Viewer<'a, T>>,
+    guests: Vec<Guest<'a, T>>,
+    viewers: Vec<Viewer<'a, T>>,
+    limits: Limits,
+) -> Result<(), ProgramFault>
+where
+    R: Threads + Wait + Eprint + Clock + Sync,
+    L: OpenListener<Stream = TcpStream> + Send + Drop,
+    T: Tabled<Any> + Send + Sync + Drop,
+    ensures { IfErr result (λ fault. fault ≡ ProgramFault.Thread) }
+{
+    attend_both(rt, first, guests, second, viewers, limits)
+}
+
+/// Lets guests of a table, its hosts and its viewers serve, each at an entrance of their own.
+pub(crate) fn seat_three<'a, R, L, T>(
+    rt: &R,
+    first: (&Entrance<L, Guest<'a, T>>, Vec<Guest<'a, T>>),
+    second: (&Entrance<L, Host<'a, T>>, Vec<Host<'a, T>>),
+    third: (&Entrance<L, Viewer<'a, T>>, Vec<Viewer<'a, T>>),
+    limits: Limits,
+) -> Result<(), ProgramFault>
+where
+    R: Threads + Wait + Eprint + Clock + Sync,
+    L: OpenListener<Stream = TcpStream> + Send + Drop,
+    T: Tabled<Any> + Send + Sync + Drop,
+    ensures { IfErr result (λ fault. fault ≡ ProgramFault.Thread) }
+{
+    attend_three(rt, first, second, third, limits)
 }

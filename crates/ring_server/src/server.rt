@@ -4,7 +4,7 @@ ghost use Rattle.ring_campaign.specs.Clearing.{Clears};
 ghost use Rattle.ring_turn.specs.Seats.{Settled};
 ghost use Rattle.ring_server.specs.Faults.{IsOfStart};
 
-use crate::crowd::{gather, seats_for};
+use crate::crowd::{Others, gather};
 use crate::handshake::Handshake;
 use crate::sessions;
 use crate::sessions::{Front, Seat, Service};
@@ -24,8 +24,8 @@ use std::time::Clock;
 #[derive(Drop)]
 pub(crate) struct Server<L: Drop, T: Tabled<Any> + Drop> {
     pub(crate) listener: L,
-    // the listener for campaigns, if they are served
-    pub(crate) campaigns: Option<L>,
+    // the listeners for campaigns and for HTTP, if they are served
+    pub(crate) others: Others<L>,
     pub(crate) config: Config,
     pub(crate) limits: Limits,
     pub(crate) table: T,
@@ -52,7 +52,7 @@ where
     {
         let Server {
             listener,
-            campaigns,
+            others,
             config,
             limits,
             table,
@@ -62,14 +62,14 @@ where
             bell,
         } = self;
         // one more than serve, by which the members of an earlier life leave
-        let seats = seats_for(limits.sessions, campaigns.is_some()).saturating_add(1);
+        let seats = others.seats_for(limits.sessions).saturating_add(1);
         let served = match open(rt, &config, seats, table, charters) {
             Ok((service, seats)) => serve_open(
-                rt, service, listener, campaigns, seats, base, limits, &handshake,
+                rt, service, listener, others, seats, base, limits, &handshake,
             ),
             Err(fault) => {
                 drop(listener);
-                drop(campaigns);
+                drop(others);
                 Err(fault)
             }
         };
@@ -110,7 +110,7 @@ fn serve_open<R, L, T>(
     rt: &R,
     service: Service<T>,
     listener: L,
-    campaigns: Option<L>,
+    others: Others<L>,
     seats: Vec<Seat<T>>,
     base: usize,
     limits: Limits,
@@ -126,7 +126,7 @@ where
 {
     let front = sessions::front(&service);
     let served = serve(
-        rt, front, listener, campaigns, seats, base, limits, handshake,
+        rt, front, listener, others, seats, base, limits, handshake,
     );
     let _ = sessions::close(rt, service);
     served
@@ -137,7 +137,7 @@ fn serve<R, L, T>(
     rt: &R,
     front: &Front<T>,
     listener: L,
-    campaigns: Option<L>,
+    others: Others<L>,
     seats: Vec<Seat<T>>,
     base: usize,
     limits: Limits,
@@ -153,23 +153,16 @@ where
 {
     let mut seats = seats;
     let own = seats.pop();
-    let crowd = gather(
-        rt.alloc(),
-        front,
-        seats,
-        base,
-        limits.idle,
-        campaigns.is_some(),
-    )?;
+    let crowd = gather(rt.alloc(), front, seats, base, limits.idle, &others)?;
     if !handshake.open(rt) {
         return Ok(());
     }
-    if campaigns.is_some()
+    if others.campaigns.is_some()
         && let Some(seat) = own
     {
         drop(clear_by(rt, front, seat));
     }
-    crowd.serve(rt, listener, campaigns, limits)
+    crowd.serve(rt, listener, others, limits)
 }
 
 // Takes out the members of an earlier life, for the service itself, which is session 0. Returns the seat by

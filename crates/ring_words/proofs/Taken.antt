@@ -52,6 +52,9 @@ run_journal = unwrap_or (slice_get run_below.rules 4) config_rule
 abbrev run_campaign : Rule
 run_campaign = unwrap_or (slice_get run_below.rules 5) config_rule
 
+abbrev run_http : Rule
+run_http = unwrap_or (slice_get run_below.rules 6) config_rule
+
 -- the argument of `journal`
 abbrev journal_file : Rule
 journal_file = unwrap_or (slice_get journal_below.rules 0) config_rule
@@ -140,8 +143,11 @@ run_keeps_config = (
           (
             set_keeps false run_config run_campaign (other_use run_config run_campaign refl) refl,
             (
-              help_keeps (IsRead run_config),
-              tt,
+              set_keeps false run_config run_http (other_use run_config run_http refl) refl,
+              (
+                help_keeps (IsRead run_config),
+                tt,
+              ),
             ),
           ),
         ),
@@ -164,8 +170,11 @@ run_keeps_sessions = (
           (
             set_keeps false run_sessions run_campaign (other_use run_sessions run_campaign refl) refl,
             (
-              help_keeps (IsRead run_sessions),
-              tt,
+              set_keeps false run_sessions run_http (other_use run_sessions run_http refl) refl,
+              (
+                help_keeps (IsRead run_sessions),
+                tt,
+              ),
             ),
           ),
         ),
@@ -188,8 +197,11 @@ run_keeps_idle = (
           (
             set_keeps false run_idle run_campaign (other_use run_idle run_campaign refl) refl,
             (
-              help_keeps (IsRead run_idle),
-              tt,
+              set_keeps false run_idle run_http (other_use run_idle run_http refl) refl,
+              (
+                help_keeps (IsRead run_idle),
+                tt,
+              ),
             ),
           ),
         ),
@@ -212,8 +224,38 @@ run_keeps_campaign = (
           (
             set_keeps false run_campaign run_campaign (own_use run_campaign) refl,
             (
-              help_keeps (IsRead run_campaign),
-              tt,
+              set_keeps false run_campaign run_http (other_use run_campaign run_http refl) refl,
+              (
+                help_keeps (IsRead run_campaign),
+                tt,
+              ),
+            ),
+          ),
+        ),
+      ),
+    ),
+  ),
+)
+
+run_keeps_http : EachKeeps run_below (IsRead run_http) run_below.rules
+run_keeps_http = (
+  set_keeps false run_http run_config (other_use run_http run_config refl) refl,
+  (
+    set_keeps false run_http run_sessions (other_use run_http run_sessions refl) refl,
+    (
+      set_keeps false run_http run_idle (other_use run_http run_idle refl) refl,
+      (
+        flag_keeps false run_http run_places refl refl,
+        (
+          set_keeps false run_http run_journal (other_use run_http run_journal refl) refl,
+          (
+            set_keeps false run_http run_campaign (other_use run_http run_campaign refl) refl,
+            (
+              set_keeps false run_http run_http (own_use run_http) refl,
+              (
+                help_keeps (IsRead run_http),
+                tt,
+              ),
             ),
           ),
         ),
@@ -237,8 +279,11 @@ run_defaults wanted other = (
           (
             no_default (IsRead wanted) run_campaign refl,
             (
-              no_default (IsRead wanted) help_flag refl,
-              tt,
+              no_default (IsRead wanted) run_http refl,
+              (
+                no_default (IsRead wanted) help_flag refl,
+                tt,
+              ),
             ),
           ),
         ),
@@ -270,7 +315,7 @@ serve_gives rows level =
       connections = has_number serve_connections (codes "connections") 1 64 there row.0 refl refl connections_read row.1;
     })
 
--- the level of `run` gives a file, and may give three numbers
+-- the level of `run` gives a file, and may give four numbers
 run_gives : (rows : List Row) → IsLevel run_below rows → IsRun rows
 run_gives rows level =
     let there = rows_after run_below.rules [] level.given in
@@ -279,11 +324,13 @@ run_gives rows level =
     let sessions_read = level_reads run_below (IsRead run_sessions) run_keeps_sessions (run_defaults run_sessions refl) level.given level.fine in
     let idle_read = level_reads run_below (IsRead run_idle) run_keeps_idle (run_defaults run_idle refl) level.given level.fine in
     let campaign_read = level_reads run_below (IsRead run_campaign) run_keeps_campaign (run_defaults run_campaign refl) level.given level.fine in
+    let http_read = level_reads run_below (IsRead run_http) run_keeps_http (run_defaults run_http refl) level.given level.fine in
     subst IsRun (sym level.is) (record {
       file = has_file run_config (codes "config") there refl config_read given;
       sessions = may_have_number run_sessions (codes "sessions") 1 64 there refl refl sessions_read;
       idle = may_have_number run_idle (codes "idle") 0 86400 there refl refl idle_read;
       campaign = may_have_number run_campaign (codes "campaign") 1 65535 there refl refl campaign_read;
+      http = may_have_number run_http (codes "http") 1 65535 there refl refl http_read;
     })
 
 -- the level of `journal` gives a file
@@ -312,7 +359,7 @@ named_journal words rows names = journal_gives rows ((names_one words (codes "jo
 pub serves_as_given : (words : List Text) (rows : List Row) (r : Result Order WordsFault) → Names words (codes "serve") rows → IfOk r (IsServeOf rows) → IfOk r (IsGiven words)
 serves_as_given words rows (Ok Replay) names told = absurd told
 serves_as_given words rows (Ok (Serve path connections)) names told = (rows, names, told)
-serves_as_given words rows (Ok (Run path sessions idle places journal campaign)) names told = absurd told
+serves_as_given words rows (Ok (Run path sessions idle places journal campaign http)) names told = absurd told
 serves_as_given words rows (Ok (Journal path)) names told = absurd told
 serves_as_given words rows (Err fault) names told = tt
 
@@ -320,7 +367,7 @@ serves_as_given words rows (Err fault) names told = tt
 pub runs_as_given : (words : List Text) (rows : List Row) (r : Result Order WordsFault) → Names words (codes "run") rows → IfOk r (IsRunOf rows) → IfOk r (IsGiven words)
 runs_as_given words rows (Ok Replay) names told = absurd told
 runs_as_given words rows (Ok (Serve path connections)) names told = absurd told
-runs_as_given words rows (Ok (Run path sessions idle places journal campaign)) names told = (rows, names, told)
+runs_as_given words rows (Ok (Run path sessions idle places journal campaign http)) names told = (rows, names, told)
 runs_as_given words rows (Ok (Journal path)) names told = absurd told
 runs_as_given words rows (Err fault) names told = tt
 
@@ -328,6 +375,6 @@ runs_as_given words rows (Err fault) names told = tt
 pub journal_as_given : (words : List Text) (rows : List Row) (r : Result Order WordsFault) → Names words (codes "journal") rows → IfOk r (IsJournalOf rows) → IfOk r (IsGiven words)
 journal_as_given words rows (Ok Replay) names told = absurd told
 journal_as_given words rows (Ok (Serve path connections)) names told = absurd told
-journal_as_given words rows (Ok (Run path sessions idle places journal campaign)) names told = absurd told
+journal_as_given words rows (Ok (Run path sessions idle places journal campaign http)) names told = absurd told
 journal_as_given words rows (Ok (Journal path)) names told = (rows, names, told)
 journal_as_given words rows (Err fault) names told = tt

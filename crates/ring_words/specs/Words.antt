@@ -48,6 +48,10 @@ kept_rule = record (new_rule (codes "journal")) { long = Some (codes "journal");
 abbrev pub campaign_rule : Rule
 campaign_rule = number_rule (codes "campaign") 1 65535
 
+-- the port on which `run` answers HTTP
+abbrev pub http_rule : Rule
+http_rule = number_rule (codes "http") 1 65535
+
 -- the name of a journal's file, which must be given
 abbrev pub file_rule : Rule
 file_rule = record (new_rule (codes "file")) { value_names = 1; required = true }
@@ -56,15 +60,16 @@ file_rule = record (new_rule (codes "file")) { value_names = 1; required = true 
 abbrev pub serve_app : App
 serve_app = with_rule (with_rule (new_app (codes "serve")) config_rule) connections_rule
 
--- `run CONFIG`, with `--sessions N`, `--idle SECONDS`, `--places`, `--journal FILE` and
--- `--campaign PORT` if they are given
+-- `run CONFIG`, with `--sessions N`, `--idle SECONDS`, `--places`, `--journal FILE`,
+-- `--campaign PORT` and `--http PORT` if they are given
 abbrev pub run_app : App
 run_app =
     with_rule
     (with_rule
     (with_rule
+    (with_rule
     (with_rule (with_rule (with_rule (new_app (codes "run")) config_rule) sessions_rule)
-    idle_rule) places_rule) kept_rule) campaign_rule
+    idle_rule) places_rule) kept_rule) campaign_rule) http_rule
 
 -- `journal FILE`
 abbrev pub journal_app : App
@@ -116,15 +121,16 @@ IsFlag given flag =
 
 -- The rows of `run`: its file, its number of sessions (16 if none is given) and its seconds (0 if
 -- none are given). Then whether it prints places, the file of its journal, if one is given, and its
--- port for campaigns (0 if none is given).
+-- ports for campaigns and for HTTP (0 if none is given).
 pub record Runs (rows : List Row) (path : Text) (sessions idle : ℕ) (places : Bool)
-    (journal : Option Text) (campaign : ℕ) : Type 0 where
+    (journal : Option Text) (campaign http : ℕ) : Type 0 where
   pub file : first_of (codes "config") rows ≡ Some path
   pub sessions_given : IsGivenOr 16 1 64 (one_of (codes "sessions") rows) sessions
   pub idle_given : IsGivenOr 0 0 86400 (one_of (codes "idle") rows) idle
   pub places_given : IsFlag (one_of (codes "places") rows) places
   pub journal_given : first_of (codes "journal") rows ≡ journal
   pub campaign_given : IsGivenOr 0 1 65535 (one_of (codes "campaign") rows) campaign
+  pub http_given : IsGivenOr 0 1 65535 (one_of (codes "http") rows) http
 
 -- the command line takes the words, and this is the order that they give
 abbrev pub IsGiven : List Text → Order → Type 0
@@ -132,9 +138,10 @@ IsGiven words Replay = (rows : List Row) × Names words (codes "replay") rows
 IsGiven words (Serve path connections) =
     (rows : List Row) × Names words (codes "serve") rows
     × Serves rows (string_bytes path) connections
-IsGiven words (Run path sessions idle places journal campaign) =
+IsGiven words (Run path sessions idle places journal campaign http) =
     (rows : List Row) × Names words (codes "run") rows
-    × Runs rows (string_bytes path) sessions idle places (option_map string_bytes journal) campaign
+    × Runs rows (string_bytes path) sessions idle places (option_map string_bytes journal)
+        campaign http
 IsGiven words (Journal path) =
     (rows : List Row) × Names words (codes "journal") rows
     × (first_of (codes "file") rows ≡ Some (string_bytes path))

@@ -2,7 +2,7 @@
 ghost use Rattle.std.specs.Prelude.{◌≡◌, ◌↔◌, ◌∷◌, [], ℕ, List, IfErr, IfOk, IsOkUnless, IsTrue, Some, codes, false, map, option_map, string_bytes, true};
 ghost use Rattle.clap.specs.Words.{App, Rule, app_of, found_of, kind_of, new_rule, rows_of, rule_of, takes, with_rule, with_subcommand, Text};
 ghost use Rattle.clap.specs.declared.error.kind.ErrorKind.TheVariants.{DisplayVersion, ValueValidation};
-ghost use Rattle.ring_words.specs.Words.{HasCause, IsGiven, campaign_rule, config_rule, connections_rule, file_rule, idle_rule, journal_app, kept_rule, places_rule, ringd_app, run_app, serve_app, sessions_rule};
+ghost use Rattle.ring_words.specs.Words.{HasCause, IsGiven, campaign_rule, config_rule, connections_rule, file_rule, http_rule, idle_rule, journal_app, kept_rule, places_rule, ringd_app, run_app, serve_app, sessions_rule};
 ghost use Rattle.ring_words.specs.private.Words.{HasFile, IsJournalOf, IsLocal, IsRun, IsRunOf, IsServeOf, IsServed};
 
 use clap::error::ErrorKind;
@@ -53,6 +53,8 @@ pub enum Order {
         journal: Option<String>,
         /// The port for campaigns; 0 if none is given.
         campaign: u32,
+        /// The port for HTTP; 0 if none is given.
+        http: u32,
     },
     /// `ringd journal FILE`: print the content of a journal.
     Journal {
@@ -105,7 +107,8 @@ fn run_command<'a>(alloc: Global) -> Result<Command<'a>, AllocError>
     let command = with_arg(command, idle_arg(alloc));
     let command = with_arg(command, places_arg(alloc));
     let command = with_arg(command, kept_arg(alloc));
-    with_arg(command, campaign_arg(alloc))
+    let command = with_arg(command, campaign_arg(alloc));
+    with_arg(command, http_arg(alloc))
 }
 
 // The subcommand `journal`.
@@ -249,6 +252,16 @@ fn campaign_arg<'a>(alloc: Global) -> Arg<'a>
         )
 }
 
+// An option of `run`: the port for HTTP.
+fn http_arg<'a>(alloc: Global) -> Arg<'a>
+    ensures rule { rule_of result ≡ http_rule }
+    ensures own { result.global ≡ false }
+{
+    option_arg(alloc, "http", "PORT")
+        .value_parser(clap::value_parser!(u32).range(1..=65535))
+        .help("Answer HTTP on PORT of 127.0.0.1: health, metrics, groups as JSON, and a page")
+}
+
 // The argument of `journal`: its file.
 fn file_arg<'a>(alloc: Global) -> Arg<'a>
     ensures rule { rule_of result ≡ file_rule }
@@ -337,6 +350,7 @@ fn run_order(alloc: Global, given: &ArgMatches<'_>) -> Result<Order, WordsFault>
     let places = given.get_flag("places");
     let journal = copy_of(alloc, given.get_str("journal"))?;
     let campaign = given.get_one::<u32>("campaign").unwrap_or(0);
+    let http = given.get_one::<u32>("http").unwrap_or(0);
     Ok(Order::Run {
         path: String::from_str(alloc, path)?,
         sessions,
@@ -344,6 +358,7 @@ fn run_order(alloc: Global, given: &ArgMatches<'_>) -> Result<Order, WordsFault>
         places,
         journal,
         campaign,
+        http,
     })
 }
 

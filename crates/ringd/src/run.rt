@@ -11,11 +11,13 @@ use crate::journal;
 use ring_config::{Config, ConfigFault, read_config};
 use ring_file::Replaces;
 use ring_lines::{FromRead, Intake, Outlet, ToWrite};
-use ring_server::{Limits, ProgramFault, accept_loop, resume_loop, run_loop, tell};
+use ring_server::{Limits, Others, ProgramFault, Web, accept_loop, resume_loop, run_loop, tell};
 use std::alloc::Global;
 use std::fs::{File, Files};
+use std::hash::RandomState;
 use std::io::{ErrorKind, Read};
 use std::net::{Ipv4Addr, Net, SocketAddr, TcpListener, TcpStream};
+use std::random::RandomSource;
 use std::sync::Wait;
 use std::thread::Threads;
 use std::time::Clock;
@@ -82,6 +84,7 @@ where
     R: Files
         + Clock
         + AllocGlobal
+        + RandomSource
         + Threads
         + Wait
         + Copy
@@ -104,7 +107,7 @@ where
 }
 
 /// Serves clients on 127.0.0.1 until the process ends, at the port of the configuration in this
-/// file. If there is a port for campaigns, serves those there.
+/// file. If there are ports for campaigns and for HTTP, serves those there.
 ///
 /// The faults, in their order: the file is unreadable, is too long or spells no configuration; a
 /// port cannot be listened on; those of `run_loop`.
@@ -113,7 +116,7 @@ pub fn run<R, O>(
     rt: &R,
     path: &str,
     limits: Limits,
-    campaigns: Option<u16>,
+    ports: Ports,
     out: &mut O,
 ) -> Result<(), ProgramFault>
 where
@@ -121,6 +124,7 @@ where
         + Eprint
         + Clock
         + AllocGlobal
+        + RandomSource
         + Threads
         + Wait
         + Copy
@@ -135,8 +139,8 @@ where
         (λ fault. (port : ℕ) × RanAt O.write_gives out.old (listening_line port) fault out.new) }
 {
     let config = load(rt, path)?;
-    let (listener, campaigns) = listen_both(rt, config.port, campaigns)?;
-    run_loop(rt, listener, campaigns, &config, limits, out)
+    let (listener, others) = listen_all(rt, config.port, ports)?;
+    run_loop(rt, listener, others, &config, limits, out)
 }
 
 /// Serves clients as `run` does, by the table that a journal keeps, until the journal fails or the
@@ -150,7 +154,7 @@ pub fn run_kept<R, O>(
     path: &str,
     file: &str,
     limits: Limits,
-    campaigns: Option<u16>,
+    ports: Ports,
     out: &mut O,
 ) -> Result<(), ProgramFault>
 where
@@ -159,6 +163,7 @@ where
         + Eprint
         + Clock
         + AllocGlobal
+        + RandomSource
         + Threads
         + Wait
         + Copy
@@ -174,10 +179,10 @@ where
 {
     let config = load(rt, path)?;
     let resumed = journal::take_up(rt, file)?;
-    let Ok((listener, campaigns)) = listen_both(rt, config.port, campaigns) else {
+    let Ok((listener, others)) = listen_all(rt, config.port, ports) else {
         return Err(ProgramFault::Listen);
     };
-    resume_loop(rt, listener, campaigns, &config, limits, resumed, out)
+    resume_loop(rt, listener, others, &config, limits, resumed, out)
 }
 
 /// Returns the port with this number, or `None` at 0 and above 65535.
@@ -191,17 +196,47 @@ pub fn port_of(number: u32) -> Option<u16>
     Some(number as u16)
 }
 
-// Listens on a port, and on another one for campaigns, if there is one.
-fn listen_both<R: Net>(
+/// The ports of clients other than sessions.
+#[derive(Clone, Copy)]
+pub struct Ports {
+    /// The port for campaigns, if they are served.
+    pub campaigns: Option<u16>,
+    /// The port for HTTP, if it is served.
+    pub web: Option<u16>,
+}
+
+// Listens on a port, and on other ones for campaigns and for HTTP, if there are any.
+fn listen_all<R: Net + RandomSource>(
     rt: &R,
     port: u16,
-    campaigns: Option<u16>,
-) -> Result<(R::Listener, Option<R::Listener>), ProgramFault>
+    ports: Ports,
+) -> Result<(R::Listener, Others<R::Listener>), ProgramFault>
+where
+    R::Listener: Drop,
     ensures { IfErr result (λ fault. fault ≡ ProgramFault.Listen) }
 {
     let listener = listen(rt, port)?;
-    let campaigns = listen_if(rt, campaigns)?;
-    Ok((listener, campaigns))
+    let campaigns = listen_if(rt, ports.campaigns)?;
+    let web = listen_for_web(rt, ports.web)?;
+    Ok((listener, Others { campaigns, web }))
+}
+
+// Listens for HTTP, if there is a port for it. Fails too if there are no random numbers.
+fn listen_for_web<R: Net + RandomSource>(
+    rt: &R,
+    port: Option<u16>,
+) -> Result<Option<Web<R::Listener>>, ProgramFault>
+where
+    R::Listener: Drop,
+    ensures { IfErr result (λ fault. fault ≡ ProgramFault.Listen) }
+{
+    match listen_if(rt, port)? {
+        Some(listener) => match RandomState::new(rt) {
+            Ok(keys) => Ok(Some(Web { listener, keys })),
+            Err(_) => Err(ProgramFault::Listen),
+        },
+        None => Ok(None),
+    }
 }
 
 // Listens on a port, if there is one.

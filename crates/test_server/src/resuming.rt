@@ -5,7 +5,7 @@ use crate::trial::{NoClients, client, listener, out_failing_at};
 use ring_config::Config;
 use ring_journal::{Batch, Fault, Medium, MemoryMedium};
 use ring_recovery::{Alarm, Recovered, recover};
-use ring_server::{JournalFault, Limits, ProgramFault, Resumed, resume_loop};
+use ring_server::{JournalFault, Limits, Others, ProgramFault, Resumed, resume_loop};
 use std::alloc::Global;
 use std::io::Read;
 use std::net::{Net, OpenListener, TcpListener, TcpStream};
@@ -93,7 +93,7 @@ where
     };
     let mut out = out_failing_at(rt, rt.alloc(), fault_at);
     let resumed = unsynced(rt.alloc()).expect(rt, "no table");
-    let ran = resume_loop(rt, listener, None, &CONFIG, limits, resumed, &mut out);
+    let ran = resume_loop(rt, listener, Others::none(), &CONFIG, limits, resumed, &mut out);
     assert_eq!(rt; ran, wanted);
     assert_eq!(rt; out.taken(), told);
     drop(out);

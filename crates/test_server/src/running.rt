@@ -1,6 +1,6 @@
 use crate::trial::{NoClients, client, clients, is_numbered, listener, out_failing_at};
 use ring_config::Config;
-use ring_server::{Door, Limits, ProgramFault, Serving, attend_all, run_loop};
+use ring_server::{Door, Limits, Others, ProgramFault, Serving, attend_all, run_loop};
 use std::io::Read;
 use std::net::{Net, SocketAddr, TcpListener, TcpStream};
 use std::process::Abort;
@@ -34,9 +34,9 @@ where
         places: false,
     };
     let mut out = out_failing_at(rt, rt.alloc(), fault_at);
-    let mut ran = run_loop(rt, NoClients, None, &config, nobody, &mut out);
+    let mut ran = run_loop(rt, NoClients, Others::none(), &config, nobody, &mut out);
     if ran == Err(ProgramFault::NoMemory) {
-        ran = run_loop(rt, NoClients, None, &config, nobody, &mut out);
+        ran = run_loop(rt, NoClients, Others::none(), &config, nobody, &mut out);
     }
     assert_eq!(rt; ran, wanted);
     assert_eq!(rt; out.taken(), told);
@@ -188,7 +188,7 @@ where
             port: 80,
         };
         let mut out = out_failing_at(&inner, inner.alloc(), 0);
-        let _ = run_loop(&inner, listener, None, &config, TWO_SESSIONS, &mut out);
+        let _ = run_loop(&inner, listener, Others::none(), &config, TWO_SESSIONS, &mut out);
         drop(out);
     };
     match thread::spawn(rt, run) {

@@ -17,8 +17,8 @@ IsServeOf rows (Serve path connections) = Serves rows (string_bytes path) connec
 IsServeOf rows _ = ⊥
 
 abbrev pub IsRunOf : List Row → Order → Type 0
-IsRunOf rows (Run path sessions idle places journal campaign) =
-    Runs rows (string_bytes path) sessions idle places (option_map string_bytes journal) campaign
+IsRunOf rows (Run path sessions idle places journal campaign http) =
+    Runs rows (string_bytes path) sessions idle places (option_map string_bytes journal) campaign http
 IsRunOf rows _ = ⊥
 
 abbrev pub IsJournalOf : List Row → Order → Type 0
@@ -51,3 +51,4 @@ pub record IsRun (rows : List Row) : Type 0 where
   pub sessions : MayHaveNumber (codes "sessions") 1 64 rows
   pub idle : MayHaveNumber (codes "idle") 0 86400 rows
   pub campaign : MayHaveNumber (codes "campaign") 1 65535 rows
+  pub http : MayHaveNumber (codes "http") 1 65535 rows

@@ -1,7 +1,7 @@
 use Rattle.std.proofs.Common.{◌≡◌, codes, rules}
 use Rattle.clap.specs.Words.{App, app_of, new_app, with_rule}
 use Rattle.ring_words.specs.private.Words.{IsLocal}
-use Rattle.ring_words.specs.Words.{campaign_rule, config_rule, idle_rule, kept_rule, places_rule, sessions_rule}
+use Rattle.ring_words.specs.Words.{campaign_rule, config_rule, http_rule, idle_rule, kept_rule, places_rule, sessions_rule}
 use Rattle.ring_words.proofs.Adding.{stays_local_if_ok, with_arg_if_ok}
 use Rattle.ring_words.proofs.words.run_command.Goals as goal
 
@@ -19,10 +19,13 @@ returns-clause-app c =
     let is_four = c.with_arg-command-3.ensures.app three places_rule is_three c.places_arg.ensures.rule in
     let five : App = with_rule four kept_rule in
     let is_five = c.with_arg-command-4.ensures.app four kept_rule is_four c.kept_arg.ensures.rule in
-    c.with_arg.ensures.app five campaign_rule is_five c.campaign_arg.ensures.rule
+    let six : App = with_rule five campaign_rule in
+    let is_six = c.with_arg-command-5.ensures.app five campaign_rule is_five c.campaign_arg.ensures.rule in
+    c.with_arg.ensures.app six http_rule is_six c.http_arg.ensures.rule
 
 pub returns-clause-local : goal.returns-clause-local
 returns-clause-local c =
     let start : IsLocal c.about.result = search rules in
     let one = stays_local_if_ok c.arg-command.result c.about.result c.config_arg.result c.arg-command.ensures c.config_arg.ensures.own start in
-    c.with_arg.ensures.local (c.with_arg-command-4.ensures.local (c.with_arg-command-3.ensures.local (c.with_arg-command-2.ensures.local (c.with_arg-command.ensures.local one))))
+    c.with_arg.ensures.local
+    (c.with_arg-command-5.ensures.local (c.with_arg-command-4.ensures.local (c.with_arg-command-3.ensures.local (c.with_arg-command-2.ensures.local (c.with_arg-command.ensures.local one)))))

@@ -24,11 +24,15 @@ returns-clause-order c =
     let campaign =
     number_or (λ bs r. ParsesUnsigned 32 10 bs r × ExplainsUnsignedError 10 bs r × HasUnsignedDigitsIfOk bs r) (λ u x h. h.0) 1 65535 (omega arith) 0 (codes "campaign") found c.get_one-3.result c.get_one-3.ensures.none
     c.get_one-3.ensures.value c.requires.campaign in
+    let http =
+    number_or (λ bs r. ParsesUnsigned 32 10 bs r × ExplainsUnsignedError 10 bs r × HasUnsignedDigitsIfOk bs r) (λ u x h. h.0) 1 65535 (omega arith) 0 (codes "http") found c.get_one-4.result c.get_one-4.ensures.none
+    c.get_one-4.ensures.value c.requires.http in
     record {
       file = c.requires.file.file ∙ ap (λ text. Some text) (sym path);
       sessions_given = subst (λ n. IsGivenOr 16 1 64 (one_of (codes "sessions") (rows_of found)) n) (sym c.unwrap_or-sessions.ensures) sessions;
       idle_given = subst (λ n. IsGivenOr 0 0 86400 (one_of (codes "idle") (rows_of found)) n) (sym c.unwrap_or-idle.ensures) idle;
       campaign_given = subst (λ n. IsGivenOr 0 1 65535 (one_of (codes "campaign") (rows_of found)) n) (sym c.unwrap_or-campaign.ensures) campaign;
+      http_given = subst (λ n. IsGivenOr 0 1 65535 (one_of (codes "http") (rows_of found)) n) (sym c.unwrap_or-http.ensures) http;
       journal_given = sym (c.in_ok-journal.ensures ∙ c.get_str-2.ensures ∙ first_value-rows found (codes "journal"));
       places_given = subst (λ given. IsFlag given c.get_flag-places.result) (one_text-rows found (codes "places")) (c.get_flag-places.ensures.none, c.get_flag-places.ensures.value, c.get_flag-places.ensures.other);
     }

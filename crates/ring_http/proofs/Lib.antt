@@ -1,0 +1,5 @@
+pub mod Asked
+pub mod Ending
+pub mod Listing
+pub mod Paths
+pub mod Questions

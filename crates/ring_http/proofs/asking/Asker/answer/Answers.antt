@@ -1,0 +1,6 @@
+-- Whatever is answered, questions alone were asked.
+use Rattle.ring_http.proofs.Asked.{questions_of}
+use Rattle.ring_http.proofs.asking.Asker.answer.Goals as goal
+
+pub returns-clause-questions : goal.returns-clause-questions
+returns-clause-questions g c = questions_of c.reply.result _ _ _ _ g.A.Access.mine _ _ _ c.reply.ensures.ok c.reply.ensures.err

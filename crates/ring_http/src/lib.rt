@@ -1,0 +1,23 @@
+//! What an operator sees of a running service by HTTP: its health, metrics, its groups as JSON, and a page.
+//!
+//! An `Asker` answers a request by questions of its seat of the table. The seat gains questions alone, which
+//! change nothing.
+#![tactic(auto)]
+
+mod asking;
+mod json;
+mod metrics;
+mod page;
+mod picture;
+mod picturing;
+mod route;
+mod saying;
+mod site;
+mod text;
+mod waiting;
+
+pub use asking::{Asker, Lack};
+pub use json::{put_group, put_names};
+pub use metrics::{Gauge, put_metrics};
+pub use picture::GroupPicture;
+pub use route::{Resource, Route, route_of};
