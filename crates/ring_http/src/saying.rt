@@ -5,7 +5,7 @@ ghost use Rattle.http_server.specs.Response.{IsBlank, IsResponse, fields_of};
 ghost use Rattle.ring_http.specs.Answers.{Says, allow_of, code_of, fault_code, fields_for, kind_in, kind_of, reason_of, refusal_text, text_of};
 
 use crate::asking::Lack;
-use crate::page::{PAGE, SCRIPT, STYLE};
+use crate::page::{APP, INDEX, STYLE};
 use crate::route::{Resource, Route};
 use crate::text::put;
 use http::{HeaderValue, StatusCode, header};
@@ -93,8 +93,8 @@ fn text_of(route: &Route) -> &'static str
 /// The page, its script or its style; nothing for what is asked of the table.
 pub(crate) fn page_of(resource: &Resource) -> &'static str {
     match resource {
-        Resource::Page => PAGE,
-        Resource::Script => SCRIPT,
+        Resource::Page => INDEX,
+        Resource::Script => APP,
         Resource::Style => STYLE,
         _ => "",
     }
