@@ -186,8 +186,8 @@ where
 
 /// Starts a thread for each guest of three entrances, and opens the doors once all are there.
 ///
-/// Each guest serves one client after another, as those of `attend_all` do. If a thread cannot be started,
-/// no door is opened.
+/// Each guest serves one client after another, as those of `attend_all` do. If a thread cannot be
+/// started, no door is opened.
 pub fn attend_three<R, L, G, H, I>(
     rt: &R,
     first: (&Entrance<L, G>, Vec<G>),

@@ -1,7 +1,8 @@
 -- A path that names none of a few resources names a group, or nothing.
 use Rattle.std.proofs.Common.{◌≡◌, ℕ, List, Option, None, Some, codes}
 use Rattle.ring_id.specs.GroupName.{IsName}
-use Rattle.ring_http.specs.Routes.{IsResource, Names, NamesGroup, path_of}
+use Rattle.ring_http.specs.Routes.{IsResource, Names, path_of}
+use Rattle.ring_http.specs.private.Routes.{NamesGroup}
 use Rattle.ring_http.specs.declared.route.Resource.{Resource}
 use Rattle.ring_http.specs.declared.route.Resource.TheVariants.{Page, Script, Style, Health, Metrics, Groups, Group}
 

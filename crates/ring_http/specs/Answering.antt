@@ -8,8 +8,10 @@ use Rattle.ring_http.specs.Answers.{Answers}
 use Rattle.ring_http.specs.Routes.{IsRoute}
 use Rattle.ring_http.specs.declared.route.Route.{Route}
 
--- What a request with this head asks for is answered. The seat gained the questions that were asked for it.
-pub record IsAnswered (base most session : ℕ) (head : Parts) (mine : List (Entry Any)) (response : Response) (now : List (Entry Any)) : Type 0 where
+-- What a request with this head asks for is answered. The seat gained the questions that were asked
+-- for it.
+pub record IsAnswered (base most session : ℕ) (head : Parts) (mine : List (Entry Any))
+    (response : Response) (now : List (Entry Any)) : Type 0 where
   pub route : Route
   pub is : IsRoute head route
   pub answers : Answers base most session route mine response now

@@ -78,7 +78,8 @@ fault_code Odd = 503
 abbrev pub Says : ℕ → List Header → List ℕ → Response → Type 0
 Says code sent text response = IsResponse code sent text response ⊎ IsResponse 503 sent [] response
 
-module _ (base most session : ℕ) (sent : List Header) (mine : List (Entry Any)) (response : Response) (now : List (Entry Any)) where
+module _ (base most session : ℕ) (sent : List Header) (mine : List (Entry Any))
+    (response : Response) (now : List (Entry Any)) where
   -- There is no answer, for a reason. A group that is not there is a 404 where it was asked for.
   pub record ShowsLack (code : Lack → ℕ) : Type 0 where
     pub lack : Lack
@@ -131,5 +132,7 @@ module _ (base most session : ℕ) (sent : List Header) (mine : List (Entry Any)
 
 -- what is answered
 abbrev pub Answers : ℕ → ℕ → ℕ → Route → List (Entry Any) → Response → List (Entry Any) → Type 0
-Answers base most session (Found resource) mine response now = Shows base most session (fields_for (Found resource)) mine response now resource
-Answers base most session route mine response now = (now ≡ mine) × IsResponse (code_of route) (fields_for route) (text_of route) response
+Answers base most session (Found resource) mine response now =
+    Shows base most session (fields_for (Found resource)) mine response now resource
+Answers base most session route mine response now =
+    (now ≡ mine) × IsResponse (code_of route) (fields_for route) (text_of route) response

@@ -1,4 +1,5 @@
--- What is asked about groups, as entries of the seat by which it is asked, and what the answers say.
+-- What is asked about groups, as entries of the seat by which it is asked, and what the answers
+-- say.
 use Rattle.std.specs.Prelude.{◌≡◌, ◌≤◌, ◌<◌, ◌+◌, ℕ, List, [], ◌∷◌, ◌++◌, Option, None, Some, All, map}
 use Rattle.std.specs.List.{flat_map}
 use Rattle.ring_id.specs.Identity.{number_of}
@@ -54,18 +55,20 @@ module _ (session : ℕ) where
     pub gained : now ≡ mine ++ added
     pub questions : All IsQuestion added
 
-  -- These entries ask about a group, and a picture is what they answer: its members, the leaders of its terms, and
-  -- the members that know a leader.
+  -- These entries ask about a group, and a picture is what they answer: its members, the leaders of
+  -- its terms, and the members that know a leader.
   pub record IsPictured (asked : List (Entry Any)) (group : GroupPicture) : Type 0 where
     pub each : List (Entry Any)
-    pub whole : asked ≡ Call session (Members group.name) (reply.Members group.members) ∷ Call session (Terms group.name) (reply.Terms group.leaders) ∷ each
+    pub whole : asked ≡ Call session (Members group.name) (reply.Members group.members)
+        ∷ Call session (Terms group.name) (reply.Terms group.leaders) ∷ each
     pub asks : map asked_of each ≡ map (who_of session group.name) group.members
     pub informed : group.informed.items ≡ flat_map hears each
 
   -- one picture after another
   abbrev pub ArePictured : List (Entry Any) → List GroupPicture → Type 0
   ArePictured asked [] = asked ≡ []
-  ArePictured asked (group ∷ groups) = (first : List (Entry Any)) × (rest : List (Entry Any)) × (asked ≡ first ++ rest) × IsPictured first group × ArePictured rest groups
+  ArePictured asked (group ∷ groups) = (first : List (Entry Any)) × (rest : List (Entry Any))
+      × (asked ≡ first ++ rest) × IsPictured first group × ArePictured rest groups
 
   -- A group was asked about.
   pub record AddsPicture (group : GroupPicture) (mine now : List (Entry Any)) : Type 0 where
@@ -73,7 +76,8 @@ module _ (session : ℕ) where
     pub pictured : IsPictured adds.added group
 
   -- All these groups were asked about.
-  pub record AddsPictures (names : List (List ℕ)) (groups : List GroupPicture) (mine now : List (Entry Any)) : Type 0 where
+  pub record AddsPictures (names : List (List ℕ)) (groups : List GroupPicture)
+      (mine now : List (Entry Any)) : Type 0 where
     pub adds : AddsQuestions mine now
     pub pictured : ArePictured adds.added groups
     pub named : map (λ group. group.name) groups ≡ names
@@ -85,7 +89,8 @@ module _ (session : ℕ) where
     pub command : Command Any
     pub whole : added ≡ earlier ++ Call session command (Refused refusal) ∷ []
 
-  -- why there is no answer: a question was not placed, the last one was refused, or it was answered otherwise
+  -- why there is no answer: a question was not placed, the last one was refused, or it was answered
+  -- otherwise
   abbrev pub Because : Lack → List (Entry Any) → Type 0
   Because (Unplaced refusal) added = LeavesOut refusal
   Because (NoGroup refusal) added = EndsRefused refusal added

@@ -1,5 +1,5 @@
--- Metrics in Prometheus' text format, version 0.0.4, as functions of the answers: a heading for each metric, and
--- below it one sample, or one for each group.
+-- Metrics in Prometheus' text format, version 0.0.4, as functions of the answers: a heading for
+-- each metric, and below it one sample, or one for each group.
 use Rattle.std.specs.Prelude.{ℕ, ◌-◌, List, [], ◌++◌, Option, None, Some, codes, decimal, length, slice_get}
 use Rattle.std.specs.List.{flat_map}
 use Rattle.ring_id.specs.Identity.{number_of}
@@ -71,4 +71,5 @@ entries_heading = codes "# HELP ringd_entries Number of entries of the history.\
 abbrev pub metrics_of : ℕ → List GroupPicture → List ℕ
 metrics_of place groups =
     count_text groups_heading (length groups) ++ (count_text entries_heading place
-    ++ (family_text Members groups ++ (family_text Term groups ++ (family_text Leader groups ++ family_text Informed groups))))
+    ++ (family_text Members groups ++
+        (family_text Term groups ++ (family_text Leader groups ++ family_text Informed groups))))

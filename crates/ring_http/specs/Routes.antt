@@ -54,14 +54,11 @@ abbrev pub Names : List ℕ → Option Resource → Type 0
 Names path (Some resource) = IsResource resource × (path ≡ path_of resource)
 Names path None = (resource : Resource) → IsResource resource → path ≡ path_of resource → ⊥
 
--- the same for groups alone
-abbrev pub NamesGroup : List ℕ → Option Resource → Type 0
-NamesGroup path (Some resource) = IsResource resource × (path ≡ path_of resource)
-NamesGroup path None = (name : List ℕ) → IsName name → path ≡ path_of (Group name) → ⊥
-
 -- what becomes of a request
 abbrev pub IsRoute : Parts → Route → Type 0
 IsRoute head Misdirected = is_for_here head ≡ false
 IsRoute head NotAllowed = (is_for_here head ≡ true) × (reads head.method ≡ false)
-IsRoute head Unknown = (is_for_here head ≡ true) × (reads head.method ≡ true) × Names (uri_path head.uri) None
-IsRoute head (Found resource) = (is_for_here head ≡ true) × (reads head.method ≡ true) × Names (uri_path head.uri) (Some resource)
+IsRoute head Unknown = (is_for_here head ≡ true) × (reads head.method ≡ true)
+    × Names (uri_path head.uri) None
+IsRoute head (Found resource) = (is_for_here head ≡ true) × (reads head.method ≡ true)
+    × Names (uri_path head.uri) (Some resource)

@@ -48,9 +48,11 @@ impl<A: Access<Any> + Drop, R: Wait> Asker<'_, A, R> {
         requires seat { A.has_seat self.now.access.now seat.old }
         requires base { self.now.base + A.most ≤ 2 ^ 64 }
         ensures seat { A.has_seat self.now.access.now seat.new }
-        ensures asks { Asks self.now.session command.now (A.mine seat.old) result (A.mine seat.new) }
+        ensures asks {
+            Asks self.now.session command.now (A.mine seat.old) result (A.mine seat.new) }
         ensures placed { OnOk result (IsPlaceFrom self.now.base A.most place.new) }
-        ensures kept { IsPlaceFrom self.now.base A.most place.old → IsPlaceFrom self.now.base A.most place.new }
+        ensures kept { IsPlaceFrom self.now.base A.most place.old
+            → IsPlaceFrom self.now.base A.most place.new }
     {
         match self.access.call(self.rt, seat, self.session, *command) {
             Answer::Placed { reply, place: at } => {
@@ -83,7 +85,8 @@ impl<A: Access<Any> + Drop, R: Wait> Asker<'_, A, R> {
         requires seat { A.has_seat self.now.access.now seat.old }
         requires base { self.now.base + A.most ≤ 2 ^ 64 }
         ensures seat { A.has_seat self.now.access.now seat.new }
-        ensures asks { AsksMembers self.now.session name (A.mine seat.old) result (A.mine seat.new) }
+        ensures asks {
+            AsksMembers self.now.session name (A.mine seat.old) result (A.mine seat.new) }
         ensures placed { OnOk result (IsPlaceFrom self.now.base A.most place.new) }
     {
         let reply = self.ask(seat, place, &Command::Members(name))?;
@@ -118,9 +121,12 @@ impl<A: Access<Any> + Drop, R: Wait> Asker<'_, A, R> {
         requires seat { A.has_seat self.now.access.now seat.old }
         requires base { self.now.base + A.most ≤ 2 ^ 64 }
         ensures seat { A.has_seat self.now.access.now seat.new }
-        ensures ok { IfOk result (λ informed. AddsEach self.now.session name members.now informed.items (A.mine seat.old) (A.mine seat.new)) }
-        ensures err { IfErr result (λ lack. Lacks self.now.session lack (A.mine seat.old) (A.mine seat.new)) }
-        ensures kept { IsPlaceFrom self.now.base A.most place.old → IsPlaceFrom self.now.base A.most place.new }
+        ensures ok { IfOk result (λ informed. AddsEach self.now.session name members.now
+            informed.items (A.mine seat.old) (A.mine seat.new)) }
+        ensures err { IfErr result
+            (λ lack. Lacks self.now.session lack (A.mine seat.old) (A.mine seat.new)) }
+        ensures kept { IsPlaceFrom self.now.base A.most place.old
+            → IsPlaceFrom self.now.base A.most place.new }
     {
         let mut informed = Vec::new(self.alloc);
         for member in members {
@@ -141,9 +147,12 @@ impl<A: Access<Any> + Drop, R: Wait> Asker<'_, A, R> {
         requires seat { A.has_seat self.now.access.now seat.old }
         requires base { self.now.base + A.most ≤ 2 ^ 64 }
         ensures seat { A.has_seat self.now.access.now seat.new }
-        ensures ok { OnOk result (Hears self.now.session name number informed.old.items informed.new.items (A.mine seat.old) (A.mine seat.new)) }
-        ensures err { IfErr result (λ lack. Lacks self.now.session lack (A.mine seat.old) (A.mine seat.new)) }
-        ensures kept { IsPlaceFrom self.now.base A.most place.old → IsPlaceFrom self.now.base A.most place.new }
+        ensures ok { OnOk result (Hears self.now.session name number informed.old.items
+            informed.new.items (A.mine seat.old) (A.mine seat.new)) }
+        ensures err { IfErr result
+            (λ lack. Lacks self.now.session lack (A.mine seat.old) (A.mine seat.new)) }
+        ensures kept { IsPlaceFrom self.now.base A.most place.old
+            → IsPlaceFrom self.now.base A.most place.new }
     {
         let reply = self.ask(seat, place, &Command::Who(name, number))?;
         let noted = note(informed, number, &reply);
@@ -187,7 +196,8 @@ fn terms_in(reply: Reply) -> Result<TermList, Lack>
 
 // Notes a member that knows its leader, given what it answered.
 fn note(informed: &mut Vec<NodeNo>, number: NodeNo, reply: &Reply) -> Result<(), Lack>
-    ensures ok { OnOk result (informed.new.items ≡ informed.old.items ++ hears_of number reply.now) }
+    ensures ok {
+        OnOk result (informed.new.items ≡ informed.old.items ++ hears_of number reply.now) }
     ensures err { IfErr result (λ lack. lack ≡ Lack.Unplaced NoMemory) }
 {
     match reply {

@@ -9,7 +9,8 @@ use http_server::Rope;
 use ring_id::{GroupName, NodeId, NodeNo};
 use std::alloc::AllocError;
 
-/// Appends the JSON of the names of all groups and the place of the answer. Fails only if an allocation fails.
+/// Appends the JSON of the names of all groups and the place of the answer. Fails only if an
+/// allocation fails.
 pub fn put_names(place: usize, names: &[GroupName], out: &mut Rope) -> Result<(), AllocError>
     ensures { OnOk result (out.new.items ≡ out.old.items ++ groups_json place names.now) }
 {

@@ -1,7 +1,8 @@
-//! What an operator sees of a running service by HTTP: its health, metrics, its groups as JSON, and a page.
+//! What an operator sees of a running service by HTTP: its health, metrics, its groups as JSON, and
+//! a page.
 //!
-//! An `Asker` answers a request by questions of its seat of the table. The seat gains questions alone, which
-//! change nothing.
+//! An `Asker` answers a request by questions of its seat of the table. The seat gains questions
+//! alone, which change nothing.
 #![tactic(auto)]
 
 mod asking;

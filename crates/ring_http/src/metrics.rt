@@ -21,7 +21,8 @@ pub enum Gauge {
     Informed,
 }
 
-/// Appends the metrics of these groups and the place of the last answer. Fails only if an allocation fails.
+/// Appends the metrics of these groups and the place of the last answer. Fails only if an
+/// allocation fails.
 pub fn put_metrics(
     place: usize,
     groups: &[GroupPicture],

@@ -17,8 +17,8 @@ pub struct GroupPicture {
 }
 
 impl GroupPicture {
-    /// Whether another picture says the same. Tested, not proved: it decides when a watch ends, and not what is
-    /// answered then.
+    /// Whether another picture says the same. Tested, not proved: it decides when a watch ends, and
+    /// not what is answered then.
     pub(crate) fn is_same(&self, other: &GroupPicture) -> bool {
         self.members.as_slice() == other.members.as_slice()
             && self.leaders.as_slice() == other.leaders.as_slice()

@@ -31,8 +31,10 @@ impl<A: Access<Any> + Drop, R: Wait + Clock> Asker<'_, A, R> {
         requires base { self.now.base + A.most ≤ 2 ^ 64 }
         requires wait { wait ≤ 60 }
         ensures seat { A.has_seat self.now.access.now seat.new }
-        ensures ok { IfOk result (λ group. AddsWatched self.now.session name group (A.mine seat.old) (A.mine seat.new)) }
-        ensures err { IfErr result (λ lack. Lacks self.now.session lack (A.mine seat.old) (A.mine seat.new)) }
+        ensures ok { IfOk result (λ group. AddsWatched self.now.session name group (A.mine seat.old)
+            (A.mine seat.new)) }
+        ensures err { IfErr result
+            (λ lack. Lacks self.now.session lack (A.mine seat.old) (A.mine seat.new)) }
         ensures placed { OnOk result (IsPlaceFrom self.now.base A.most place.new) }
     {
         let mut shown = self.look(seat, place, name)?;
@@ -59,8 +61,10 @@ impl<A: Access<Any> + Drop, R: Wait> Asker<'_, A, R> {
         requires seat { A.has_seat self.now.access.now seat.old }
         requires base { self.now.base + A.most ≤ 2 ^ 64 }
         ensures seat { A.has_seat self.now.access.now seat.new }
-        ensures ok { IfOk result (λ group. (group.name ≡ name) × AddsPicture self.now.session group (A.mine seat.old) (A.mine seat.new)) }
-        ensures err { IfErr result (λ lack. Lacks self.now.session lack (A.mine seat.old) (A.mine seat.new)) }
+        ensures ok { IfOk result (λ group. (group.name ≡ name)
+            × AddsPicture self.now.session group (A.mine seat.old) (A.mine seat.new)) }
+        ensures err { IfErr result
+            (λ lack. Lacks self.now.session lack (A.mine seat.old) (A.mine seat.new)) }
         ensures placed { OnOk result (IsPlaceFrom self.now.base A.most place.new) }
     {
         let queued = self.access.queue(self.rt);
@@ -80,8 +84,10 @@ impl<A: Access<Any> + Drop, R: Wait> Asker<'_, A, R> {
         requires seat { A.has_seat self.now.access.now seat.old }
         requires base { self.now.base + A.most ≤ 2 ^ 64 }
         ensures seat { A.has_seat self.now.access.now seat.new }
-        ensures ok { IfOk result (λ groups. AddsAll self.now.session groups.items (A.mine seat.old) (A.mine seat.new)) }
-        ensures err { IfErr result (λ lack. Lacks self.now.session lack (A.mine seat.old) (A.mine seat.new)) }
+        ensures ok { IfOk result (λ groups. AddsAll self.now.session groups.items (A.mine seat.old)
+            (A.mine seat.new)) }
+        ensures err { IfErr result
+            (λ lack. Lacks self.now.session lack (A.mine seat.old) (A.mine seat.new)) }
         ensures placed { OnOk result (IsPlaceFrom self.now.base A.most place.new) }
     {
         let queued = self.access.queue(self.rt);
@@ -97,8 +103,10 @@ impl<A: Access<Any> + Drop, R: Wait> Asker<'_, A, R> {
         requires seat { A.has_seat self.now.access.now seat.old }
         requires base { self.now.base + A.most ≤ 2 ^ 64 }
         ensures seat { A.has_seat self.now.access.now seat.new }
-        ensures ok { IfOk result (λ groups. AddsAll self.now.session groups.items (A.mine seat.old) (A.mine seat.new)) }
-        ensures err { IfErr result (λ lack. Lacks self.now.session lack (A.mine seat.old) (A.mine seat.new)) }
+        ensures ok { IfOk result (λ groups. AddsAll self.now.session groups.items (A.mine seat.old)
+            (A.mine seat.new)) }
+        ensures err { IfErr result
+            (λ lack. Lacks self.now.session lack (A.mine seat.old) (A.mine seat.new)) }
         ensures placed { OnOk result (IsPlaceFrom self.now.base A.most place.new) }
     {
         let names = self.names(seat, place)?;
@@ -115,9 +123,12 @@ impl<A: Access<Any> + Drop, R: Wait> Asker<'_, A, R> {
         requires seat { A.has_seat self.now.access.now seat.old }
         requires base { self.now.base + A.most ≤ 2 ^ 64 }
         ensures seat { A.has_seat self.now.access.now seat.new }
-        ensures ok { IfOk result (λ groups. AddsPictures self.now.session names.now groups.items (A.mine seat.old) (A.mine seat.new)) }
-        ensures err { IfErr result (λ lack. Lacks self.now.session lack (A.mine seat.old) (A.mine seat.new)) }
-        ensures kept { OnOk result (IsPlaceFrom self.now.base A.most place.old → IsPlaceFrom self.now.base A.most place.new) }
+        ensures ok { IfOk result (λ groups. AddsPictures self.now.session names.now groups.items
+            (A.mine seat.old) (A.mine seat.new)) }
+        ensures err { IfErr result
+            (λ lack. Lacks self.now.session lack (A.mine seat.old) (A.mine seat.new)) }
+        ensures kept { OnOk result (IsPlaceFrom self.now.base A.most place.old
+            → IsPlaceFrom self.now.base A.most place.new) }
     {
         let mut groups = Vec::new(self.alloc);
         for name in names {
@@ -139,8 +150,10 @@ impl<A: Access<Any> + Drop, R: Wait> Asker<'_, A, R> {
         requires seat { A.has_seat self.now.access.now seat.old }
         requires base { self.now.base + A.most ≤ 2 ^ 64 }
         ensures seat { A.has_seat self.now.access.now seat.new }
-        ensures ok { IfOk result (λ group. (group.name ≡ name) × AddsPicture self.now.session group (A.mine seat.old) (A.mine seat.new)) }
-        ensures err { IfErr result (λ lack. Lacks self.now.session lack (A.mine seat.old) (A.mine seat.new)) }
+        ensures ok { IfOk result (λ group. (group.name ≡ name)
+            × AddsPicture self.now.session group (A.mine seat.old) (A.mine seat.new)) }
+        ensures err { IfErr result
+            (λ lack. Lacks self.now.session lack (A.mine seat.old) (A.mine seat.new)) }
         ensures placed { OnOk result (IsPlaceFrom self.now.base A.most place.new) }
     {
         let members = self.members(seat, place, name)?;

@@ -2,7 +2,8 @@
 ghost use Rattle.std.specs.Prelude.{◌≡◌, ◌≤◌, ◌↔◌, IsTrue, length};
 ghost use Rattle.std.specs.List.{prefix_len};
 ghost use Rattle.http.specs.Request.{head_of};
-ghost use Rattle.ring_http.specs.Routes.{IsRoute, Names, NamesGroup, is_for_here, is_local, is_no_colon, reads};
+ghost use Rattle.ring_http.specs.Routes.{IsRoute, Names, is_for_here, is_local, is_no_colon, reads};
+ghost use Rattle.ring_http.specs.private.Routes.{NamesGroup};
 
 use bytes::Bytes;
 use http::{Method, Request, header};

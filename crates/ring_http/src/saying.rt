@@ -16,7 +16,8 @@ use std::alloc::AllocError;
 /// Begins a response: its status and its fields, and its text if it follows from the route.
 pub(crate) fn begin(route: &Route, response: &mut Response) -> Result<(), AllocError>
     requires { IsBlank response.old }
-    ensures { OnOk result (IsResponse (code_of route.now) (fields_for route.now) (text_of route.now) response.new) }
+    ensures { OnOk result (IsResponse (code_of route.now) (fields_for route.now) (text_of route.now)
+        response.new) }
 {
     response.status = code_of(route);
     let policy = HeaderValue::from_static("default-src 'self'");
@@ -28,7 +29,8 @@ pub(crate) fn begin(route: &Route, response: &mut Response) -> Result<(), AllocE
 
 // Adds the methods that are allowed, if the request has another.
 fn add_allow(route: &Route, response: &mut Response) -> Result<(), AllocError>
-    ensures headers { OnOk result (fields_of response.new ≡ fields_of response.old ++ allow_of route.now) }
+    ensures headers { OnOk result (fields_of response.new
+        ≡ fields_of response.old ++ allow_of route.now) }
     ensures status { response.new.status ≡ response.old.status }
     ensures body { response.new.body ≡ response.old.body }
 {

@@ -26,8 +26,8 @@ use std::sync::Wait;
 use std::time::Clock;
 
 impl<A: Access<Any> + Drop, R: Wait + Clock> Asker<'_, A, R> {
-    /// Answers a request by questions of a seat, which change nothing. Nothing is told before all that it was
-    /// given from is kept for good. At an error, for want of memory, nothing was asked.
+    /// Answers a request by questions of a seat, which change nothing. Nothing is told before all
+    /// that it was given from is kept for good. At an error, for want of memory, nothing was asked.
     pub fn answer(
         &self,
         seat: &mut A::Seat,
@@ -38,7 +38,8 @@ impl<A: Access<Any> + Drop, R: Wait + Clock> Asker<'_, A, R> {
         requires base { self.now.base + A.most ≤ 2 ^ 64 }
         requires blank { IsBlank response.old }
         ensures seat { A.has_seat self.now.access.now seat.new }
-        ensures ok { OnOk result (IsAnswered self.now.base A.most self.now.session (head_of request.now) (A.mine seat.old) response.new (A.mine seat.new)) }
+        ensures ok { OnOk result (IsAnswered self.now.base A.most self.now.session
+            (head_of request.now) (A.mine seat.old) response.new (A.mine seat.new)) }
         ensures err { OnErr result (seat.new ≡ seat.old) }
         ensures questions { AddsQuestions self.now.session (A.mine seat.old) (A.mine seat.new) }
         ensures told { (seat.new ≡ seat.old) ⊎ A.is_settled seat.new }
@@ -57,7 +58,8 @@ impl<A: Access<Any> + Drop, R: Wait + Clock> Asker<'_, A, R> {
         requires base { self.now.base + A.most ≤ 2 ^ 64 }
         requires blank { IsBlank response.old }
         ensures seat { A.has_seat self.now.access.now seat.new }
-        ensures ok { OnOk result (IsAnswered self.now.base A.most self.now.session (head_of request.now) (A.mine seat.old) response.new (A.mine seat.new)) }
+        ensures ok { OnOk result (IsAnswered self.now.base A.most self.now.session
+            (head_of request.now) (A.mine seat.old) response.new (A.mine seat.new)) }
         ensures err { OnErr result (seat.new ≡ seat.old) }
         ensures told { (seat.new ≡ seat.old) ⊎ A.is_settled seat.new }
     {
@@ -85,7 +87,9 @@ impl<A: Access<Any> + Drop, R: Wait + Clock> Asker<'_, A, R> {
         requires wait { wait ≤ 60 }
         requires begun { IsResponse 200 (fields_for (Route.Found resource.now)) [] response.old }
         ensures seat { A.has_seat self.now.access.now seat.new }
-        ensures ok { OnOk result (Shows self.now.base A.most self.now.session (fields_for (Route.Found resource.now)) (A.mine seat.old) response.new (A.mine seat.new) resource.now) }
+        ensures ok { OnOk result (Shows self.now.base A.most self.now.session
+            (fields_for (Route.Found resource.now)) (A.mine seat.old) response.new (A.mine seat.new)
+            resource.now) }
         ensures err { OnErr result (seat.new ≡ seat.old) }
         ensures told { (seat.new ≡ seat.old) ⊎ A.is_settled seat.new }
     {
@@ -116,7 +120,8 @@ impl<A: Access<Any> + Drop, R: Wait + Clock> Asker<'_, A, R> {
         requires base { self.now.base + A.most ≤ 2 ^ 64 }
         requires begun { IsResponse 200 (fields_of response.old) [] response.old }
         ensures seat { A.has_seat self.now.access.now seat.new }
-        ensures shows { Shows self.now.base A.most self.now.session (fields_of response.old) (A.mine seat.old) response.new (A.mine seat.new) Resource.Health }
+        ensures shows { Shows self.now.base A.most self.now.session (fields_of response.old)
+            (A.mine seat.old) response.new (A.mine seat.new) Resource.Health }
         ensures told { A.is_settled seat.new }
     {
         let mut place = self.base;
@@ -138,7 +143,8 @@ impl<A: Access<Any> + Drop, R: Wait + Clock> Asker<'_, A, R> {
         requires base { self.now.base + A.most ≤ 2 ^ 64 }
         requires begun { IsResponse 200 (fields_of response.old) [] response.old }
         ensures seat { A.has_seat self.now.access.now seat.new }
-        ensures shows { Shows self.now.base A.most self.now.session (fields_of response.old) (A.mine seat.old) response.new (A.mine seat.new) Resource.Groups }
+        ensures shows { Shows self.now.base A.most self.now.session (fields_of response.old)
+            (A.mine seat.old) response.new (A.mine seat.new) Resource.Groups }
         ensures told { A.is_settled seat.new }
     {
         let mut place = self.base;
@@ -159,7 +165,8 @@ impl<A: Access<Any> + Drop, R: Wait + Clock> Asker<'_, A, R> {
         requires base { self.now.base + A.most ≤ 2 ^ 64 }
         requires begun { IsResponse 200 (fields_of response.old) [] response.old }
         ensures seat { A.has_seat self.now.access.now seat.new }
-        ensures shows { Shows self.now.base A.most self.now.session (fields_of response.old) (A.mine seat.old) response.new (A.mine seat.new) Resource.Metrics }
+        ensures shows { Shows self.now.base A.most self.now.session (fields_of response.old)
+            (A.mine seat.old) response.new (A.mine seat.new) Resource.Metrics }
         ensures told { A.is_settled seat.new }
     {
         let mut place = self.base;
@@ -181,7 +188,8 @@ impl<A: Access<Any> + Drop, R: Wait + Clock> Asker<'_, A, R> {
         requires wait { wait ≤ 60 }
         requires begun { IsResponse 200 (fields_of response.old) [] response.old }
         ensures seat { A.has_seat self.now.access.now seat.new }
-        ensures shows { Shows self.now.base A.most self.now.session (fields_of response.old) (A.mine seat.old) response.new (A.mine seat.new) (Resource.Group name) }
+        ensures shows { Shows self.now.base A.most self.now.session (fields_of response.old)
+            (A.mine seat.old) response.new (A.mine seat.new) (Resource.Group name) }
         ensures told { A.is_settled seat.new }
     {
         let mut place = self.base;

@@ -1,11 +1,12 @@
-//! How long a request waits for news. Tested, not proved: it decides when it is answered, and not what.
+//! How long a request waits for news. Tested, not proved: it decides when it is answered, and not
+//! what.
 ghost use Rattle.std.specs.Prelude.{◌≤◌};
 
 // How many seconds a request waits at most.
 const MOST: u32 = 60;
 
-/// How many seconds a request waits, by its query `after=PLACE&wait=SECONDS`: at most 60, and none if it does
-/// not say after which place.
+/// How many seconds a request waits, by its query `after=PLACE&wait=SECONDS`: at most 60, and none
+/// if it does not say after which place.
 pub(crate) fn wait_of(query: Option<&str>) -> u32
     ensures { result ≤ 60 }
 {

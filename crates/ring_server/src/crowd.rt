@@ -58,7 +58,8 @@ impl<L: Drop> Others<L> {
         1 + campaigns + web
     }
 
-    /// Returns how many seats a service needs that serves `sessions` clients of each kind at a time.
+    /// Returns how many seats a service needs that serves `sessions` clients of each kind at a
+    /// time.
     pub(crate) fn seats_for(&self, sessions: u32) -> u32 {
         sessions
             .saturating_mul(SEATS_EACH)
@@ -66,8 +67,8 @@ impl<L: Drop> Others<L> {
     }
 }
 
-/// Guests for sessions, hosts for campaigns and viewers for HTTP. Some of each serve from the start.
-/// The spare ones take the place of others whose seats are spent.
+/// Guests for sessions, hosts for campaigns and viewers for HTTP. Some of each serve from the
+/// start. The spare ones take the place of others whose seats are spent.
 #[derive(Drop)]
 pub(crate) struct Crowd<'a, T: Tabled<Any> + Drop> {
     guests: Vec<Guest<'a, T>>,
@@ -78,9 +79,9 @@ pub(crate) struct Crowd<'a, T: Tabled<Any> + Drop> {
     spare_viewers: Vec<Viewer<'a, T>>,
 }
 
-/// Returns guests, hosts and viewers for these seats. Each kind of clients that is served gets as many
-/// seats. Places are counted from `base`, and a campaign's client may be silent for `idle` seconds.
-/// Fails only if an allocation fails.
+/// Returns guests, hosts and viewers for these seats. Each kind of clients that is served gets as
+/// many seats. Places are counted from `base`, and a campaign's client may be silent for `idle`
+/// seconds. Fails only if an allocation fails.
 pub(crate) fn gather<'a, T: Tabled<Any> + Drop, L: Drop>(
     alloc: Global,
     front: &'a Front<T>,

@@ -31,8 +31,8 @@ use std::time::Clock;
 /// that it listens, and serves clients as `run_loop` does, until the process ends or the journal
 /// fails.
 ///
-/// If there is a listener for campaigns, all members of the life before are taken out first. None of
-/// their connections is left.
+/// If there is a listener for campaigns, all members of the life before are taken out first. None
+/// of their connections is left.
 ///
 /// If the journal fails, no more replies go out, and the fault is returned at once. The threads are
 /// not joined then, and end with the process. If the service could not begin, the fault is that of

@@ -165,8 +165,8 @@ where
     crowd.serve(rt, listener, others, limits)
 }
 
-// Takes out the members of an earlier life, for the service itself, which is session 0. Returns the seat by
-// which it was done.
+// Takes out the members of an earlier life, for the service itself, which is session 0. Returns the
+// seat by which it was done.
 fn clear_by<R: Wait + Clock, T: Tabled<Any> + Drop>(
     rt: &R,
     front: &Front<T>,

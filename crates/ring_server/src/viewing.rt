@@ -34,8 +34,8 @@ pub struct Viewer<'a, T: Tabled<Any> + Drop = Table<Any>> {
     ghost of_front: { ∥ IfSome seat (λ seat. seat.lock ≡ front.now.id) ∥₁ },
 }
 
-/// A viewer for each seat, whose places are told from `base`. `keys` are for the names of header fields. Fails
-/// only if an allocation fails.
+/// A viewer for each seat, whose places are told from `base`. `keys` are for the names of header
+/// fields. Fails only if an allocation fails.
 pub fn viewers<T: Tabled<Any> + Drop>(
     alloc: Global,
     front: &Front<T>,
@@ -157,7 +157,8 @@ fn answer<R: Wait + Clock, T: Tabled<Any> + Drop>(
     requires base { base + T.most ≤ 2 ^ 64 }
     requires blank { IsBlank response.old }
     ensures seat { seat.new.lock ≡ front.now.id }
-    ensures ok { OnOk result (IsAnswered base T.most session (head_of request.now) seat.old.mine response.new seat.new.mine) }
+    ensures ok { OnOk result (IsAnswered base T.most session (head_of request.now) seat.old.mine
+        response.new seat.new.mine) }
     ensures err { OnErr result (seat.new ≡ seat.old) }
     ensures told { (seat.new ≡ seat.old) ⊎ Settled seat.new }
 {

@@ -46,23 +46,29 @@ module _ (session : ℕ) where
   AsksNames mine (Err lack) now = Lacks session lack mine now
 
   -- the members of a group
-  abbrev pub AsksMembers : List ℕ → List (Entry Any) → Result (List ℕ) Lack → List (Entry Any) → Type 0
-  AsksMembers group mine (Ok members) now = now ≡ mine ++ Call session (Members group) (reply.Members members) ∷ []
+  abbrev pub AsksMembers : List ℕ → List (Entry Any) → Result (List ℕ) Lack → List (Entry Any)
+      → Type 0
+  AsksMembers group mine (Ok members) now =
+      now ≡ mine ++ Call session (Members group) (reply.Members members) ∷ []
   AsksMembers group mine (Err lack) now = Lacks session lack mine now
 
   -- the leaders of a group's terms
-  abbrev pub AsksTerms : List ℕ → List (Entry Any) → Result (List (Option ℕ)) Lack → List (Entry Any) → Type 0
-  AsksTerms group mine (Ok leaders) now = now ≡ mine ++ Call session (Terms group) (reply.Terms leaders) ∷ []
+  abbrev pub AsksTerms : List ℕ → List (Entry Any) → Result (List (Option ℕ)) Lack
+      → List (Entry Any) → Type 0
+  AsksTerms group mine (Ok leaders) now =
+      now ≡ mine ++ Call session (Terms group) (reply.Terms leaders) ∷ []
   AsksTerms group mine (Err lack) now = Lacks session lack mine now
 
   -- Each of these members was asked what it knows of its leader, and these know one.
-  pub record AddsEach (group members : List ℕ) (informed : List ℕ) (mine now : List (Entry Any)) : Type 0 where
+  pub record AddsEach (group members : List ℕ) (informed : List ℕ)
+      (mine now : List (Entry Any)) : Type 0 where
     pub adds : AddsQuestions session mine now
     pub asks : map asked_of adds.added ≡ map (who_of session group) members
     pub hears : informed ≡ flat_map hears adds.added
 
   -- A member was asked, given its number, and its number was noted if it knows a leader.
-  pub record Hears (group : List ℕ) (number : ℕ) (informed later : List ℕ) (mine now : List (Entry Any)) : Type 0 where
+  pub record Hears (group : List ℕ) (number : ℕ) (informed later : List ℕ)
+      (mine now : List (Entry Any)) : Type 0 where
     pub answer : Reply
     pub gained : now ≡ mine ++ Call session (Who group number) answer ∷ []
     pub heard : later ≡ informed ++ hears_of number answer
