@@ -263,24 +263,32 @@ function showParts(there) {
   one("parts").hidden = one("foot").hidden = one("leader").hidden = !there;
 }
 
+// The sum of an answer, as the service makes it: by it a poll hears of a change that came before the poll.
+function sumOf(said) {
+  const ofNode = (node) => [node.number, node.weight];
+  const ofTerm = (term) => (term.leader ? ofNode(term.leader) : [0]);
+  return [...said.members.flatMap(ofNode), 0, ...said.terms.flatMap(ofTerm), 0, ...said.informed]
+    .reduce((sum, number) => Math.imul(sum ^ number, 16777619), 2166136261) >>> 0;
+}
+
 // Follows the open group for ever: by long polls, and by a question now and then if nobody looks.
 async function follow() {
-  for (let [name, place] = ["", ""]; ; await sleep(document.hidden ? 4 * BEAT : 40)) {
+  for (let [name, after] = ["", ""]; ; await sleep(document.hidden ? 4 * BEAT : 40)) {
     if (name !== page.open || page.stop.signal.aborted) {
-      [name, place, page.stop] = [page.open, "", new AbortController()];
+      [name, after, page.stop] = [page.open, "", new AbortController()];
     }
     if (!page.groups.includes(name)) continue;
     const stop = page.stop.signal;
-    const wait = place && !document.hidden ? WAIT : 0;
+    const wait = after && !document.hidden ? WAIT : 0;
     try {
-      const after = wait ? `?after=${place}&wait=${wait}` : "";
-      const said = await read(`v1/groups/${name}${after}`, PATIENCE + 1000 * wait, stop);
+      const query = wait ? `?${after}&wait=${wait}` : "";
+      const said = await read(`v1/groups/${name}${query}`, PATIENCE + 1000 * wait, stop);
       if (stop.aborted) continue;
-      place = said.place;
+      after = `after=${said.place}&seen=${sumOf(said)}`;
       show(said);
     } catch (wrong) {
       if (wrong.status === undefined) console.error(wrong);
-      place = "";
+      after = "";
       if (!stop.aborted) await sleep(BEAT);
     }
   }

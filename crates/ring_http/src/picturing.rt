@@ -19,13 +19,15 @@ const PAUSE: u64 = 20;
 const LOOKS: u32 = 50;
 
 impl<A: Access<Any> + Drop, R: Wait + Clock> Asker<'_, A, R> {
-    /// A picture of a group as soon as it differs from the first one, or after so many seconds.
+    /// A picture of a group as soon as its sum is not `seen` or it differs from the first one, or after
+    /// `wait` seconds.
     pub(crate) fn watch(
         &self,
         seat: &mut A::Seat,
         place: &mut usize,
         name: GroupName,
         wait: u32,
+        seen: Option<u32>,
     ) -> Result<GroupPicture, Lack>
         requires seat { A.has_seat self.now.access.now seat.old }
         requires base { self.now.base + A.most ≤ 2 ^ 64 }
@@ -38,6 +40,9 @@ impl<A: Access<Any> + Drop, R: Wait + Clock> Asker<'_, A, R> {
         ensures placed { OnOk result (IsPlaceFrom self.now.base A.most place.new) }
     {
         let mut shown = self.look(seat, place, name)?;
+        if shown.is_news(seen) {
+            return Ok(shown);
+        }
         for _ in 0..wait * LOOKS {
             thread::sleep(self.rt, Duration::from_millis(PAUSE));
             let next = self.look(seat, place, name)?;

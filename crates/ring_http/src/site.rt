@@ -14,7 +14,7 @@ use crate::metrics::put_metrics;
 use crate::route::{Resource, Route, route_of};
 use crate::saying::{begin, end, fail, fault_code, page_of};
 use crate::text::put;
-use crate::waiting::wait_of;
+use crate::waiting::{seen_of, wait_of};
 use bytes::Bytes;
 use http::{Request, StatusCode};
 use http_server::Response;
@@ -67,8 +67,8 @@ impl<A: Access<Any> + Drop, R: Wait + Clock> Asker<'_, A, R> {
         begin(&route, response)?;
         match &route {
             Route::Found(resource) => {
-                let wait = wait_of(request.uri().query());
-                self.show(resource, wait, seat, response)
+                let query = request.uri().query();
+                self.show(resource, wait_of(query), seen_of(query), seat, response)
             }
             _ => Ok(()),
         }
@@ -79,6 +79,7 @@ impl<A: Access<Any> + Drop, R: Wait + Clock> Asker<'_, A, R> {
         &self,
         resource: &Resource,
         wait: u32,
+        seen: Option<u32>,
         seat: &mut A::Seat,
         response: &mut Response,
     ) -> Result<(), AllocError>
@@ -107,7 +108,7 @@ impl<A: Access<Any> + Drop, R: Wait + Clock> Asker<'_, A, R> {
                 Ok(())
             }
             Resource::Group(name) => {
-                self.show_group(*name, wait, seat, response);
+                self.show_group(*name, wait, seen, seat, response);
                 Ok(())
             }
             _ => put(page_of(resource).as_bytes(), &mut response.body),
@@ -181,8 +182,15 @@ impl<A: Access<Any> + Drop, R: Wait + Clock> Asker<'_, A, R> {
         }
     }
 
-    // Shows a group, as soon as it says something else or after so many seconds.
-    fn show_group(&self, name: GroupName, wait: u32, seat: &mut A::Seat, response: &mut Response)
+    // Shows a group as soon as it says something else, or after `wait` seconds.
+    fn show_group(
+        &self,
+        name: GroupName,
+        wait: u32,
+        seen: Option<u32>,
+        seat: &mut A::Seat,
+        response: &mut Response,
+    )
         requires seat { A.has_seat self.now.access.now seat.old }
         requires base { self.now.base + A.most ≤ 2 ^ 64 }
         requires wait { wait ≤ 60 }
@@ -193,7 +201,7 @@ impl<A: Access<Any> + Drop, R: Wait + Clock> Asker<'_, A, R> {
         ensures told { A.is_settled seat.new }
     {
         let mut place = self.base;
-        let asked = self.watch(seat, &mut place, name, wait);
+        let asked = self.watch(seat, &mut place, name, wait, seen);
         self.access.settle(self.rt, seat);
         match asked {
             Ok(group) => {

@@ -15,6 +15,7 @@ use Rattle.ring_any.specs.contracts.any.AnyMsgPartialEq.TheImpl as same_message
 use Rattle.ring_table.specs.declared.tabled.Tabled as tabled
 use Rattle.ring_server.specs.contracts.hosting.Host as host
 use Rattle.ring_server.specs.contracts.sessions.Guest as guest
+use Rattle.ring_server.specs.contracts.viewing.Seated as seated
 use Rattle.ring_server.specs.contracts.viewing.Viewer as viewer
 use Rattle.ring_turn.specs.contracts.seat.Seat as seat
 use Rattle.ring_turn.specs.contracts.lock.TurnLock as lock
@@ -54,11 +55,19 @@ module _ (T : RattleType) (shows : tabled.Ghosts T.Denot any.the_row.Denot messa
       let fields : AllSend (shape D).fields = search (crosses, sendable, fronts, seats) depth 20 in
       recorded_send (Struct (shape D)) D.D D.to D.to_one (struct_send (shape D) fields)
 
+  -- and so may a seat with its front
+  pub seated_send : (a : NamedLft) → IsSend T → IsSend (seated.the_row a T shows)
+  seated_send a send =
+      let fronts = front_sync send in
+      let seats = seat_send send in
+      let D : Declared = seated.the_type a T shows in
+      let fields : AllSend (shape D).fields = search (crosses, sendable, fronts, seats) depth 20 in
+      recorded_send (Struct (shape D)) D.D D.to D.to_one (struct_send (shape D) fields)
+
   -- and so may a viewer
   pub viewer_send : (a : NamedLft) → IsSend T → IsSend (viewer.the_row a T shows)
   viewer_send a send =
-      let fronts = front_sync send in
-      let seats = seat_send send in
+      let parts = seated_send a send in
       let D : Declared = viewer.the_type a T shows in
-      let fields : AllSend (shape D).fields = search (crosses, sendable, fronts, seats) depth 20 in
+      let fields : AllSend (shape D).fields = search (crosses, sendable, parts) depth 20 in
       recorded_send (Struct (shape D)) D.D D.to D.to_one (struct_send (shape D) fields)

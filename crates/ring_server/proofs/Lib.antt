@@ -5,3 +5,4 @@ mod Logging
 mod Ending
 mod Gaining
 mod Turned
+mod Keeping

@@ -26,16 +26,22 @@ use std::time::Clock;
 #[derive(Drop)]
 pub struct Viewer<'a, T: Tabled<Any> + Drop = Table<Any>> {
     alloc: Global,
-    front: &'a Front<T>,
-    // it is away while a connection is served
-    seat: Option<Seat<T>>,
+    // `None` while a connection is served
+    seated: Option<Seated<'a, T>>,
     base: Base<T>,
     keys: RandomState,
-    ghost of_front: { ∥ IfSome seat (λ seat. seat.lock ≡ front.now.id) ∥₁ },
 }
 
-/// A viewer for each seat, whose places are told from `base`. `keys` are for the names of header
-/// fields. Fails only if an allocation fails.
+/// A seat, and the front by which it asks.
+#[derive(Drop)]
+pub(crate) struct Seated<'a, T: Tabled<Any> + Drop> {
+    front: &'a Front<T>,
+    seat: Seat<T>,
+    ghost of_front: { seat.lock ≡ front.now.id },
+}
+
+/// Returns a viewer for each seat. Its places are counted from `base`, and the names of header fields
+/// are hashed by `keys`. Fails only if an allocation fails.
 pub fn viewers<T: Tabled<Any> + Drop>(
     alloc: Global,
     front: &Front<T>,
@@ -55,8 +61,7 @@ pub fn viewers<T: Tabled<Any> + Drop>(
     while let Some(seat) = rest.pop() {
         viewers.push_reserved(Viewer {
             alloc,
-            front,
-            seat: Some(seat),
+            seated: Some(Seated { front, seat }),
             base: base_of(base),
             keys,
         });
@@ -66,72 +71,67 @@ pub fn viewers<T: Tabled<Any> + Drop>(
 
 impl<T: Tabled<Any> + Drop> Serving for Viewer<'_, T> {
     fn is_spent(&self) -> bool {
-        match &self.seat {
-            Some(seat) => seat.is_spent(),
+        match &self.seated {
+            Some(seated) => seated.seat.is_spent(),
             None => true,
         }
     }
 
     fn serve<R: Wait + Clock>(&mut self, rt: &R, session: u32, stream: &TcpStream, _places: bool) {
         let _ = stream.set_nodelay(true);
-        let Some(seat) = self.seat.take() else {
+        let Some(seated) = self.seated.take() else {
             return;
         };
         let mut connection = Connection::new(self.alloc, self.keys, Config::default());
         let mut site = Site {
             rt,
             alloc: self.alloc,
-            front: self.front,
-            seat,
+            seated,
             base: base_of(self.base.number),
             session,
         };
         let (mut reader, mut writer) = (stream, stream);
         let _ = serve(&mut connection, &mut site, &mut reader, &mut writer);
-        let Site { seat, .. } = site;
-        self.seat = Some(seat);
+        let Site { seated, .. } = site;
+        self.seated = Some(seated);
     }
 }
 
-/// What answers the requests of one connection.
+/// Answers the requests of one connection.
 #[derive(Drop)]
-struct Site<'a, R, T: Tabled<Any> + Drop> {
-    rt: &'a R,
+struct Site<'a, 'b, R, T: Tabled<Any> + Drop> {
+    rt: &'b R,
     alloc: Global,
-    front: &'a Front<T>,
-    seat: Seat<T>,
+    seated: Seated<'a, T>,
     base: Base<T>,
     session: u32,
-    ghost of_front: { seat.lock ≡ front.now.id },
 }
 
-impl<R: Wait + Clock, T: Tabled<Any> + Drop> Service for Site<'_, R, T> {
+impl<R: Wait + Clock, T: Tabled<Any> + Drop> Service for Site<'_, '_, R, T> {
     ghost use Rattle.std.specs.Prelude.{◌≡◌};
     ghost use Rattle.http.specs.Request.{head_of};
     ghost use Rattle.ring_http.specs.Answering.{IsAnswered};
 
-    ghost answers = { λ old request response new. IsAnswered old.base.number T.most old.session (head_of request) old.seat.mine response new.seat.mine × (new.session ≡ old.session) };
+    ghost answers = { λ old request response new.
+        IsAnswered old.base.number T.most old.session (head_of request) old.seated.seat.mine response
+        new.seated.seat.mine × (new.session ≡ old.session) };
 
     fn call(
         &mut self,
         request: &Request<Bytes>,
         response: &mut Response,
     ) -> Result<(), AllocError> {
-        let (rt, alloc, front, seat) = (self.rt, self.alloc, self.front, &mut self.seat);
-        answer(
-            rt,
-            alloc,
-            front,
-            seat,
+        let (rt, alloc, session) = (self.rt, self.alloc, self.session);
+        let (base, front, seat) = (
             self.base.number,
-            self.session,
-            request,
-            response,
-        )
+            self.seated.front,
+            &mut self.seated.seat,
+        );
+        answer(rt, alloc, front, seat, base, session, request, response)
     }
 }
 
-// What is added to each place.
+// Returns the base with this number.
 fn base_of<T: Tabled<Any> + Drop>(number: usize) -> Base<T>
     requires { number + T.most ≤ 2 ^ 64 }
     ensures { result.number ≡ number }
