@@ -122,11 +122,9 @@ impl<R: Wait + Clock, T: Tabled<Any> + Drop> Service for Site<'_, '_, R, T> {
         response: &mut Response,
     ) -> Result<(), AllocError> {
         let (rt, alloc, session) = (self.rt, self.alloc, self.session);
-        let (base, front, seat) = (
-            self.base.number,
-            self.seated.front,
-            &mut self.seated.seat,
-        );
+        let base = self.base.number;
+        let seated = &mut self.seated;
+        let (front, seat) = (seated.front, &mut seated.seat);
         answer(rt, alloc, front, seat, base, session, request, response)
     }
 }
