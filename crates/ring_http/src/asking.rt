@@ -22,18 +22,18 @@ pub enum Lack {
     Odd,
 }
 
-/// A session of a table, as which the questions are asked.
+/// A session of a table, which asks the questions.
 #[derive(Drop)]
 pub struct Asker<'a, A: Drop, R> {
-    /// What it runs with.
+    /// The runtime.
     pub rt: &'a R,
-    /// Where its memory comes from.
+    /// The allocator.
     pub alloc: Global,
     /// The table's access.
     pub access: &'a A,
     /// The number of the session.
     pub session: u32,
-    /// What is added to each place that is told.
+    /// The number that is added to each place of an answer.
     pub base: usize,
 }
 

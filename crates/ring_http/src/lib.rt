@@ -1,8 +1,7 @@
-//! What an operator sees of a running service by HTTP: its health, metrics, its groups as JSON, and
-//! a page.
+//! The answers of a running service to HTTP: its health, metrics, its groups as JSON, and a page.
 //!
-//! An `Asker` answers a request by questions of its seat of the table. The seat gains questions
-//! alone, which change nothing.
+//! An `Asker` answers a request by questions of its seat of the table. The seat gains only
+//! questions, which change nothing.
 #![tactic(auto)]
 
 mod asking;

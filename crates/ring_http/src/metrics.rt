@@ -8,7 +8,7 @@ use http_server::Rope;
 use ring_id::{GroupName, NodeId};
 use std::alloc::AllocError;
 
-/// What is told of each group.
+/// A metric of each group.
 #[derive(Clone, Copy, Debug, PartialEq, Eq)]
 pub enum Gauge {
     /// The number of its members.
@@ -126,7 +126,7 @@ fn word(gauge: Gauge) -> &'static [u8]
     }
 }
 
-// What comes before the samples of a metric.
+// The lines before the samples of a metric.
 fn heading(gauge: Gauge) -> &'static [u8]
     ensures { result.now ≡ heading_of gauge }
 {

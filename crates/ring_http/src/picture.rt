@@ -1,13 +1,13 @@
-//! What was answered about groups.
+//! Pictures of groups: the answers about them.
 
 use ring_events::{MemberList, TermList};
 use ring_id::{GroupName, NodeId, NodeNo};
 
-// The sum of nothing, and the factor of each step.
+// The first sum, and the factor of each step.
 const FIRST: u32 = 2_166_136_261;
 const PRIME: u32 = 16_777_619;
 
-/// What was answered about one group.
+/// The answers about one group.
 #[derive(Debug, Drop)]
 pub struct GroupPicture {
     /// Its name.
@@ -36,7 +36,7 @@ impl GroupPicture {
         }
     }
 
-    // A sum of all that it says, by which a client names what it has seen: the FNV-1a hash of the
+    // Returns a sum, by which a client names a picture that it has seen. It is the FNV-1a hash of its
     // numbers, with 0 after the members, for a term without a leader, and after the terms.
     fn sum(&self) -> u32 {
         let mut sum = FIRST;

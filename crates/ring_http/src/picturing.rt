@@ -12,10 +12,10 @@ use std::sync::Wait;
 use std::thread;
 use std::time::{Clock, Duration};
 
-// After how many milliseconds a group is looked at again.
+// The milliseconds between two looks at a group.
 const PAUSE: u64 = 20;
 
-// How often it is looked at in a second.
+// The number of looks in a second.
 const LOOKS: u32 = 50;
 
 impl<A: Access<Any> + Drop, R: Wait + Clock> Asker<'_, A, R> {

@@ -1,4 +1,4 @@
-//! What a request asks for.
+//! The route of a request: the resource that it asks for, or why there is none.
 ghost use Rattle.std.specs.Prelude.{◌≡◌, ◌≤◌, ◌↔◌, IsTrue, length};
 ghost use Rattle.std.specs.List.{prefix_len};
 ghost use Rattle.http.specs.Request.{head_of};
@@ -9,7 +9,7 @@ use bytes::Bytes;
 use http::{Method, Request, header};
 use ring_id::GroupName;
 
-/// What a path names.
+/// The resource that a path names.
 #[derive(Clone, Copy, Debug)]
 pub enum Resource {
     /// The page.
@@ -28,7 +28,7 @@ pub enum Resource {
     Group(GroupName),
 }
 
-/// What becomes of a request.
+/// The route of a request.
 #[derive(Clone, Copy, Debug)]
 pub enum Route {
     /// It is for another host.
@@ -37,11 +37,11 @@ pub enum Route {
     NotAllowed,
     /// Its path names nothing.
     Unknown,
-    /// It asks for this.
+    /// It asks for this resource.
     Found(Resource),
 }
 
-/// Returns what a request asks for.
+/// Returns the route of a request.
 pub fn route_of(request: &Request<Bytes>) -> Route
     ensures { IsRoute (head_of request.now) result }
 {
@@ -95,7 +95,7 @@ fn reads(method: &Method) -> bool
     name == "GET" || name == "HEAD"
 }
 
-// What a path names.
+// The resource that a path names.
 fn resource_at(path: &[u8]) -> Option<Resource>
     ensures { Names path.now result }
 {

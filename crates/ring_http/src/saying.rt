@@ -54,7 +54,7 @@ fn code_of(route: &Route) -> StatusCode
     }
 }
 
-// The type of what is sent.
+// The content type of a response.
 fn kind_of(route: &Route) -> &'static str
     ensures value { result.now ≡ kind_of route.now }
     ensures visible { IsTrue (is_visible_text result.now) }
@@ -65,7 +65,7 @@ fn kind_of(route: &Route) -> &'static str
     }
 }
 
-// The type of what is sent of a resource.
+// The content type of a resource.
 fn kind_in(resource: &Resource) -> &'static str
     ensures value { result.now ≡ kind_in resource.now }
     ensures visible { IsTrue (is_visible_text result.now) }
@@ -92,7 +92,7 @@ fn text_of(route: &Route) -> &'static str
     }
 }
 
-/// The page, its script or its style; nothing for what is asked of the table.
+/// The page, its script or its style; empty for the other resources.
 pub(crate) fn page_of(resource: &Resource) -> &'static str {
     match resource {
         Resource::Page => INDEX,
@@ -102,7 +102,7 @@ pub(crate) fn page_of(resource: &Resource) -> &'static str {
     }
 }
 
-/// Ends a response. If its text was not put whole, for want of memory, it is a 503 without one.
+/// Ends a response. If an allocation failed for its text, it is a 503 without a text.
 pub(crate) fn end(put: Result<(), AllocError>, response: &mut Response)
     ensures ok { OnOk put (response.new ≡ response.old) }
     ensures err { OnErr put (IsResponse 503 (fields_of response.old) [] response.new) }
@@ -145,7 +145,7 @@ fn put_refusal(refusal: Refusal, out: &mut Rope) -> Result<(), AllocError>
     put(b"\n", out)
 }
 
-/// The status where a group was asked about and there is no answer.
+/// The status if a group was asked about and there is no answer.
 pub(crate) fn fault_code(lack: Lack) -> StatusCode
     ensures { result ≡ fault_code lack }
 {

@@ -1,4 +1,4 @@
-//! What is answered to a request.
+//! The answer to a request.
 ghost use Rattle.std.specs.Prelude.{◌≡◌, ◌≤◌, ◌+◌, ◌⊎◌, ◌^◌, [], OnErr, OnOk};
 ghost use Rattle.http.specs.Request.{head_of};
 ghost use Rattle.http_server.specs.Response.{IsBlank, IsResponse, fields_of};
@@ -26,8 +26,9 @@ use std::sync::Wait;
 use std::time::Clock;
 
 impl<A: Access<Any> + Drop, R: Wait + Clock> Asker<'_, A, R> {
-    /// Answers a request by questions of a seat, which change nothing. Nothing is told before all
-    /// that it was given from is kept for good. At an error, for want of memory, nothing was asked.
+    /// Answers a request by questions of a seat, which change nothing. The response is made only
+    /// after all entries that it shows are kept for good. Fails only if an allocation fails, and then
+    /// nothing was asked.
     pub fn answer(
         &self,
         seat: &mut A::Seat,
@@ -74,7 +75,7 @@ impl<A: Access<Any> + Drop, R: Wait + Clock> Asker<'_, A, R> {
         }
     }
 
-    // Shows what a path names.
+    // Shows a resource.
     fn show(
         &self,
         resource: &Resource,

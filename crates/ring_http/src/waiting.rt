@@ -1,5 +1,5 @@
-//! How long a request waits for news. Tested, not proved: it decides when it is answered, and not
-//! what.
+//! How long a request waits for news. Tested, not proved: it decides when it is answered, and
+//! not how.
 ghost use Rattle.std.specs.Prelude.{◌≤◌};
 
 // How many seconds a request waits at most.

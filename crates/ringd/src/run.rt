@@ -84,7 +84,6 @@ where
     R: Files
         + Clock
         + AllocGlobal
-        + RandomSource
         + Threads
         + Wait
         + Copy
