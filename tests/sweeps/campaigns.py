@@ -8,7 +8,8 @@ served anybody, with its one line and status 1.
 Some of the growths are those of worker threads, which leave a term without a leader. Then candidates must be told that
 this term is undecided, and be followed when they go.
 
-With a journal, the program ends if it can't be synced. Then a restart has what any client was told.
+With a journal, the program ends if it can't be synced. Then a restart has what any client was told, and one that serves
+campaigns takes all members out.
 """
 
 from candidates import Gone, Group
@@ -97,10 +98,14 @@ def lacks_sync(library, program, number, how):
         wanted = (1, FAILED) if how == "fail" else (ENDED, b"")
         if (status, error) != wanted or not server.listening().startswith(out) or not server.told():
             raise Bad(f"status {status}, {out!r}, {error!r}")
-        server.start_anew()
+        server.start_anew(campaigns=False)
         if not server.listens():
             raise Bad(f"a restart ends: {server.ends()}")
         group.compare_restart()
+        server.start_anew(campaigns=True)
+        if not server.listens():
+            raise Bad(f"a second restart ends: {server.ends()}")
+        group.compare_empty()
         return True
 
 

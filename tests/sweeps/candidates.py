@@ -270,6 +270,12 @@ class Group:
             raise Bad(f"{joined} had joined, and a restart has the members {listed}")
         self.compare_terms()
 
+    def compare_empty(self):
+        """Sees that a start which serves campaigns has taken all members out."""
+        self.session = None
+        if self.lines and (listed := self.members()):
+            raise Bad(f"a restart with campaigns has the members {listed}")
+
     def hear_out(self):
         """Reads what candidates were told before the program ended."""
         for it in self.there():

@@ -92,10 +92,13 @@ class Server:
             self.words = [*words, "--journal", path]
         self.start()
 
-    def start_anew(self):
-        """Starts the program once more, with no call going wrong."""
+    def start_anew(self, campaigns=None):
+        """Starts the program once more, with no call going wrong. It serves campaigns or not, as it did before or as it
+        is said."""
         self.stop()
         self.environment = dict(os.environ)
+        if campaigns is not None:
+            self.campaigns = campaigns
         self.start()
 
     def start(self):

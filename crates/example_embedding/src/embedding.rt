@@ -14,6 +14,14 @@ use std::sync::{Arc, Wait};
 // The number of the session that makes all calls.
 const SESSION: u32 = 1;
 
+// The group in which a command starts a term.
+fn started(command: &Command<Any>) -> Option<GroupName> {
+    match command {
+        Command::Start(group) => Some(*group),
+        _ => None,
+    }
+}
+
 /// A table under a lock with a seat of it, and the worlds of its terms, in the order of their starts.
 #[derive(Drop)]
 pub struct Host {
@@ -66,14 +74,14 @@ impl Host {
         line: &[u8],
         out: &mut W,
     ) -> Result<()> {
-        match parse_command(line) {
-            Some(Command::Start(group)) => self.start(rt, alloc, group, out),
-            Some(command) => {
-                let answer = self.table.call(rt, &mut self.seat, SESSION, command);
-                write_reply(alloc, &answer.into_reply(), out)
-            }
-            None => Ok(out.write_all(b"no bad-line\n")?),
+        let Some(command) = parse_command(line) else {
+            return Ok(out.write_all(b"no bad-line\n")?);
+        };
+        if let Some(group) = started(&command) {
+            return self.start(rt, alloc, group, out);
         }
+        let answer = self.table.call(rt, &mut self.seat, SESSION, command);
+        write_reply(alloc, &answer.into_reply(), out)
     }
 
     // Starts a term, and delivers its packets until nothing is in flight.
