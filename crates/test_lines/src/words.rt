@@ -74,9 +74,9 @@ fn serve_names_a_file_and_a_number(rt: HostRuntime) {
 }
 
 // Stops the test if a command line doesn't have clients served by the file `x`, so many at a time, each for so many
-// silent seconds, with places if these are told, and campaigns at this port, if it isn't 0. The journal is the file
-// `kept`, and there is none if that is empty.
-fn runs(rt: &impl Abort, alloc: Global, line: &str, numbers: [u32; 3], tells: bool, kept: &str) {
+// silent seconds, with places if these are told, and campaigns and HTTP at these ports, if they aren't 0. The journal is
+// the file `kept`, and there is none if that is empty.
+fn runs(rt: &impl Abort, alloc: Global, line: &str, numbers: [u32; 4], tells: bool, kept: &str) {
     let order = read_again(alloc, line);
     match &order {
         Ok(
@@ -87,10 +87,11 @@ fn runs(rt: &impl Abort, alloc: Global, line: &str, numbers: [u32; 3], tells: bo
                 places,
                 journal,
                 campaign,
+                http,
             },
         ) => {
             assert_eq!(rt; path.as_str(), "x", "{line}");
-            assert_eq!(rt; [*sessions, *idle, *campaign], numbers, "{line}");
+            assert_eq!(rt; [*sessions, *idle, *campaign, *http], numbers, "{line}");
             assert_eq!(rt; *places, tells, "{line}");
             assert_eq!(rt; file_of(journal), kept, "{line}");
         }
@@ -110,26 +111,33 @@ fn file_of(journal: &Option<String>) -> &str {
 #[test]
 fn run_has_its_usual_numbers(rt: HostRuntime) {
     for (line, numbers, tells, kept) in [
-        ("ringd run x", [16, 0, 0], false, ""),
-        ("ringd run --sessions 64 x", [64, 0, 0], false, ""),
+        ("ringd run x", [16, 0, 0, 0], false, ""),
+        ("ringd run --sessions 64 x", [64, 0, 0, 0], false, ""),
         (
             "ringd run x --idle=30 --places --sessions 1",
-            [1, 30, 0],
+            [1, 30, 0, 0],
             true,
             "",
         ),
-        ("ringd run x --idle 86400", [16, 86400, 0], false, ""),
-        ("ringd run x --journal y", [16, 0, 0], false, "y"),
+        ("ringd run x --idle 86400", [16, 86400, 0, 0], false, ""),
+        ("ringd run x --journal y", [16, 0, 0, 0], false, "y"),
         (
             "ringd run --journal=y/z x --places",
-            [16, 0, 0],
+            [16, 0, 0, 0],
             true,
             "y/z",
         ),
-        ("ringd run x --campaign 7401", [16, 0, 7401], false, ""),
+        ("ringd run x --campaign 7401", [16, 0, 7401, 0], false, ""),
         (
             "ringd run x --campaign=65535 --idle 5",
-            [16, 5, 65535],
+            [16, 5, 65535, 0],
+            false,
+            "",
+        ),
+        ("ringd run x --http 7402", [16, 0, 0, 7402], false, ""),
+        (
+            "ringd run --http=1 x --campaign 65535",
+            [16, 0, 65535, 1],
             false,
             "",
         ),
@@ -202,6 +210,10 @@ fn numbers_out_of_range_and_missing_words_are_refused(rt: HostRuntime) {
         "ringd run x --campaign 0",
         "ringd run x --campaign 65536",
         "ringd run x --campaign",
+        "ringd run x --http 0",
+        "ringd run x --http 65536",
+        "ringd run x --http",
+        "ringd serve x --connections 2 --http 7402",
         "ringd serve x --connections 2 --campaign 7401",
         "ringd serve x --connections 2 --journal y",
         "ringd replay --journal y",
