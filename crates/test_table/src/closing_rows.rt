@@ -192,7 +192,13 @@ fn two_turns<E: Spelled, R: Wait + Abort>(rt: &R, alloc: Global) -> Option<usize
     drop(seats);
     let created = is_told(rt, alloc, &lock, &mut seat, b"create a chang", b"1 ok\n");
     let early = seat.is_spent();
-    let joined = is_told(rt, alloc, &lock, &mut seat, b"join a 5", b"2 ok\n");
+    // a refused create leaves no entry and no group
+    let told = if created {
+        b"2 ok\n".as_slice()
+    } else {
+        b"1 no no-group\n"
+    };
+    let joined = is_told(rt, alloc, &lock, &mut seat, b"join a 5", told);
     assert_eq!(rt; [early, seat.is_spent()], [false, true]);
     let spent = is_told(
         rt,
