@@ -82,7 +82,6 @@ module _ (session : ℕ) where
     pub pictured : ArePictured adds.added groups
     pub named : map (λ group. group.name) groups ≡ names
 
-
   -- The last answer is this refusal.
   pub record EndsRefused (refusal : Refusal) (added : List (Entry Any)) : Type 0 where
     pub earlier : List (Entry Any)

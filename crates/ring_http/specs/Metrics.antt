@@ -72,4 +72,4 @@ abbrev pub metrics_of : ℕ → List GroupPicture → List ℕ
 metrics_of place groups =
     count_text groups_heading (length groups) ++ (count_text entries_heading place
     ++ (family_text Members groups ++
-        (family_text Term groups ++ (family_text Leader groups ++ family_text Informed groups))))
+    (family_text Term groups ++ (family_text Leader groups ++ family_text Informed groups))))

@@ -48,8 +48,7 @@ impl<A: Access<Any> + Drop, R: Wait> Asker<'_, A, R> {
         requires seat { A.has_seat self.now.access.now seat.old }
         requires base { self.now.base + A.most ≤ 2 ^ 64 }
         ensures seat { A.has_seat self.now.access.now seat.new }
-        ensures asks {
-            Asks self.now.session command.now (A.mine seat.old) result (A.mine seat.new) }
+        ensures asks { Asks self.now.session command.now (A.mine seat.old) result (A.mine seat.new) }
         ensures placed { OnOk result (IsPlaceFrom self.now.base A.most place.new) }
         ensures kept { IsPlaceFrom self.now.base A.most place.old
             → IsPlaceFrom self.now.base A.most place.new }
@@ -85,8 +84,7 @@ impl<A: Access<Any> + Drop, R: Wait> Asker<'_, A, R> {
         requires seat { A.has_seat self.now.access.now seat.old }
         requires base { self.now.base + A.most ≤ 2 ^ 64 }
         ensures seat { A.has_seat self.now.access.now seat.new }
-        ensures asks {
-            AsksMembers self.now.session name (A.mine seat.old) result (A.mine seat.new) }
+        ensures asks { AsksMembers self.now.session name (A.mine seat.old) result (A.mine seat.new) }
         ensures placed { OnOk result (IsPlaceFrom self.now.base A.most place.new) }
     {
         let reply = self.ask(seat, place, &Command::Members(name))?;
@@ -196,8 +194,7 @@ fn terms_in(reply: Reply) -> Result<TermList, Lack>
 
 // Notes a member that knows its leader, given what it answered.
 fn note(informed: &mut Vec<NodeNo>, number: NodeNo, reply: &Reply) -> Result<(), Lack>
-    ensures ok {
-        OnOk result (informed.new.items ≡ informed.old.items ++ hears_of number reply.now) }
+    ensures ok { OnOk result (informed.new.items ≡ informed.old.items ++ hears_of number reply.now) }
     ensures err { IfErr result (λ lack. lack ≡ Lack.Unplaced NoMemory) }
 {
     match reply {

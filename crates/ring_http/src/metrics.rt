@@ -23,11 +23,7 @@ pub enum Gauge {
 
 /// Appends the metrics of these groups and the place of the last answer. Fails only if an
 /// allocation fails.
-pub fn put_metrics(
-    place: usize,
-    groups: &[GroupPicture],
-    out: &mut Rope,
-) -> Result<(), AllocError>
+pub fn put_metrics(place: usize, groups: &[GroupPicture], out: &mut Rope) -> Result<(), AllocError>
     ensures { OnOk result (out.new.items ≡ out.old.items ++ metrics_of place groups.now) }
 {
     put_count(
@@ -75,12 +71,7 @@ fn put_sample(gauge: Gauge, group: &GroupPicture, out: &mut Rope) -> Result<(), 
 }
 
 // Appends a group's sample.
-fn put_value(
-    word: &[u8],
-    name: &GroupName,
-    value: u64,
-    out: &mut Rope,
-) -> Result<(), AllocError>
+fn put_value(word: &[u8], name: &GroupName, value: u64, out: &mut Rope) -> Result<(), AllocError>
     ensures { OnOk result (out.new.items ≡ out.old.items ++ value_text word.now name.now value) }
 {
     put(word, out)?;

@@ -5,6 +5,7 @@ use ring_id::{GroupName, NodeId, NodeNo};
 
 // The first sum, and the factor of each step.
 const FIRST: u32 = 2_166_136_261;
+
 const PRIME: u32 = 16_777_619;
 
 /// The answers about one group.

@@ -22,7 +22,10 @@ pub(crate) fn begin(route: &Route, response: &mut Response) -> Result<(), AllocE
     response.status = code_of(route);
     let policy = HeaderValue::from_static("default-src 'self'");
     response.add_header(header::CONTENT_SECURITY_POLICY, policy)?;
-    response.add_header(header::CONTENT_TYPE, HeaderValue::from_static(kind_of(route)))?;
+    response.add_header(
+        header::CONTENT_TYPE,
+        HeaderValue::from_static(kind_of(route)),
+    )?;
     add_allow(route, response)?;
     put(text_of(route).as_bytes(), &mut response.body)
 }

@@ -12,7 +12,8 @@ use crate::viewing::Viewer;
 use ring_any::Any;
 use ring_config::Config;
 use ring_door::{
-    Door, Entrance, Limits, ProgramFault, attend_all, attend_both, attend_three, say_listening, tell,
+    Door, Entrance, Limits, ProgramFault, attend_all, attend_both, attend_three, say_listening,
+    tell,
 };
 use ring_lines::Outlet;
 use ring_table::{Recorded, Tabled, Unkept};

@@ -125,9 +125,7 @@ where
     ensures fault { IfErr result IsOfStart }
 {
     let front = sessions::front(&service);
-    let served = serve(
-        rt, front, listener, others, seats, base, limits, handshake,
-    );
+    let served = serve(rt, front, listener, others, seats, base, limits, handshake);
     let _ = sessions::close(rt, service);
     served
 }

@@ -141,7 +141,7 @@ IsGiven words (Serve path connections) =
 IsGiven words (Run path sessions idle places journal campaign http) =
     (rows : List Row) × Names words (codes "run") rows
     × Runs rows (string_bytes path) sessions idle places (option_map string_bytes journal)
-        campaign http
+    campaign http
 IsGiven words (Journal path) =
     (rows : List Row) × Names words (codes "journal") rows
     × (first_of (codes "file") rows ≡ Some (string_bytes path))

@@ -93,7 +93,15 @@ where
     };
     let mut out = out_failing_at(rt, rt.alloc(), fault_at);
     let resumed = unsynced(rt.alloc()).expect(rt, "no table");
-    let ran = resume_loop(rt, listener, Others::none(), &CONFIG, limits, resumed, &mut out);
+    let ran = resume_loop(
+        rt,
+        listener,
+        Others::none(),
+        &CONFIG,
+        limits,
+        resumed,
+        &mut out,
+    );
     assert_eq!(rt; ran, wanted);
     assert_eq!(rt; out.taken(), told);
     drop(out);

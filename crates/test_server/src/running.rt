@@ -188,7 +188,14 @@ where
             port: 80,
         };
         let mut out = out_failing_at(&inner, inner.alloc(), 0);
-        let _ = run_loop(&inner, listener, Others::none(), &config, TWO_SESSIONS, &mut out);
+        let _ = run_loop(
+            &inner,
+            listener,
+            Others::none(),
+            &config,
+            TWO_SESSIONS,
+            &mut out,
+        );
         drop(out);
     };
     match thread::spawn(rt, run) {

@@ -11,6 +11,6 @@ returns-clause-err g c =
     let site = c.args.self.now in
     on_err_weaker {P = c.answer.new.seat ≡ site.seated.seat} c.answer.result
     (λ same.
-      same_with same (λ seat. seat.lock ≡ site.seated.front.now.id) (λ seat. Coded-set table_id_coded _ _)
-      (λ seat of_front. record site { seated = record site.seated { seat = seat; of_front = of_front } }) _ site.seated.of_front)
+    same_with same (λ seat. seat.lock ≡ site.seated.front.now.id) (λ seat. Coded-set table_id_coded _ _)
+    (λ seat of_front. record site { seated = record site.seated { seat = seat; of_front = of_front } }) _ site.seated.of_front)
     c.answer.ensures.err
