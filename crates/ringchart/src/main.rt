@@ -11,23 +11,16 @@
 #![tactic(auto)]
 
 mod fault;
-mod frame;
-mod label;
 mod lines;
-mod page;
 mod pictures;
-mod recorder;
 mod stage;
-mod svg;
-mod tale;
-mod text;
 mod words;
 
 use command_line::{WordsFault, ended, given_words, refused};
 use fault::Fault;
+use ring_chart::Tale;
 use std::process::ExitCode;
 use std::rt::Files;
-use tale::Tale;
 use words::{Order, not_text, read_words};
 
 // Runs the schedule, and draws its terms.

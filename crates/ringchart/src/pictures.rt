@@ -1,9 +1,6 @@
 //! Prints pictures, or writes them to files.
 use crate::fault::{Fault, written};
-use crate::page::Page;
-use crate::svg::Picture;
-use crate::tale::Tale;
-use crate::{svg, text};
+use ring_chart::{Page, Tale, draw_all, draw_svg, draw_text};
 use std::alloc::{AllocError, Global};
 use std::fs;
 use std::rt::Files;
@@ -12,7 +9,7 @@ use std::rt::Files;
 pub fn print_texts(rt: &(impl Print + AllocGlobal), tales: &[Tale]) -> Result<(), Fault> {
     let mut between = "";
     for tale in tales {
-        let picture = text::draw(rt.alloc(), tale, between)?;
+        let picture = draw_text(rt.alloc(), tale, between)?;
         written(rt.print(picture))?;
         between = "\n";
     }
@@ -21,28 +18,8 @@ pub fn print_texts(rt: &(impl Print + AllocGlobal), tales: &[Tale]) -> Result<()
 
 /// Prints one SVG with the pictures of all terms, one below the other.
 pub fn print_svg(rt: &(impl Print + AllocGlobal), tales: &[Tale]) -> Result<(), Fault> {
-    let Picture { svg, width, height } = below_one_another(rt.alloc(), tales)?;
-    let mut head = Page::new(rt.alloc());
-    head.add("<svg xmlns=\"http://www.w3.org/2000/svg\"");
-    svg::add_size(&mut head, width, height);
-    written(rt.print(head.text()?))?;
-    written(println!(rt; "{svg}</svg>"))
-}
-
-// Returns the pictures of all terms, one below the other, with their size.
-fn below_one_another(alloc: Global, tales: &[Tale]) -> Result<Picture, AllocError> {
-    let mut all = Picture {
-        svg: String::new(alloc),
-        width: 0,
-        height: 0,
-    };
-    for tale in tales {
-        let picture = svg::draw(alloc, tale, all.height)?;
-        all.svg.push_str(picture.svg.as_str())?;
-        all.width = all.width.max(picture.width);
-        all.height = all.height.saturating_add(picture.height);
-    }
-    Ok(all)
+    let picture = draw_all(rt.alloc(), tales)?;
+    written(rt.print(picture))
 }
 
 /// Writes the picture of each term to a file in a folder, and prints the names of the files.
@@ -64,8 +41,8 @@ fn write_file(
     tale: &Tale,
 ) -> Result<(), Fault> {
     let name = file_name(rt.alloc(), folder, tale)?;
-    let picture = svg::draw(rt.alloc(), tale, 0)?;
-    written(fs::write(rt, name.as_str(), picture.svg.as_str()))?;
+    let picture = draw_svg(rt.alloc(), tale)?;
+    written(fs::write(rt, name.as_str(), picture.as_str()))?;
     written(rt.println(name))
 }
 

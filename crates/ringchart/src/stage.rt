@@ -5,9 +5,8 @@
 //! numbers of packets in flight in both are compared.
 use crate::fault::Fault;
 use crate::lines::Line;
-use crate::recorder::Recorder;
-use crate::tale::Tale;
 use ring_any::Any;
+use ring_chart::{Recorder, Tale};
 use ring_grammar::print_reply;
 use ring_id::{GroupName, Refusal};
 use ring_mux::{Command, Event, Mux, Reply};
@@ -115,7 +114,7 @@ impl Stage {
         let Some(recorder) = running(&mut self.terms, group) else {
             return Err(Fault::Lost(self.place));
         };
-        recorder.repeat(self.alloc, event, reply)?;
+        repeat_in(self.alloc, recorder, event, reply)?;
         if agrees(&self.mux, group, recorder) {
             Ok(())
         } else {
@@ -136,6 +135,27 @@ impl Stage {
         } else {
             Err(Fault::Lost(self.place))
         }
+    }
+}
+
+// Repeats the deliveries or the cut that an event made in a world, according to its reply.
+fn repeat_in(
+    alloc: Global,
+    recorder: &mut Recorder,
+    event: &Event<Any>,
+    reply: &Reply,
+) -> Result<(), AllocError> {
+    match event {
+        Event::Deliver { node, side, .. } => recorder.deliver_to(alloc, *node, *side),
+        Event::Drain { .. } => match reply {
+            Reply::Drained { done, .. } => recorder.drain(alloc, *done),
+            _ => Ok(()),
+        },
+        Event::Cut { node, side, .. } => {
+            recorder.cut(*node, *side);
+            Ok(())
+        }
+        Event::Client(_) | Event::Pending { .. } => Ok(()),
     }
 }
 
@@ -161,7 +181,7 @@ fn running(terms: &mut [Recorder], group: GroupName) -> Option<&mut Recorder> {
     terms
         .iter_mut()
         .rev()
-        .find(|recorder| recorder.group == group)
+        .find(|recorder| recorder.group() == group)
 }
 
 // Returns whether an allocation failed in the mux.
