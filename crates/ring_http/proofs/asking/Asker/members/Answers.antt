@@ -1,0 +1,5 @@
+use Rattle.ring_http.proofs.Questions.{asks_members}
+use Rattle.ring_http.proofs.asking.Asker.members.Goals as goal
+
+pub returns-clause-asks : goal.returns-clause-asks
+returns-clause-asks g c = asks_members _ _ _ _ _ _ c.in_ok-reply.ensures.ok c.members_in.ensures

@@ -1,0 +1,5 @@
+use Rattle.ring_http.proofs.Questions.{asks_names}
+use Rattle.ring_http.proofs.asking.Asker.names.Goals as goal
+
+pub returns-clause-asks : goal.returns-clause-asks
+returns-clause-asks g c = asks_names _ _ _ _ _ c.in_ok-reply.ensures.ok c.names_in.ensures

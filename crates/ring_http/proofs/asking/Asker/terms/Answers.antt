@@ -1,0 +1,5 @@
+use Rattle.ring_http.proofs.Questions.{asks_terms}
+use Rattle.ring_http.proofs.asking.Asker.terms.Goals as goal
+
+pub returns-clause-asks : goal.returns-clause-asks
+returns-clause-asks g c = asks_terms _ _ _ _ _ _ c.in_ok-reply.ensures.ok c.terms_in.ensures

@@ -1,0 +1,159 @@
+-- What is answered to a request: the response, as a function of what the seat was answered.
+use Rattle.std.specs.Prelude.{◌≡◌, ◌≤◌, ◌⊎◌, ℕ, List, [], ◌∷◌, ◌++◌, codes}
+use Rattle.http1.specs.Fields.{Header}
+use Rattle.http_server.specs.Response.{IsResponse}
+use Rattle.http_server.specs.declared.response.Response.{Response}
+use Rattle.ring_id.specs.Refusals.{word_in_table}
+use Rattle.ring_id.specs.declared.refusal.Refusal.{Refusal}
+use Rattle.ring_any.specs.declared.any.Any.{Any}
+use Rattle.ring_events.specs.declared.event.Command.TheVariants as command
+use Rattle.ring_events.specs.declared.reply.Reply.TheVariants as reply
+use Rattle.ring_table.specs.declared.entry.Entry.{Entry}
+use Rattle.ring_table.specs.declared.entry.Entry.TheVariants.{Call}
+use Rattle.ring_http.specs.Asking.{AddsPicture, AddsPictures, AddsQuestions, IsPlaceAfter, Lacks}
+use Rattle.ring_http.specs.Json.{group_json, groups_json}
+use Rattle.ring_http.specs.Metrics.{metrics_of}
+use Rattle.ring_http.specs.declared.asking.Lack.{Lack}
+use Rattle.ring_http.specs.declared.asking.Lack.TheVariants.{NoGroup, Odd, Unplaced}
+use Rattle.ring_http.specs.declared.beside.Figures.{Figures}
+use Rattle.ring_http.specs.declared.picture.GroupPicture.{GroupPicture}
+use Rattle.ring_http.specs.declared.route.Resource.{Resource}
+use Rattle.ring_http.specs.declared.route.Resource.TheVariants.{Page, Script, Style, Health, Metrics, Groups, Group, Election}
+use Rattle.ring_http.specs.declared.route.Route.{Route}
+use Rattle.ring_http.specs.declared.route.Route.TheVariants.{Misdirected, NotAllowed, Unknown, Found}
+
+-- the status that follows from the route
+abbrev pub code_of : Route → ℕ
+code_of Misdirected = 421
+code_of NotAllowed = 405
+code_of Unknown = 404
+code_of (Found resource) = 200
+
+-- the type of what is sent
+abbrev pub kind_in : Resource → List ℕ
+kind_in Page = codes "text/html; charset=utf-8"
+kind_in Script = codes "text/javascript; charset=utf-8"
+kind_in Style = codes "text/css; charset=utf-8"
+kind_in Health = codes "text/plain; charset=utf-8"
+kind_in Metrics = codes "text/plain; version=0.0.4; charset=utf-8"
+kind_in Groups = codes "application/json"
+kind_in (Group name) = codes "application/json"
+kind_in (Election name) = codes "image/svg+xml"
+
+abbrev pub kind_of : Route → List ℕ
+kind_of (Found resource) = kind_in resource
+kind_of _ = codes "text/plain; charset=utf-8"
+
+-- the methods that are allowed, where another was used
+abbrev pub allow_of : Route → List Header
+allow_of NotAllowed = (codes "allow", codes "GET, HEAD") ∷ []
+allow_of _ = []
+
+-- the fields of each response: nothing is loaded from elsewhere
+abbrev pub fields_for : Route → List Header
+fields_for route = (codes "content-security-policy", codes "default-src 'self'") ∷ (codes "content-type", kind_of route) ∷ allow_of route
+
+-- the text that follows from the route
+abbrev pub text_of : Route → List ℕ
+text_of Misdirected = codes "This is another host.\n"
+text_of NotAllowed = codes "GET and HEAD alone are allowed.\n"
+text_of Unknown = codes "There is nothing at this path.\n"
+text_of (Found resource) = []
+
+-- a refusal
+abbrev pub refusal_text : Refusal → List ℕ
+refusal_text refusal = codes "no " ++ (word_in_table refusal ++ codes "\n")
+
+-- why there is no answer
+abbrev pub reason_of : Lack → List ℕ
+reason_of (Unplaced refusal) = refusal_text refusal
+reason_of (NoGroup refusal) = refusal_text refusal
+reason_of Odd = codes "no answer\n"
+
+-- why there is no picture
+abbrev pub no_picture : List ℕ
+no_picture = codes "no picture: no term was started since ringd began\n"
+
+-- the status where a group was asked about and there is no answer
+abbrev pub fault_code : Lack → ℕ
+fault_code (NoGroup refusal) = 404
+fault_code (Unplaced refusal) = 503
+fault_code Odd = 503
+
+-- the response has this status and this text, or its text was refused memory
+abbrev pub Says : ℕ → List Header → List ℕ → Response → Type 0
+Says code sent text response = IsResponse code sent text response ⊎ IsResponse 503 sent [] response
+
+-- a picture was drawn, or there is none
+pub record IsDrawn (sent : List Header) (response : Response) : Type 0 where
+  pub picture : List ℕ
+  pub says : Says 200 sent picture response ⊎ Says 404 sent no_picture response
+
+-- `last` is the last place that was told on the connection before, and `later` the last one after:
+-- what a response tells is told at the place `later`, which is greater than `last`.
+module _ (base most session : ℕ) (sent : List Header) (mine : List (Entry Any)) (last : ℕ)
+    (response : Response) (now : List (Entry Any)) (later : ℕ) where
+  -- There is no answer, for a reason. A group that is not there is a 404 where it was asked for.
+  pub record ShowsLack (code : Lack → ℕ) : Type 0 where
+    pub lack : Lack
+    pub lacks : Lacks session lack mine now
+    pub rises : last ≤ later
+    pub says : Says (code lack) sent (reason_of lack) response
+
+  -- The names of all groups were asked for.
+  pub record ShowsNames (text : ℕ → List (List ℕ) → List ℕ) : Type 0 where
+    pub names : List (List ℕ)
+    pub gained : now ≡ mine ++ Call session command.Groups (reply.Groups names) ∷ []
+    pub placed : IsPlaceAfter base most last later
+    pub says : Says 200 sent (text later names) response
+
+  -- All groups were asked about.
+  pub record ShowsAll : Type 0 where
+    pub names : List (List ℕ)
+    pub mid : List (Entry Any)
+    pub listed : mid ≡ mine ++ Call session command.Groups (reply.Groups names) ∷ []
+    pub groups : List GroupPicture
+    pub each : AddsPictures session names groups mid now
+    pub figures : Figures
+    pub placed : IsPlaceAfter base most last later
+    pub says : Says 200 sent (metrics_of later groups figures) response
+
+  -- A group was asked about, and last after other questions.
+  pub record ShowsGroup (name : List ℕ) : Type 0 where
+    pub mid : List (Entry Any)
+    pub earlier : AddsQuestions session mine mid
+    pub group : GroupPicture
+    pub named : group.name ≡ name
+    pub pictured : AddsPicture session group mid now
+    pub placed : IsPlaceAfter base most last later
+    pub says : Says 200 sent (group_json later group) response
+
+  -- A constant text, and nothing was asked.
+  pub record ShowsPage : Type 0 where
+    pub same : now ≡ mine
+    pub still : later ≡ last
+    pub text : List ℕ
+    pub is : IsResponse 200 sent text response
+
+  -- A picture, or that there is none, and nothing was asked.
+  pub record ShowsPicture : Type 0 where
+    pub same : now ≡ mine
+    pub still : later ≡ last
+    pub drawn : IsDrawn sent response
+
+  -- what is answered for a resource
+  abbrev pub Shows : Resource → Type 0
+  Shows Health = ShowsNames (λ place names. codes "ok\n") ⊎ ShowsLack (λ lack. 503)
+  Shows Metrics = ShowsAll ⊎ ShowsLack (λ lack. 503)
+  Shows Groups = ShowsNames groups_json ⊎ ShowsLack (λ lack. 503)
+  Shows (Group name) = ShowsGroup name ⊎ ShowsLack fault_code
+  Shows (Election name) = ShowsPicture
+  Shows _ = ShowsPage
+
+-- what is answered
+abbrev pub Answers : ℕ → ℕ → ℕ → Route → List (Entry Any) → ℕ → Response → List (Entry Any) → ℕ
+    → Type 0
+Answers base most session (Found resource) mine last response now later =
+    Shows base most session (fields_for (Found resource)) mine last response now later resource
+Answers base most session route mine last response now later = (now ≡ mine) × (later ≡ last)
+    × IsResponse (code_of route) (fields_for route) (text_of route) response

@@ -1,0 +1,10 @@
+pub mod Answering
+pub mod Answers
+pub mod Asking
+pub mod Figures
+pub mod Gauges
+pub mod Json
+pub mod Metrics
+pub mod Routes
+pub mod Samples
+pub mod private

@@ -1,0 +1,254 @@
+//! The answer to a request.
+ghost use Rattle.std.specs.Prelude.{◌≡◌, ◌≤◌, ◌+◌, ◌⊎◌, ◌^◌, [], OnErr, OnOk};
+ghost use Rattle.http.specs.Request.{head_of};
+ghost use Rattle.http_server.specs.Response.{IsBlank, IsResponse, fields_of};
+ghost use Rattle.ring_http.specs.Answers.{IsDrawn, Shows, fields_for};
+ghost use Rattle.ring_http.specs.Answering.{IsAnswered};
+ghost use Rattle.ring_http.specs.Asking.{AddsQuestions};
+ghost use Rattle.ring_http.specs.declared.route.Resource.TheVariants as Resource;
+ghost use Rattle.ring_http.specs.declared.route.Route.TheVariants as Route;
+
+use crate::asking::Asker;
+use crate::beside::Beside;
+use crate::metrics::put_metrics;
+use crate::route::{Resource, Route, route_of};
+use crate::saying::{begin, end, fail, fault_code, lack_picture, page_of};
+use crate::text::put;
+use crate::values::{put_group, put_names};
+use crate::waiting::{seen_of, wait_of};
+use bytes::Bytes;
+use http::{Request, StatusCode};
+use http_server::Response;
+use ring_any::Any;
+use ring_chart::election;
+use ring_id::GroupName;
+use ring_table::Access;
+use std::alloc::AllocError;
+use std::sync::Wait;
+use std::time::Clock;
+
+impl<A: Access<Any> + Drop, R: Wait + Clock, B: Beside> Asker<'_, A, R, B> {
+    /// Answers a request by questions of a seat, which change nothing. The response is made only
+    /// after all entries that it shows are kept for good. `last` is the last place that was told on
+    /// the connection, or 0. A place that is told is greater, and is put there. Fails only if an
+    /// allocation fails, and then nothing was asked.
+    ///
+    /// `/healthz` is 503 if its question is not answered. The text says why: an allocation failed,
+    /// or the seat has used up its turns. A journal that failed is no such reason: then the process
+    /// ends.
+    pub fn answer(
+        &self,
+        seat: &mut A::Seat,
+        last: &mut usize,
+        request: &Request<Bytes>,
+        response: &mut Response,
+    ) -> Result<(), AllocError>
+        requires seat { A.has_seat self.now.access.now seat.old }
+        requires base { self.now.base + A.most ≤ 2 ^ 64 }
+        requires blank { IsBlank response.old }
+        ensures seat { A.has_seat self.now.access.now seat.new }
+        ensures ok { OnOk result (IsAnswered self.now.base A.most self.now.session
+            (head_of request.now) (A.mine seat.old) last.old response.new (A.mine seat.new)
+            last.new) }
+        ensures err { OnErr result ((seat.new ≡ seat.old) × (last.new ≡ last.old)) }
+        ensures rises { last.old ≤ last.new }
+        ensures questions { AddsQuestions self.now.session (A.mine seat.old) (A.mine seat.new) }
+        ensures told { (seat.new ≡ seat.old) ⊎ A.is_settled seat.new }
+    {
+        self.reply(seat, last, request, response)
+    }
+
+    // The same, without the clauses that follow from the others.
+    fn reply(
+        &self,
+        seat: &mut A::Seat,
+        last: &mut usize,
+        request: &Request<Bytes>,
+        response: &mut Response,
+    ) -> Result<(), AllocError>
+        requires seat { A.has_seat self.now.access.now seat.old }
+        requires base { self.now.base + A.most ≤ 2 ^ 64 }
+        requires blank { IsBlank response.old }
+        ensures seat { A.has_seat self.now.access.now seat.new }
+        ensures ok { OnOk result (IsAnswered self.now.base A.most self.now.session
+            (head_of request.now) (A.mine seat.old) last.old response.new (A.mine seat.new)
+            last.new) }
+        ensures err { OnErr result ((seat.new ≡ seat.old) × (last.new ≡ last.old)) }
+        ensures told { (seat.new ≡ seat.old) ⊎ A.is_settled seat.new }
+    {
+        let route = route_of(request);
+        begin(&route, response)?;
+        match &route {
+            Route::Found(resource) => {
+                let query = request.uri().query();
+                self.show(
+                    resource,
+                    wait_of(query),
+                    seen_of(query),
+                    seat,
+                    last,
+                    response,
+                )
+            }
+            _ => Ok(()),
+        }
+    }
+
+    // Shows a resource.
+    fn show(
+        &self,
+        resource: &Resource,
+        wait: u32,
+        seen: Option<u32>,
+        seat: &mut A::Seat,
+        last: &mut usize,
+        response: &mut Response,
+    ) -> Result<(), AllocError>
+        requires seat { A.has_seat self.now.access.now seat.old }
+        requires base { self.now.base + A.most ≤ 2 ^ 64 }
+        requires wait { wait ≤ 60 }
+        requires begun { IsResponse 200 (fields_for (Route.Found resource.now)) [] response.old }
+        ensures seat { A.has_seat self.now.access.now seat.new }
+        ensures ok { OnOk result (Shows self.now.base A.most self.now.session
+            (fields_for (Route.Found resource.now)) (A.mine seat.old) last.old response.new
+            (A.mine seat.new) last.new resource.now) }
+        ensures err { OnErr result ((seat.new ≡ seat.old) × (last.new ≡ last.old)) }
+        ensures told { (seat.new ≡ seat.old) ⊎ A.is_settled seat.new }
+    {
+        match resource {
+            Resource::Health => {
+                self.show_health(seat, last, response);
+                Ok(())
+            }
+            Resource::Metrics => {
+                self.show_metrics(seat, last, response);
+                Ok(())
+            }
+            Resource::Groups => {
+                self.show_groups(seat, last, response);
+                Ok(())
+            }
+            Resource::Group(name) => {
+                self.show_group(*name, wait, seen, seat, last, response);
+                Ok(())
+            }
+            Resource::Election(name) => {
+                self.show_election(*name, response);
+                Ok(())
+            }
+            _ => put(page_of(resource).as_bytes(), &mut response.body),
+        }
+    }
+
+    // Shows whether a question is answered.
+    fn show_health(&self, seat: &mut A::Seat, last: &mut usize, response: &mut Response)
+        requires seat { A.has_seat self.now.access.now seat.old }
+        requires base { self.now.base + A.most ≤ 2 ^ 64 }
+        requires begun { IsResponse 200 (fields_of response.old) [] response.old }
+        ensures seat { A.has_seat self.now.access.now seat.new }
+        ensures shows { Shows self.now.base A.most self.now.session (fields_of response.old)
+            (A.mine seat.old) last.old response.new (A.mine seat.new) last.new Resource.Health }
+        ensures told { A.is_settled seat.new }
+    {
+        let asked = self.names(seat, last);
+        self.access.settle(self.rt, seat);
+        match asked {
+            Ok(names) => {
+                drop(names);
+                let done = put(b"ok\n", &mut response.body);
+                end(done, response);
+            }
+            Err(lack) => fail(StatusCode::SERVICE_UNAVAILABLE, lack, response),
+        }
+    }
+
+    // Shows the names of all groups.
+    fn show_groups(&self, seat: &mut A::Seat, last: &mut usize, response: &mut Response)
+        requires seat { A.has_seat self.now.access.now seat.old }
+        requires base { self.now.base + A.most ≤ 2 ^ 64 }
+        requires begun { IsResponse 200 (fields_of response.old) [] response.old }
+        ensures seat { A.has_seat self.now.access.now seat.new }
+        ensures shows { Shows self.now.base A.most self.now.session (fields_of response.old)
+            (A.mine seat.old) last.old response.new (A.mine seat.new) last.new Resource.Groups }
+        ensures told { A.is_settled seat.new }
+    {
+        let asked = self.names(seat, last);
+        self.access.settle(self.rt, seat);
+        match asked {
+            Ok(names) => {
+                let done = put_names(self.alloc, *last, names.as_slice(), &mut response.body);
+                end(done, response);
+            }
+            Err(lack) => fail(StatusCode::SERVICE_UNAVAILABLE, lack, response),
+        }
+    }
+
+    // Shows metrics.
+    fn show_metrics(&self, seat: &mut A::Seat, last: &mut usize, response: &mut Response)
+        requires seat { A.has_seat self.now.access.now seat.old }
+        requires base { self.now.base + A.most ≤ 2 ^ 64 }
+        requires begun { IsResponse 200 (fields_of response.old) [] response.old }
+        ensures seat { A.has_seat self.now.access.now seat.new }
+        ensures shows { Shows self.now.base A.most self.now.session (fields_of response.old)
+            (A.mine seat.old) last.old response.new (A.mine seat.new) last.new Resource.Metrics }
+        ensures told { A.is_settled seat.new }
+    {
+        let asked = self.look_at_all(seat, last);
+        self.access.settle(self.rt, seat);
+        match asked {
+            Ok(groups) => {
+                let done = put_metrics(*last, &groups, &self.beside.figures(), &mut response.body);
+                end(done, response);
+            }
+            Err(lack) => fail(StatusCode::SERVICE_UNAVAILABLE, lack, response),
+        }
+    }
+
+    // Shows a group as soon as it says something else, or after `wait` seconds.
+    fn show_group(
+        &self,
+        name: GroupName,
+        wait: u32,
+        seen: Option<u32>,
+        seat: &mut A::Seat,
+        last: &mut usize,
+        response: &mut Response,
+    )
+        requires seat { A.has_seat self.now.access.now seat.old }
+        requires base { self.now.base + A.most ≤ 2 ^ 64 }
+        requires wait { wait ≤ 60 }
+        requires begun { IsResponse 200 (fields_of response.old) [] response.old }
+        ensures seat { A.has_seat self.now.access.now seat.new }
+        ensures shows { Shows self.now.base A.most self.now.session (fields_of response.old)
+            (A.mine seat.old) last.old response.new (A.mine seat.new) last.new
+            (Resource.Group name) }
+        ensures told { A.is_settled seat.new }
+    {
+        let asked = self.watch(seat, last, name, wait, seen);
+        self.access.settle(self.rt, seat);
+        match asked {
+            Ok(group) => {
+                let done = put_group(self.alloc, *last, &group, &mut response.body);
+                end(done, response);
+            }
+            Err(lack) => fail(fault_code(lack), lack, response),
+        }
+    }
+    // Shows the election of a group's last term as a picture.
+    fn show_election(&self, name: GroupName, response: &mut Response)
+        requires { IsResponse 200 (fields_of response.old) [] response.old }
+        ensures { IsDrawn (fields_of response.old) response.new }
+    {
+        let Some(charter) = self.beside.charter(name) else {
+            lack_picture(response);
+            return;
+        };
+        match election(self.alloc, &charter) {
+            Ok(picture) => {
+                let done = put(picture.as_bytes(), &mut response.body);
+                end(done, response);
+            }
+            Err(fault) => end(Err(fault), response),
+        }
+    }
+}

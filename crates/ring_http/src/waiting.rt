@@ -1,0 +1,64 @@
+//! How long a request waits for news. Tested, not proved: it decides when it is answered, and
+//! not how.
+ghost use Rattle.std.specs.Prelude.{◌≤◌};
+
+// How many seconds a request waits at most.
+const MOST: u32 = 60;
+
+/// How many seconds a request waits, by its query `after=PLACE&wait=SECONDS`: at most 60, and none
+/// if it does not say after which place.
+pub(crate) fn wait_of(query: Option<&str>) -> u32
+    ensures { result ≤ 60 }
+{
+    let Some(query) = query else {
+        return 0;
+    };
+    let mut wait = 0;
+    let mut follows = false;
+    for part in query.as_bytes().split(|b| *b == b'&') {
+        if let Some(text) = part.strip_prefix(b"wait=") {
+            wait = seconds_in(text);
+        }
+        if part.starts_with(b"after=") {
+            follows = true;
+        }
+    }
+    if follows { wait.min(MOST) } else { 0 }
+}
+
+/// The sum of the picture that a client has seen, by its query `seen=SUM`, or `None` if it says
+/// none.
+pub(crate) fn seen_of(query: Option<&str>) -> Option<u32> {
+    for part in query?.as_bytes().split(|b| *b == b'&') {
+        if let Some(text) = part.strip_prefix(b"seen=") {
+            return sum_in(text);
+        }
+    }
+    None
+}
+
+// The number that a text spells, or `None` if it spells none or one beyond 32 bits.
+fn sum_in(text: &[u8]) -> Option<u32> {
+    let mut sum: u32 = 0;
+    for byte in text {
+        if *byte < b'0' || *byte > b'9' {
+            return None;
+        }
+        sum = sum.checked_mul(10)?.checked_add(u32::from(*byte - b'0'))?;
+    }
+    Some(sum)
+}
+
+// The number of seconds that a text spells; 0 if it spells none, and 60 if it spells more.
+fn seconds_in(text: &[u8]) -> u32
+    ensures { result ≤ 60 }
+{
+    let mut seconds: u32 = 0;
+    for byte in text {
+        if *byte < b'0' || *byte > b'9' {
+            return 0;
+        }
+        seconds = (seconds * 10 + u32::from(*byte - b'0')).min(MOST);
+    }
+    seconds
+}
