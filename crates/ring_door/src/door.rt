@@ -184,6 +184,65 @@ where
     )
 }
 
+/// Starts a thread for each guest of three entrances, and opens the doors once all are there.
+///
+/// Each guest serves one client after another, as those of `attend_all` do. If a thread cannot be
+/// started, no door is opened.
+pub fn attend_three<R, L, G, H, I>(
+    rt: &R,
+    first: (&Entrance<L, G>, Vec<G>),
+    second: (&Entrance<L, H>, Vec<H>),
+    third: (&Entrance<L, I>, Vec<I>),
+    limits: Limits,
+) -> Result<(), ProgramFault>
+where
+    R: Threads + Wait + Eprint + Clock + Sync,
+    L: OpenListener<Stream = TcpStream> + Send + Drop,
+    G: Serving + Send,
+    H: Serving + Send,
+    I: Serving + Send,
+    ensures { IfErr result (λ fault. fault ≡ ProgramFault.Thread) }
+{
+    let (first, guests) = first;
+    let (second, others) = second;
+    let (third, more) = third;
+    let (door, spare) = (&first.door, &first.spare);
+    let (next_door, next_spare) = (&second.door, &second.spare);
+    let (last_door, last_spare) = (&third.door, &third.spare);
+    thread::scope(
+        thread::scope_env(),
+        rt,
+        move |scope| -> Result<(), ProgramFault>
+            ensures { IfErr result (λ fault. fault ≡ ProgramFault.Thread) }
+        {
+            let mut one = door.lock(rt);
+            let mut two = next_door.lock(rt);
+            let mut three = last_door.lock(rt);
+            for guest in guests {
+                let Ok(_) = scope.spawn(move || attend(rt, door, spare, guest, limits)) else {
+                    return Err(ProgramFault::Thread);
+                };
+            }
+            for guest in others {
+                let Ok(_) = scope.spawn(move || attend(rt, next_door, next_spare, guest, limits))
+                else {
+                    return Err(ProgramFault::Thread);
+                };
+            }
+            for guest in more {
+                let Ok(_) = scope.spawn(move || attend(rt, last_door, last_spare, guest, limits))
+                else {
+                    return Err(ProgramFault::Thread);
+                };
+            }
+            one.is_open = true;
+            two.is_open = true;
+            three.is_open = true;
+            Ok(())
+        },
+    )
+}
+
 // Serves one client after another by this guest's seat, until the door is shut.
 fn attend<R, L, G>(rt: &R, door: &Mutex<Door<L>>, spare: &Mutex<Vec<G>>, guest: G, limits: Limits)
 where

@@ -25,7 +25,7 @@ pub enum ProgramFault {
     /// The text of the configuration is not valid.
     #[error("ringd: config bad")]
     Bad,
-    /// The port could not be listened on.
+    /// A port, or the path of a socket, could not be listened on.
     #[error("ringd: listen failed")]
     Listen,
     /// A connection could not be accepted.
@@ -37,6 +37,20 @@ pub enum ProgramFault {
     /// The journal cannot be used.
     #[error(transparent)]
     Journal(JournalFault),
+    /// The path of a socket is taken.
+    #[error(transparent)]
+    Socket(SocketFault),
+}
+
+/// Why the path of a socket is taken.
+#[derive(Clone, Copy, Debug, PartialEq, Eq, Error)]
+pub enum SocketFault {
+    /// A process listens on it, or is about to.
+    #[error("ringd: in use")]
+    InUse,
+    /// It is the name of a file, a folder, a link, a pipe or a device.
+    #[error("ringd: not a socket")]
+    NotASocket,
 }
 
 /// Why a journal cannot be used.

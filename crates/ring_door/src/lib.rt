@@ -11,7 +11,7 @@ mod fault;
 mod serving;
 mod telling;
 
-pub use door::{Door, Entrance, Limits, attend_all, attend_both};
-pub use fault::{JournalFault, ProgramFault};
+pub use door::{Door, Entrance, Limits, attend_all, attend_both, attend_three};
+pub use fault::{JournalFault, ProgramFault, SocketFault};
 pub use serving::{Serving, accept_all};
-pub use telling::{say_closed, say_listening, tell};
+pub use telling::{say_closed, say_listening, say_listening_at, tell};

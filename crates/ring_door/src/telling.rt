@@ -1,17 +1,24 @@
 //! The lines on standard output.
 ghost use Rattle.std.specs.Prelude.{◌≡◌, IfOk, MatchResult, string_bytes};
 ghost use Rattle.ring_lines.specs.Ends.{Wrote, WroteFront};
-ghost use Rattle.ring_door.specs.Telling.{closed_line, listening_line};
+ghost use Rattle.ring_door.specs.Telling.{closed_line, listening_at, listening_line};
 
 use crate::fault::ProgramFault;
 use ring_lines::{Outlet, put};
 use std::alloc::{AllocError, Global};
 
-/// Returns the line with the address on which the program listens.
+/// Returns the line with the port of 127.0.0.1 on which the program listens.
 pub fn say_listening(alloc: Global, port: u16) -> Result<String, AllocError>
     ensures { IfOk result (λ line. string_bytes line ≡ listening_line port) }
 {
     format!(in alloc; "listening 127.0.0.1:{port}\n")
+}
+
+/// Returns the line with the path of the socket on which the program listens.
+pub fn say_listening_at(alloc: Global, path: &str) -> Result<String, AllocError>
+    ensures { IfOk result (λ line. string_bytes line ≡ listening_at path.now) }
+{
+    format!(in alloc; "listening {path}\n")
 }
 
 /// Returns the line with the number of sessions, all of which have ended.

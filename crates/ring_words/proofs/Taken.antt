@@ -33,6 +33,12 @@ serve_config = unwrap_or (slice_get serve_below.rules 0) config_rule
 abbrev serve_connections : Rule
 serve_connections = unwrap_or (slice_get serve_below.rules 1) config_rule
 
+abbrev serve_socket : Rule
+serve_socket = unwrap_or (slice_get serve_below.rules 2) config_rule
+
+abbrev serve_mode : Rule
+serve_mode = unwrap_or (slice_get serve_below.rules 3) config_rule
+
 -- those of `run`
 abbrev run_config : Rule
 run_config = unwrap_or (slice_get run_below.rules 0) config_rule
@@ -52,13 +58,22 @@ run_journal = unwrap_or (slice_get run_below.rules 4) config_rule
 abbrev run_campaign : Rule
 run_campaign = unwrap_or (slice_get run_below.rules 5) config_rule
 
+abbrev run_http : Rule
+run_http = unwrap_or (slice_get run_below.rules 6) config_rule
+
+abbrev run_socket : Rule
+run_socket = unwrap_or (slice_get run_below.rules 7) config_rule
+
+abbrev run_mode : Rule
+run_mode = unwrap_or (slice_get run_below.rules 8) config_rule
+
 -- the argument of `journal`
 abbrev journal_file : Rule
 journal_file = unwrap_or (slice_get journal_below.rules 0) config_rule
 
 -- the help flag of each
 abbrev help_flag : Rule
-help_flag = unwrap_or (slice_get serve_below.rules 2) config_rule
+help_flag = unwrap_or (slice_get serve_below.rules 4) config_rule
 
 -- rows of a file that was given
 has_file : (a : Rule) (name : Text) (rows : List Row) → a.id ≡ name → Each (IsRead a) rows → is_given a.id rows ≡ true → HasFile name rows
@@ -107,8 +122,14 @@ serve_keeps_config = (
   (
     set_keeps false serve_config serve_connections (other_use serve_config serve_connections refl) refl,
     (
-      help_keeps (IsRead serve_config),
-      tt,
+      set_keeps false serve_config serve_socket (other_use serve_config serve_socket refl) refl,
+      (
+        set_keeps false serve_config serve_mode (other_use serve_config serve_mode refl) refl,
+        (
+          help_keeps (IsRead serve_config),
+          tt,
+        ),
+      ),
     ),
   ),
 )
@@ -119,8 +140,14 @@ serve_keeps_connections = (
   (
     set_keeps false serve_connections serve_connections (own_use serve_connections) refl,
     (
-      help_keeps (IsRead serve_connections),
-      tt,
+      set_keeps false serve_connections serve_socket (other_use serve_connections serve_socket refl) refl,
+      (
+        set_keeps false serve_connections serve_mode (other_use serve_connections serve_mode refl) refl,
+        (
+          help_keeps (IsRead serve_connections),
+          tt,
+        ),
+      ),
     ),
   ),
 )
@@ -140,8 +167,17 @@ run_keeps_config = (
           (
             set_keeps false run_config run_campaign (other_use run_config run_campaign refl) refl,
             (
-              help_keeps (IsRead run_config),
-              tt,
+              set_keeps false run_config run_http (other_use run_config run_http refl) refl,
+              (
+                set_keeps false run_config run_socket (other_use run_config run_socket refl) refl,
+                (
+                  set_keeps false run_config run_mode (other_use run_config run_mode refl) refl,
+                  (
+                    help_keeps (IsRead run_config),
+                    tt,
+                  ),
+                ),
+              ),
             ),
           ),
         ),
@@ -164,8 +200,17 @@ run_keeps_sessions = (
           (
             set_keeps false run_sessions run_campaign (other_use run_sessions run_campaign refl) refl,
             (
-              help_keeps (IsRead run_sessions),
-              tt,
+              set_keeps false run_sessions run_http (other_use run_sessions run_http refl) refl,
+              (
+                set_keeps false run_sessions run_socket (other_use run_sessions run_socket refl) refl,
+                (
+                  set_keeps false run_sessions run_mode (other_use run_sessions run_mode refl) refl,
+                  (
+                    help_keeps (IsRead run_sessions),
+                    tt,
+                  ),
+                ),
+              ),
             ),
           ),
         ),
@@ -188,8 +233,17 @@ run_keeps_idle = (
           (
             set_keeps false run_idle run_campaign (other_use run_idle run_campaign refl) refl,
             (
-              help_keeps (IsRead run_idle),
-              tt,
+              set_keeps false run_idle run_http (other_use run_idle run_http refl) refl,
+              (
+                set_keeps false run_idle run_socket (other_use run_idle run_socket refl) refl,
+                (
+                  set_keeps false run_idle run_mode (other_use run_idle run_mode refl) refl,
+                  (
+                    help_keeps (IsRead run_idle),
+                    tt,
+                  ),
+                ),
+              ),
             ),
           ),
         ),
@@ -198,24 +252,19 @@ run_keeps_idle = (
   ),
 )
 
-run_keeps_campaign : EachKeeps run_below (IsRead run_campaign) run_below.rules
-run_keeps_campaign = (
-  set_keeps false run_campaign run_config (other_use run_campaign run_config refl) refl,
+-- no argument of `serve` has a default
+serve_defaults : (wanted : Rule) → KeepDefaults (IsRead wanted) serve_below.rules
+serve_defaults wanted = (
+  no_default (IsRead wanted) serve_config refl,
   (
-    set_keeps false run_campaign run_sessions (other_use run_campaign run_sessions refl) refl,
+    no_default (IsRead wanted) serve_connections refl,
     (
-      set_keeps false run_campaign run_idle (other_use run_campaign run_idle refl) refl,
+      no_default (IsRead wanted) serve_socket refl,
       (
-        flag_keeps false run_campaign run_places refl refl,
+        no_default (IsRead wanted) serve_mode refl,
         (
-          set_keeps false run_campaign run_journal (other_use run_campaign run_journal refl) refl,
-          (
-            set_keeps false run_campaign run_campaign (own_use run_campaign) refl,
-            (
-              help_keeps (IsRead run_campaign),
-              tt,
-            ),
-          ),
+          no_default (IsRead wanted) help_flag refl,
+          tt,
         ),
       ),
     ),
@@ -237,8 +286,17 @@ run_defaults wanted other = (
           (
             no_default (IsRead wanted) run_campaign refl,
             (
-              no_default (IsRead wanted) help_flag refl,
-              tt,
+              no_default (IsRead wanted) run_http refl,
+              (
+                no_default (IsRead wanted) run_socket refl,
+                (
+                  no_default (IsRead wanted) run_mode refl,
+                  (
+                    no_default (IsRead wanted) help_flag refl,
+                    tt,
+                  ),
+                ),
+              ),
             ),
           ),
         ),
@@ -262,15 +320,15 @@ serve_gives : (rows : List Row) → IsLevel serve_below rows → IsServed rows
 serve_gives rows level =
     let there = rows_after serve_below.rules [] level.given in
     let given = both_given (is_given serve_config.id there) (is_given serve_connections.id there) (level_checks serve_below level.given level.fine) in
-    let config_read = level_reads serve_below (IsRead serve_config) serve_keeps_config (no_default (IsRead serve_config) serve_config refl, (no_default (IsRead serve_config) serve_connections refl, (no_default (IsRead serve_config) help_flag refl, tt))) level.given level.fine in
-    let connections_read = level_reads serve_below (IsRead serve_connections) serve_keeps_connections (no_default (IsRead serve_connections) serve_config refl, (no_default (IsRead serve_connections) serve_connections refl, (no_default (IsRead serve_connections) help_flag refl, tt))) level.given level.fine in
+    let config_read = level_reads serve_below (IsRead serve_config) serve_keeps_config (serve_defaults serve_config) level.given level.fine in
+    let connections_read = level_reads serve_below (IsRead serve_connections) serve_keeps_connections (serve_defaults serve_connections) level.given level.fine in
     let row = row_given serve_connections there given.1 in
     subst IsServed (sym level.is) (record {
       file = has_file serve_config (codes "config") there refl config_read given.0;
       connections = has_number serve_connections (codes "connections") 1 64 there row.0 refl refl connections_read row.1;
     })
 
--- the level of `run` gives a file, and may give three numbers
+-- the level of `run` gives a file, and may give two numbers
 run_gives : (rows : List Row) → IsLevel run_below rows → IsRun rows
 run_gives rows level =
     let there = rows_after run_below.rules [] level.given in
@@ -278,12 +336,10 @@ run_gives rows level =
     let config_read = level_reads run_below (IsRead run_config) run_keeps_config (run_defaults run_config refl) level.given level.fine in
     let sessions_read = level_reads run_below (IsRead run_sessions) run_keeps_sessions (run_defaults run_sessions refl) level.given level.fine in
     let idle_read = level_reads run_below (IsRead run_idle) run_keeps_idle (run_defaults run_idle refl) level.given level.fine in
-    let campaign_read = level_reads run_below (IsRead run_campaign) run_keeps_campaign (run_defaults run_campaign refl) level.given level.fine in
     subst IsRun (sym level.is) (record {
       file = has_file run_config (codes "config") there refl config_read given;
       sessions = may_have_number run_sessions (codes "sessions") 1 64 there refl refl sessions_read;
       idle = may_have_number run_idle (codes "idle") 0 86400 there refl refl idle_read;
-      campaign = may_have_number run_campaign (codes "campaign") 1 65535 there refl refl campaign_read;
     })
 
 -- the level of `journal` gives a file
@@ -311,23 +367,23 @@ named_journal words rows names = journal_gives rows ((names_one words (codes "jo
 -- so the order of `serve`, if there is one, is the one that the words give
 pub serves_as_given : (words : List Text) (rows : List Row) (r : Result Order WordsFault) → Names words (codes "serve") rows → IfOk r (IsServeOf rows) → IfOk r (IsGiven words)
 serves_as_given words rows (Ok Replay) names told = absurd told
-serves_as_given words rows (Ok (Serve path connections)) names told = (rows, names, told)
-serves_as_given words rows (Ok (Run path sessions idle places journal campaign)) names told = absurd told
+serves_as_given words rows (Ok (Serve path connections socket mode)) names told = (rows, names, told)
+serves_as_given words rows (Ok (Run path sessions idle places journal campaign http socket mode)) names told = absurd told
 serves_as_given words rows (Ok (Journal path)) names told = absurd told
 serves_as_given words rows (Err fault) names told = tt
 
 -- and so that of `run`
 pub runs_as_given : (words : List Text) (rows : List Row) (r : Result Order WordsFault) → Names words (codes "run") rows → IfOk r (IsRunOf rows) → IfOk r (IsGiven words)
 runs_as_given words rows (Ok Replay) names told = absurd told
-runs_as_given words rows (Ok (Serve path connections)) names told = absurd told
-runs_as_given words rows (Ok (Run path sessions idle places journal campaign)) names told = (rows, names, told)
+runs_as_given words rows (Ok (Serve path connections socket mode)) names told = absurd told
+runs_as_given words rows (Ok (Run path sessions idle places journal campaign http socket mode)) names told = (rows, names, told)
 runs_as_given words rows (Ok (Journal path)) names told = absurd told
 runs_as_given words rows (Err fault) names told = tt
 
 -- and that of `journal`
 pub journal_as_given : (words : List Text) (rows : List Row) (r : Result Order WordsFault) → Names words (codes "journal") rows → IfOk r (IsJournalOf rows) → IfOk r (IsGiven words)
 journal_as_given words rows (Ok Replay) names told = absurd told
-journal_as_given words rows (Ok (Serve path connections)) names told = absurd told
-journal_as_given words rows (Ok (Run path sessions idle places journal campaign)) names told = absurd told
+journal_as_given words rows (Ok (Serve path connections socket mode)) names told = absurd told
+journal_as_given words rows (Ok (Run path sessions idle places journal campaign http socket mode)) names told = absurd told
 journal_as_given words rows (Ok (Journal path)) names told = (rows, names, told)
 journal_as_given words rows (Err fault) names told = tt

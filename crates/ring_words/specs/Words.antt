@@ -1,6 +1,6 @@
 -- The words that the program takes, and the order that they give.
 -- ---- the command line
-use Rattle.std.specs.Prelude.{◌≡◌, ◌≤◌, [], ⊤, Bool, ℕ, codes, option_map, pos, List, MatchOption, Option, None, Some, string_bytes, true, false}
+use Rattle.std.specs.Prelude.{◌≡◌, ◌≤◌, [], ⊤, Bool, ℕ, codes, option_map, pos, List, MatchOption, Option, None, Some, String, string_bytes, true, false}
 use Rattle.std.specs.Str.Parse.{digits_value, without_leading_plus}
 use Rattle.clap.specs.Words.{App, IsAmong, Row, Rule, Text, fault_of, first_of, kind_of, new_app, new_rule, one_of, subcommand_of, with_rule, with_subcommand}
 use Rattle.clap.specs.Simple.{new_shape, on_top}
@@ -40,31 +40,52 @@ abbrev pub places_rule : Rule
 places_rule =
     record (new_rule (codes "places")) { long = Some (codes "places"); action = Some SetTrue }
 
+-- an option with a text
+abbrev pub text_rule : Text → Rule
+text_rule name = record (new_rule name) { long = Some name; value_names = 1 }
+
 -- the file in which `run` keeps a journal
 abbrev pub kept_rule : Rule
-kept_rule = record (new_rule (codes "journal")) { long = Some (codes "journal"); value_names = 1 }
+kept_rule = text_rule (codes "journal")
 
--- the port on which `run` serves campaigns
+-- the places at which `run` serves campaigns and answers HTTP
 abbrev pub campaign_rule : Rule
-campaign_rule = number_rule (codes "campaign") 1 65535
+campaign_rule = text_rule (codes "campaign")
+
+abbrev pub http_rule : Rule
+http_rule = text_rule (codes "http")
+
+-- the path of a socket, and the mode of each socket
+abbrev pub socket_rule : Rule
+socket_rule = text_rule (codes "socket")
+
+abbrev pub mode_rule : Rule
+mode_rule = text_rule (codes "socket-mode")
 
 -- the name of a journal's file, which must be given
 abbrev pub file_rule : Rule
 file_rule = record (new_rule (codes "file")) { value_names = 1; required = true }
 
--- `serve CONFIG --connections K`
+-- `serve CONFIG --connections K`, with `--socket PATH` and `--socket-mode MODE` if they are given
 abbrev pub serve_app : App
-serve_app = with_rule (with_rule (new_app (codes "serve")) config_rule) connections_rule
+serve_app =
+    with_rule
+    (with_rule
+    (with_rule (with_rule (new_app (codes "serve")) config_rule) connections_rule)
+    socket_rule) mode_rule
 
--- `run CONFIG`, with `--sessions N`, `--idle SECONDS`, `--places`, `--journal FILE` and
--- `--campaign PORT` if they are given
+-- `run CONFIG`, with `--sessions N`, `--idle SECONDS`, `--places`, `--journal FILE`,
+-- `--campaign PLACE`, `--http PLACE`, `--socket PATH` and `--socket-mode MODE` if they are given
 abbrev pub run_app : App
 run_app =
     with_rule
     (with_rule
     (with_rule
+    (with_rule
+    (with_rule
+    (with_rule
     (with_rule (with_rule (with_rule (new_app (codes "run")) config_rule) sessions_rule)
-    idle_rule) places_rule) kept_rule) campaign_rule
+    idle_rule) places_rule) kept_rule) campaign_rule) http_rule) socket_rule) mode_rule
 
 -- `journal FILE`
 abbrev pub journal_app : App
@@ -96,12 +117,16 @@ pub record IsNumberIn (least most : ℕ) (text : Text) (n : ℕ) : Type 0 where
   pub some : least ≤ n
   pub few : n ≤ most
 
--- The rows of `serve`: its file and its number of connections.
-pub record Serves (rows : List Row) (path : Text) (connections : ℕ) : Type 0 where
+-- The rows of `serve`: its file and its number of connections. Then the path of its socket and the
+-- text of a mode, if they are given.
+pub record Serves (rows : List Row) (path : Text) (connections : ℕ) (socket mode : Option Text)
+    : Type 0 where
   pub file : first_of (codes "config") rows ≡ Some path
   pub text : Text
   pub given : one_of (codes "connections") rows ≡ Some text
   pub number : IsNumberIn 1 64 text connections
+  pub socket_given : first_of (codes "socket") rows ≡ socket
+  pub mode_given : first_of (codes "socket-mode") rows ≡ mode
 
 -- the number that is given for an option, or the usual one if none is given
 abbrev pub IsGivenOr : ℕ → ℕ → ℕ → Option Text → ℕ → Type 0
@@ -115,26 +140,35 @@ IsFlag given flag =
     × (given ≡ Some (codes "false") → flag ≡ false)
 
 -- The rows of `run`: its file, its number of sessions (16 if none is given) and its seconds (0 if
--- none are given). Then whether it prints places, the file of its journal, if one is given, and its
--- port for campaigns (0 if none is given).
+-- none are given). Then whether it prints places. Then the file of its journal, the texts of its
+-- places for campaigns and for HTTP, the path of its socket and the text of a mode, if they are
+-- given.
 pub record Runs (rows : List Row) (path : Text) (sessions idle : ℕ) (places : Bool)
-    (journal : Option Text) (campaign : ℕ) : Type 0 where
+    (journal campaign http socket mode : Option Text) : Type 0 where
   pub file : first_of (codes "config") rows ≡ Some path
   pub sessions_given : IsGivenOr 16 1 64 (one_of (codes "sessions") rows) sessions
   pub idle_given : IsGivenOr 0 0 86400 (one_of (codes "idle") rows) idle
   pub places_given : IsFlag (one_of (codes "places") rows) places
   pub journal_given : first_of (codes "journal") rows ≡ journal
-  pub campaign_given : IsGivenOr 0 1 65535 (one_of (codes "campaign") rows) campaign
+  pub campaign_given : first_of (codes "campaign") rows ≡ campaign
+  pub http_given : first_of (codes "http") rows ≡ http
+  pub socket_given : first_of (codes "socket") rows ≡ socket
+  pub mode_given : first_of (codes "socket-mode") rows ≡ mode
+
+-- the bytes of a text, if there is one
+abbrev pub text_in : {Z : Type 0} → Option (String Z) → Option Text
+text_in text = option_map string_bytes text
 
 -- the command line takes the words, and this is the order that they give
 abbrev pub IsGiven : List Text → Order → Type 0
 IsGiven words Replay = (rows : List Row) × Names words (codes "replay") rows
-IsGiven words (Serve path connections) =
+IsGiven words (Serve path connections socket mode) =
     (rows : List Row) × Names words (codes "serve") rows
-    × Serves rows (string_bytes path) connections
-IsGiven words (Run path sessions idle places journal campaign) =
+    × Serves rows (string_bytes path) connections (text_in socket) (text_in mode)
+IsGiven words (Run path sessions idle places journal campaign http socket mode) =
     (rows : List Row) × Names words (codes "run") rows
-    × Runs rows (string_bytes path) sessions idle places (option_map string_bytes journal) campaign
+    × Runs rows (string_bytes path) sessions idle places (text_in journal) (text_in campaign)
+    (text_in http) (text_in socket) (text_in mode)
 IsGiven words (Journal path) =
     (rows : List Row) × Names words (codes "journal") rows
     × (first_of (codes "file") rows ≡ Some (string_bytes path))

@@ -5,6 +5,9 @@
 //! error, with the kind of their mistake.
 #![tactic(auto)]
 
+mod commands;
+mod places;
 mod words;
 
-pub use words::{Order, asks_version, not_text, read_words};
+pub use places::{Place, misgiven, mode_of, place_of};
+pub use words::{Order, asks_version, not_text, read_words, refusal};

@@ -1,37 +1,18 @@
 //! The words of the command line, and the orders that they give.
-ghost use Rattle.std.specs.Prelude.{◌≡◌, ◌↔◌, ◌∷◌, [], ℕ, List, IfErr, IfOk, IsOkUnless, IsTrue, Some, codes, false, map, option_map, string_bytes, true};
-ghost use Rattle.clap.specs.Words.{App, Rule, app_of, found_of, kind_of, new_rule, rows_of, rule_of, takes, with_rule, with_subcommand, Text};
+ghost use Rattle.std.specs.Prelude.{◌≡◌, ◌↔◌, ◌∷◌, [], IfErr, IfOk, IsOkUnless, IsTrue, codes, map, option_map, string_bytes, true};
+ghost use Rattle.clap.specs.Words.{found_of, kind_of, rows_of, takes, Text};
 ghost use Rattle.clap.specs.declared.error.kind.ErrorKind.TheVariants.{DisplayVersion, ValueValidation};
-ghost use Rattle.ring_words.specs.Words.{HasCause, IsGiven, campaign_rule, config_rule, connections_rule, file_rule, idle_rule, journal_app, kept_rule, places_rule, ringd_app, run_app, serve_app, sessions_rule};
-ghost use Rattle.ring_words.specs.private.Words.{HasFile, IsJournalOf, IsLocal, IsRun, IsRunOf, IsServeOf, IsServed};
+ghost use Rattle.ring_words.specs.Words.{HasCause, IsGiven, ringd_app};
+ghost use Rattle.ring_words.specs.private.Words.{HasFile, IsJournalOf, IsRun, IsRunOf, IsServeOf, IsServed};
 
+use crate::commands::command;
+use clap::ArgMatches;
 use clap::error::ErrorKind;
-use clap::{Arg, ArgAction, ArgMatches, Command};
 use command_line::WordsFault;
 use std::alloc::{AllocError, Global};
 
-// The version that `--version` prints.
-const VERSION: &str = "1.0.0";
-
 // The number of clients that `run` serves at a time without `--sessions`.
 const SESSIONS: u32 = 16;
-
-// The end of the help.
-const NOTES: &str = "`ringctl` sends commands to a running service; `ringctl --help` lists them.
-The manual page ringd(1) lists all lines and replies.
-
-An example without a service:
-
-  printf 'create a chang\\njoin a 3\\njoin a 1\\nstart a\\ndrain a 9\\nwho a 1\\n' | ringd replay";
-
-// The end of the help for `serve` and `run`.
-const CONFIG: &str = "CONFIG is a TOML file with three integers:
-
-  workers = 2    # the number of threads that work on elections, 1 to 8
-  inbox = 1024   # the number of items that the inbox of each of them holds, 1 to 65536
-  port = 7400    # the port on 127.0.0.1, 1 to 65535
-
-Without a journal, the service keeps everything in memory, and loses it when it ends.";
 
 /// The order that the words give.
 #[derive(Debug, Drop)]
@@ -42,6 +23,10 @@ pub enum Order {
     Serve {
         path: String,
         connections: u32,
+        /// The path of the socket, if one is given in place of the port.
+        socket: Option<String>,
+        /// The text of its mode, if one is given.
+        mode: Option<String>,
     },
     /// `ringd run CONFIG`: serve clients, `sessions` at a time, until a signal ends the process.
     Run {
@@ -51,8 +36,14 @@ pub enum Order {
         places: bool,
         /// The file that keeps the groups, if one is given.
         journal: Option<String>,
-        /// The port for campaigns; 0 if none is given.
-        campaign: u32,
+        /// The text of the place for campaigns, if one is given.
+        campaign: Option<String>,
+        /// The text of the place for HTTP, if one is given.
+        http: Option<String>,
+        /// The path of the socket, if one is given in place of the port.
+        socket: Option<String>,
+        /// The text of the mode of each socket, if one is given.
+        mode: Option<String>,
     },
     /// `ringd journal FILE`: print the content of a journal.
     Journal {
@@ -60,213 +51,20 @@ pub enum Order {
     },
 }
 
-// The program's command line. A subcommand must be given.
-fn command<'a>(alloc: Global) -> Result<Command<'a>, AllocError>
-    ensures { IfOk result (λ c. app_of c ≡ ringd_app) }
-{
-    let replay = Command::new(alloc, "replay").about(
-        "Read lines from standard input, and print one reply for each",
-    );
-    let command = Command::new(alloc, "ringd")
-        .version(VERSION)
-        .about("Elects a leader for each of many groups")
-        .after_help(NOTES)
-        .subcommand_required(true)
-        .subcommand(replay);
-    let command = with_subcommand(command, serve_command(alloc));
-    let command = with_subcommand(command, run_command(alloc));
-    with_subcommand(command, journal_command(alloc))
-}
-
-// The subcommand `serve`.
-fn serve_command<'a>(alloc: Global) -> Result<Command<'a>, AllocError>
-    ensures app { IfOk result (λ c. app_of c ≡ serve_app) }
-    ensures local { IfOk result IsLocal }
-{
-    let command = Command::new(alloc, "serve")
-        .after_help(CONFIG)
-        .about("Serve K clients on 127.0.0.1, then exit")
-        .arg(config_arg(alloc));
-    with_arg(command, connections_arg(alloc))
-}
-
-// The subcommand `run`.
-fn run_command<'a>(alloc: Global) -> Result<Command<'a>, AllocError>
-    ensures app { IfOk result (λ c. app_of c ≡ run_app) }
-    ensures local { IfOk result IsLocal }
-{
-    let command = Command::new(alloc, "run")
-        .after_help(CONFIG)
-        .about(
-            "Serve clients on 127.0.0.1 until a signal ends the process; without passwords or encryption",
-        )
-        .arg(config_arg(alloc));
-    let command = with_arg(command, sessions_arg(alloc));
-    let command = with_arg(command, idle_arg(alloc));
-    let command = with_arg(command, places_arg(alloc));
-    let command = with_arg(command, kept_arg(alloc));
-    with_arg(command, campaign_arg(alloc))
-}
-
-// The subcommand `journal`.
-fn journal_command<'a>(alloc: Global) -> Result<Command<'a>, AllocError>
-    ensures app { IfOk result (λ c. app_of c ≡ journal_app) }
-    ensures local { IfOk result IsLocal }
-{
-    Command::new(alloc, "journal")
-        .about("Print what the journal of `run` holds; changes nothing")
-        .arg(file_arg(alloc))
-}
-
-// Returns the command with one more argument, or the error that it is.
-fn with_arg<'a>(
-    command: Result<Command<'a>, AllocError>,
-    arg: Arg<'a>,
-) -> Result<Command<'a>, AllocError>
-    requires own { arg.global ≡ false }
-    ensures app { (app : App) (rule : Rule) → IfOk command.entry (λ c. app_of c ≡ app)
-        → rule_of arg.entry ≡ rule → IfOk result (λ c. app_of c ≡ with_rule app rule) }
-    ensures local { IfOk command.entry IsLocal → IfOk result IsLocal }
-{
-    match command {
-        Ok(command) => command.arg(arg),
-        Err(error) => {
-            drop(arg);
-            Err(error)
-        }
-    }
-}
-
-// Returns the command with one more subcommand, or the error that one of them is.
-fn with_subcommand<'a>(
-    command: Result<Command<'a>, AllocError>,
-    below: Result<Command<'a>, AllocError>,
-) -> Result<Command<'a>, AllocError>
-    ensures { (app sub : App) → IfOk command.entry (λ c. app_of c ≡ app) → IfOk below.entry IsLocal
-        → IfOk below.entry (λ c. app_of c ≡ sub)
-        → IfOk result (λ c. app_of c ≡ with_subcommand app sub.top) }
-{
-    match command {
-        Ok(command) => match below {
-            Ok(below) => command.subcommand(below),
-            Err(error) => {
-                drop(command);
-                Err(error)
-            }
-        },
-        Err(error) => {
-            drop(below);
-            Err(error)
-        }
-    }
-}
-
-// The argument of `serve` and `run`: the file of the configuration.
-fn config_arg<'a>(alloc: Global) -> Arg<'a>
-    ensures rule { rule_of result ≡ config_rule }
-    ensures own { result.global ≡ false }
-{
-    Arg::new(alloc, "config")
-        .value_name("CONFIG")
-        .required(true)
-        .help("The configuration: a TOML file, as below")
-}
-
-// An option with a value.
-fn option_arg<'a>(alloc: Global, name: &'a str, value: &'a str) -> Arg<'a>
-    ensures rule { rule_of result
-        ≡ record (new_rule name.now) { long = Some name.now; value_names = 1 } }
-    ensures own { result.global ≡ false }
-{
-    Arg::new(alloc, name).long(name).value_name(value)
-}
-
-// The option of `serve`: how many clients it accepts.
-fn connections_arg<'a>(alloc: Global) -> Arg<'a>
-    ensures rule { rule_of result ≡ connections_rule }
-    ensures own { result.global ≡ false }
-{
-    option_arg(alloc, "connections", "K")
-        .required(true)
-        .value_parser(clap::value_parser!(u32).range(1..=64))
-        .help("Serve K clients, 1 to 64")
-}
-
-// An option of `run`: how many clients it serves at a time.
-fn sessions_arg<'a>(alloc: Global) -> Arg<'a>
-    ensures rule { rule_of result ≡ sessions_rule }
-    ensures own { result.global ≡ false }
-{
-    option_arg(alloc, "sessions", "N")
-        .value_parser(clap::value_parser!(u32).range(1..=64))
-        .help("Serve N clients at a time, 1 to 64, and let others wait [default: 16]")
-}
-
-// An option of `run`: after how many seconds without a byte it ends a session.
-fn idle_arg<'a>(alloc: Global) -> Arg<'a>
-    ensures rule { rule_of result ≡ idle_rule }
-    ensures own { result.global ≡ false }
-{
-    option_arg(alloc, "idle", "SECONDS")
-        .value_parser(clap::value_parser!(u32).range(0..=86400))
-        .help(
-            "End a session if its client sends nothing, or takes no reply, for SECONDS seconds, 0 to 86400; 0 is never [default: 0]",
-        )
-}
-
-// An option of `run`: whether it writes the place of each reply.
-fn places_arg<'a>(alloc: Global) -> Arg<'a>
-    ensures rule { rule_of result ≡ places_rule }
-    ensures own { result.global ≡ false }
-{
-    Arg::new(alloc, "places")
-        .long("places")
-        .action(ArgAction::SetTrue)
-        .help(
-            "Begin each reply with its place in the history of all commands, or with - if it has none",
-        )
-}
-
-// An option of `run`: the file that keeps the groups.
-fn kept_arg<'a>(alloc: Global) -> Arg<'a>
-    ensures rule { rule_of result ≡ kept_rule }
-    ensures own { result.global ≡ false }
-{
-    option_arg(alloc, "journal", "FILE").help(
-        "Keep the groups and terms in FILE, and take them up again at the next start",
-    )
-}
-
-// An option of `run`: the port for campaigns.
-fn campaign_arg<'a>(alloc: Global) -> Arg<'a>
-    ensures rule { rule_of result ≡ campaign_rule }
-    ensures own { result.global ≡ false }
-{
-    option_arg(alloc, "campaign", "PORT")
-        .value_parser(clap::value_parser!(u32).range(1..=65535))
-        .help(
-            "Serve campaigns on PORT of 127.0.0.1: a client is a member for as long as it is connected",
-        )
-}
-
-// The argument of `journal`: its file.
-fn file_arg<'a>(alloc: Global) -> Arg<'a>
-    ensures rule { rule_of result ≡ file_rule }
-    ensures own { result.global ≡ false }
-{
-    Arg::new(alloc, "file")
-        .value_name("FILE")
-        .required(true)
-        .help("The journal: a file that `run --journal` has written")
-}
-
 /// Returns the refusal of a command line with a word that is not UTF-8. `NoMemory` if an allocation
 /// fails.
 pub fn not_text(alloc: Global) -> Result<clap::Error, AllocError>
     ensures { IfOk result (λ error. kind_of error ≡ ValueValidation) }
 {
+    refusal(alloc, "a word is not UTF-8 text")
+}
+
+/// Returns a refusal of the command line with this message. `NoMemory` if an allocation fails.
+pub fn refusal(alloc: Global, message: &str) -> Result<clap::Error, AllocError>
+    ensures { IfOk result (λ error. kind_of error ≡ ValueValidation) }
+{
     let mut command = command(alloc)?;
-    let error = command.error(ErrorKind::ValueValidation, "a word is not UTF-8 text");
+    let error = command.error(ErrorKind::ValueValidation, message);
     drop(command);
     error
 }
@@ -317,9 +115,13 @@ fn serve_order(alloc: Global, given: &ArgMatches<'_>) -> Result<Order, WordsFaul
     let Some(connections) = given.get_one::<u32>("connections") else {
         unreachable!("the number is required, and is in its range");
     };
+    let socket = copy_of(alloc, given.get_str("socket"))?;
+    let mode = copy_of(alloc, given.get_str("socket-mode"))?;
     Ok(Order::Serve {
         path: String::from_str(alloc, path)?,
         connections,
+        socket,
+        mode,
     })
 }
 
@@ -336,7 +138,10 @@ fn run_order(alloc: Global, given: &ArgMatches<'_>) -> Result<Order, WordsFault>
     let idle = given.get_one::<u32>("idle").unwrap_or(0);
     let places = given.get_flag("places");
     let journal = copy_of(alloc, given.get_str("journal"))?;
-    let campaign = given.get_one::<u32>("campaign").unwrap_or(0);
+    let campaign = copy_of(alloc, given.get_str("campaign"))?;
+    let http = copy_of(alloc, given.get_str("http"))?;
+    let socket = copy_of(alloc, given.get_str("socket"))?;
+    let mode = copy_of(alloc, given.get_str("socket-mode"))?;
     Ok(Order::Run {
         path: String::from_str(alloc, path)?,
         sessions,
@@ -344,6 +149,9 @@ fn run_order(alloc: Global, given: &ArgMatches<'_>) -> Result<Order, WordsFault>
         places,
         journal,
         campaign,
+        http,
+        socket,
+        mode,
     })
 }
 

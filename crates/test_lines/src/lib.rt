@@ -19,6 +19,8 @@ mod page;
 #[cfg(test)]
 mod parsing;
 #[cfg(test)]
+mod places;
+#[cfg(test)]
 mod printing;
 #[cfg(test)]
 mod queue;

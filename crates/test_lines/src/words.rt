@@ -20,7 +20,7 @@ fn read(alloc: Global, line: &str) -> Result<Order, WordsFault> {
 }
 
 // The same, read again where memory is refused.
-fn read_again(alloc: Global, line: &str) -> Result<Order, WordsFault> {
+pub(crate) fn read_again(alloc: Global, line: &str) -> Result<Order, WordsFault> {
     match read(alloc, line) {
         Err(WordsFault::NoMemory) => read(alloc, line),
         answer => answer,
@@ -49,13 +49,22 @@ fn replay_is_an_order(rt: HostRuntime) {
     }
 }
 
-// Stops the test if a command line doesn't have so many clients served, by the file `x`.
-fn serves(rt: &impl Abort, alloc: Global, line: &str, wanted: u32) {
+// Stops the test if a command line doesn't have so many clients served, by the file `x`, on a socket with this path and
+// mode. An empty text is none.
+fn serves(rt: &impl Abort, alloc: Global, line: &str, wanted: u32, given: [&str; 2]) {
     let order = read_again(alloc, line);
     match &order {
-        Ok(Order::Serve { path, connections }) => {
+        Ok(
+            Order::Serve {
+                path,
+                connections,
+                socket,
+                mode,
+            },
+        ) => {
             assert_eq!(rt; path.as_str(), "x", "{line}");
             assert_eq!(rt; *connections, wanted, "{line}");
+            assert_eq!(rt; [text_or_none(socket), text_or_none(mode)], given, "{line}");
         }
         _ => panic!(rt; "{line}: {order:?}"),
     }
@@ -64,19 +73,30 @@ fn serves(rt: &impl Abort, alloc: Global, line: &str, wanted: u32) {
 
 #[test]
 fn serve_names_a_file_and_a_number(rt: HostRuntime) {
-    for (line, wanted) in [
-        ("ringd serve x --connections 2", 2),
-        ("ringd serve --connections=64 x", 64),
-        ("ringd serve --connections +1 -- x", 1),
+    for (line, wanted, given) in [
+        ("ringd serve x --connections 2", 2, ["", ""]),
+        ("ringd serve --connections=64 x --socket s", 64, ["s", ""]),
+        (
+            "ringd serve --connections +1 --socket-mode 660 --socket=/a/b -- x",
+            1,
+            ["/a/b", "660"],
+        ),
     ] {
-        serves(&rt, rt.alloc(), line, wanted);
+        serves(&rt, rt.alloc(), line, wanted, given);
     }
 }
 
 // Stops the test if a command line doesn't have clients served by the file `x`, so many at a time, each for so many
-// silent seconds, with places if these are told, and campaigns at this port, if it isn't 0. The journal is the file
-// `kept`, and there is none if that is empty.
-fn runs(rt: &impl Abort, alloc: Global, line: &str, numbers: [u32; 3], tells: bool, kept: &str) {
+// silent seconds, with places if these are told. The texts are those of the journal, of the places for campaigns and for
+// HTTP, of the socket and of its mode. An empty text is none.
+fn runs(
+    rt: &impl Abort,
+    alloc: Global,
+    line: &str,
+    numbers: [u32; 2],
+    tells: bool,
+    given: [&str; 5],
+) {
     let order = read_again(alloc, line);
     match &order {
         Ok(
@@ -87,54 +107,71 @@ fn runs(rt: &impl Abort, alloc: Global, line: &str, numbers: [u32; 3], tells: bo
                 places,
                 journal,
                 campaign,
+                http,
+                socket,
+                mode,
             },
         ) => {
             assert_eq!(rt; path.as_str(), "x", "{line}");
-            assert_eq!(rt; [*sessions, *idle, *campaign], numbers, "{line}");
+            assert_eq!(rt; [*sessions, *idle], numbers, "{line}");
             assert_eq!(rt; *places, tells, "{line}");
-            assert_eq!(rt; file_of(journal), kept, "{line}");
+            let (journal, mode) = (text_or_none(journal), text_or_none(mode));
+            let (campaign, http) = (text_or_none(campaign), text_or_none(http));
+            let socket = text_or_none(socket);
+            assert_eq!(rt; [journal, campaign, http, socket, mode], given, "{line}");
         }
         _ => panic!(rt; "{line}: {order:?}"),
     }
     drop(order);
 }
 
-// The file of a journal, or the empty text if there is no journal.
-fn file_of(journal: &Option<String>) -> &str {
-    match journal {
-        Some(file) => file.as_str(),
+// A text, or the empty text if there is none.
+fn text_or_none(text: &Option<String>) -> &str {
+    match text {
+        Some(text) => text.as_str(),
         None => "",
     }
 }
 
 #[test]
 fn run_has_its_usual_numbers(rt: HostRuntime) {
-    for (line, numbers, tells, kept) in [
-        ("ringd run x", [16, 0, 0], false, ""),
-        ("ringd run --sessions 64 x", [64, 0, 0], false, ""),
+    let none = ["", "", "", "", ""];
+    for (line, numbers, tells, given) in [
+        ("ringd run x", [16, 0], false, none),
+        ("ringd run --sessions 64 x", [64, 0], false, none),
         (
             "ringd run x --idle=30 --places --sessions 1",
-            [1, 30, 0],
+            [1, 30],
             true,
-            "",
+            none,
         ),
-        ("ringd run x --idle 86400", [16, 86400, 0], false, ""),
-        ("ringd run x --journal y", [16, 0, 0], false, "y"),
+        ("ringd run x --idle 86400", [16, 86400], false, none),
+        (
+            "ringd run x --journal y",
+            [16, 0],
+            false,
+            ["y", "", "", "", ""],
+        ),
         (
             "ringd run --journal=y/z x --places",
-            [16, 0, 0],
+            [16, 0],
             true,
-            "y/z",
+            ["y/z", "", "", "", ""],
         ),
-        ("ringd run x --campaign 7401", [16, 0, 7401], false, ""),
         (
-            "ringd run x --campaign=65535 --idle 5",
-            [16, 5, 65535],
+            "ringd run x --campaign 7401 --http c/d",
+            [16, 0],
             false,
-            "",
+            ["", "7401", "c/d", "", ""],
+        ),
+        (
+            "ringd run --socket-mode=660 x --socket s --idle 5",
+            [16, 5],
+            false,
+            ["", "", "", "s", "660"],
         ),
     ] {
-        runs(&rt, rt.alloc(), line, numbers, tells, kept);
+        runs(&rt, rt.alloc(), line, numbers, tells, given);
     }
 }
 
@@ -199,9 +236,14 @@ fn numbers_out_of_range_and_missing_words_are_refused(rt: HostRuntime) {
         "ringd run x --journal",
         "ringd run x --journal y --journal z",
         "ringd run --journal y",
-        "ringd run x --campaign 0",
-        "ringd run x --campaign 65536",
         "ringd run x --campaign",
+        "ringd run x --http",
+        "ringd run x --socket",
+        "ringd run x --socket a --socket b",
+        "ringd run x --socket-mode",
+        "ringd replay --socket a",
+        "ringd journal x --socket a",
+        "ringd serve x --connections 2 --http 7402",
         "ringd serve x --connections 2 --campaign 7401",
         "ringd serve x --connections 2 --journal y",
         "ringd replay --journal y",

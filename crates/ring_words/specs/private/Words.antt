@@ -1,11 +1,11 @@
 -- The words of a call, for inner functions.
-use Rattle.std.specs.Prelude.{◌≡◌, ◌⊎◌, ℕ, codes, pos, List, None, Some, option_map, string_bytes, false}
+use Rattle.std.specs.Prelude.{◌≡◌, ◌⊎◌, ℕ, codes, pos, List, None, Some, string_bytes, false}
 use Rattle.clap.specs.Words.{IsSignedIn, Row, Text, first_of, one_of, without_minus}
 use Rattle.clap.specs.declared.builder.command.Command.{Command}
 use Rattle.clap.specs.declared.builder.command.Command.TheViews.{out-Command}
 use Rattle.ring_words.specs.declared.words.Order.{Order}
 use Rattle.ring_words.specs.declared.words.Order.TheVariants.{Journal, Run, Serve}
-use Rattle.ring_words.specs.Words.{Serves, Runs}
+use Rattle.ring_words.specs.Words.{Runs, Serves, text_in}
 
 -- no argument of the command holds for its subcommands too
 abbrev pub IsLocal : Command → Type 0
@@ -13,12 +13,14 @@ IsLocal c = (out-Command c).has_globals ≡ false
 
 -- the order of `serve` that rows give, that of `run`, and that of `journal`
 abbrev pub IsServeOf : List Row → Order → Type 0
-IsServeOf rows (Serve path connections) = Serves rows (string_bytes path) connections
+IsServeOf rows (Serve path connections socket mode) =
+    Serves rows (string_bytes path) connections (text_in socket) (text_in mode)
 IsServeOf rows _ = ⊥
 
 abbrev pub IsRunOf : List Row → Order → Type 0
-IsRunOf rows (Run path sessions idle places journal campaign) =
-    Runs rows (string_bytes path) sessions idle places (option_map string_bytes journal) campaign
+IsRunOf rows (Run path sessions idle places journal campaign http socket mode) =
+    Runs rows (string_bytes path) sessions idle places (text_in journal) (text_in campaign)
+    (text_in http) (text_in socket) (text_in mode)
 IsRunOf rows _ = ⊥
 
 abbrev pub IsJournalOf : List Row → Order → Type 0
@@ -50,4 +52,3 @@ pub record IsRun (rows : List Row) : Type 0 where
   pub file : HasFile (codes "config") rows
   pub sessions : MayHaveNumber (codes "sessions") 1 64 rows
   pub idle : MayHaveNumber (codes "idle") 0 86400 rows
-  pub campaign : MayHaveNumber (codes "campaign") 1 65535 rows

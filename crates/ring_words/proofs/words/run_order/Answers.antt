@@ -21,14 +21,14 @@ returns-clause-order c =
     let idle =
     number_or (λ bs r. ParsesUnsigned 32 10 bs r × ExplainsUnsignedError 10 bs r × HasUnsignedDigitsIfOk bs r) (λ u x h. h.0) 0 86400 (omega arith) 0 (codes "idle") found c.get_one-2.result c.get_one-2.ensures.none
     c.get_one-2.ensures.value c.requires.idle in
-    let campaign =
-    number_or (λ bs r. ParsesUnsigned 32 10 bs r × ExplainsUnsignedError 10 bs r × HasUnsignedDigitsIfOk bs r) (λ u x h. h.0) 1 65535 (omega arith) 0 (codes "campaign") found c.get_one-3.result c.get_one-3.ensures.none
-    c.get_one-3.ensures.value c.requires.campaign in
     record {
       file = c.requires.file.file ∙ ap (λ text. Some text) (sym path);
       sessions_given = subst (λ n. IsGivenOr 16 1 64 (one_of (codes "sessions") (rows_of found)) n) (sym c.unwrap_or-sessions.ensures) sessions;
       idle_given = subst (λ n. IsGivenOr 0 0 86400 (one_of (codes "idle") (rows_of found)) n) (sym c.unwrap_or-idle.ensures) idle;
-      campaign_given = subst (λ n. IsGivenOr 0 1 65535 (one_of (codes "campaign") (rows_of found)) n) (sym c.unwrap_or-campaign.ensures) campaign;
       journal_given = sym (c.in_ok-journal.ensures ∙ c.get_str-2.ensures ∙ first_value-rows found (codes "journal"));
+      campaign_given = sym (c.in_ok-campaign.ensures ∙ c.get_str-3.ensures ∙ first_value-rows found (codes "campaign"));
+      http_given = sym (c.in_ok-http.ensures ∙ c.get_str-4.ensures ∙ first_value-rows found (codes "http"));
+      socket_given = sym (c.in_ok-socket.ensures ∙ c.get_str-5.ensures ∙ first_value-rows found (codes "socket"));
+      mode_given = sym (c.in_ok-mode.ensures ∙ c.get_str-6.ensures ∙ first_value-rows found (codes "socket-mode"));
       places_given = subst (λ given. IsFlag given c.get_flag-places.result) (one_text-rows found (codes "places")) (c.get_flag-places.ensures.none, c.get_flag-places.ensures.value, c.get_flag-places.ensures.other);
     }

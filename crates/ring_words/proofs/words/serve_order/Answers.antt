@@ -29,6 +29,8 @@ returns-clause-order c =
       file = c.requires.file.file ∙ ap (λ text. Some text) (sym path);
       text = without_minus c.requires.connections.text;
       given = c.requires.connections.given;
+      socket_given = sym (c.in_ok-socket.ensures ∙ c.get_str-2.ensures ∙ first_value-rows (found_of c.args.given.now) (codes "socket"));
+      mode_given = sym (c.in_ok-mode.ensures ∙ c.get_str-3.ensures ∙ first_value-rows (found_of c.args.given.now) (codes "socket-mode"));
       number = subst (λ n. IsNumberIn 1 64 (without_minus c.requires.connections.text) n) same got.2;
     }
 
