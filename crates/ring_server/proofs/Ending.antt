@@ -21,6 +21,7 @@ module _ {V : Type 0} (gives : V → Writing → V → Type 0) (from to : V) (fi
   begun_at program.Bad told = absurd told
   begun_at program.Listen told = absurd told
   begun_at (program.Journal fault) told = absurd told
+  begun_at (program.Socket fault) told = absurd told
 
   -- the end, once the first line was written
   pub ended_at : {A : Type 0} (answer : Result A ProgramFault) → Wrote gives from first to → IfErr answer IsOfEnd

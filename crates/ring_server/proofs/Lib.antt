@@ -5,3 +5,6 @@ mod Logging
 mod Ending
 mod Gaining
 mod Turned
+mod Keeping
+mod Walking
+pub mod MediumCrossing

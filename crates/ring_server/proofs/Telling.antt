@@ -21,6 +21,7 @@ module _ {V : Type 0} (gives : V → Writing → V → Type 0) (from to : V) (fi
   both_at program.Bad told = absurd told
   both_at program.Listen told = absurd told
   both_at (program.Journal fault) told = absurd told
+  both_at (program.Socket fault) told = absurd told
 
   -- the last line, after the first
   pub both_told : {A : Type 0} (mid : V) (answer : Result A ProgramFault) → Wrote gives from first mid → MatchResult answer (λ _. Wrote gives mid last to) (λ fault. (fault ≡ program.Write) × WroteFront gives mid last to)

@@ -1,3 +1,5 @@
 pub mod Faults
 pub mod Listening
+pub mod Noting
 pub mod Resuming
+pub mod Viewing

@@ -1,15 +1,19 @@
-//! The guests and hosts that serve the clients of a running service.
-ghost use Rattle.std.specs.Prelude.{◌≡◌, ◌≤◌, ◌+◌, ◌^◌, All, IfErr, IfOk};
+//! The guests, hosts and viewers that serve the clients of a running service.
+ghost use Rattle.std.specs.Prelude.{◌≡◌, ◌≤◌, ◌+◌, ◌^◌, All, IfErr, IfOk, None};
 ghost use Rattle.atomic_table.specs.Seated.{TableId};
 ghost use Rattle.ring_door.specs.declared.fault.ProgramFault.TheVariants.{NoMemory};
 
+use crate::counting::Heeded;
 use crate::hosting::{Host, hosts};
-use crate::running::{seat_all, seat_both};
+use crate::running::{seat_all, seat_both, seat_three, seat_views};
 use crate::sessions::{Front, Guest, Seat, guests};
+use crate::viewing::{Viewer, viewers};
+use crate::watching::Watch;
 use ring_any::Any;
 use ring_door::{Door, Entrance, Limits, ProgramFault};
 use ring_table::Tabled;
 use std::alloc::Global;
+use std::hash::RandomState;
 use std::net::{OpenListener, TcpStream};
 use std::sync::{Mutex, Wait};
 use std::thread::Threads;
@@ -18,62 +22,116 @@ use std::time::Clock;
 // the number of seats for each session that may run
 const SEATS_EACH: u32 = 16;
 
-/// Returns how many seats a service needs that serves `sessions` sessions at a time. If it serves
-/// campaigns, it serves as many of them.
-pub(crate) fn seats_for(sessions: u32, campaigns: bool) -> u32 {
-    let seats = sessions.saturating_mul(SEATS_EACH);
-    if campaigns {
-        seats.saturating_mul(2)
-    } else {
-        seats
+/// The listeners for clients other than sessions.
+#[derive(Drop)]
+pub struct Others<L: Drop> {
+    /// The listener for campaigns, if they are served.
+    pub campaigns: Option<L>,
+    /// The listener for HTTP, if it is served.
+    pub web: Option<Web<L>>,
+}
+
+/// The listener for HTTP.
+#[derive(Drop)]
+pub struct Web<L: Drop> {
+    /// The listener.
+    pub listener: L,
+    /// The keys that hash the names of header fields.
+    pub keys: RandomState,
+}
+
+impl<L: Drop> Others<L> {
+    /// Returns listeners for no clients other than sessions. Does not allocate.
+    pub fn none() -> Others<L>
+        ensures { result ≡ record { campaigns = None; web = None } }
+    {
+        Others {
+            campaigns: None,
+            web: None,
+        }
+    }
+
+    // Returns the number of kinds of clients, sessions included.
+    fn kinds(&self) -> u32
+        ensures { (1 ≤ result) × (result ≤ 3) }
+    {
+        let campaigns = if self.campaigns.is_some() { 1 } else { 0 };
+        let web = if self.web.is_some() { 1 } else { 0 };
+        1 + campaigns + web
+    }
+
+    /// Returns how many seats a service needs that serves `sessions` clients of each kind at a
+    /// time.
+    pub(crate) fn seats_for(&self, sessions: u32) -> u32 {
+        sessions
+            .saturating_mul(SEATS_EACH)
+            .saturating_mul(self.kinds())
     }
 }
 
-/// Guests for sessions and hosts for campaigns. Some of each serve from the start. The spare ones
-/// take the place of others whose seats are spent.
+/// Guests for sessions, hosts for campaigns and viewers for HTTP. Some of each serve from the
+/// start. The spare ones take the place of others whose seats are spent.
 #[derive(Drop)]
 pub(crate) struct Crowd<'a, T: Tabled<Any> + Drop> {
+    watch: &'a Watch,
     guests: Vec<Guest<'a, T>>,
     spare_guests: Vec<Guest<'a, T>>,
     hosts: Vec<Host<'a, T>>,
     spare_hosts: Vec<Host<'a, T>>,
+    viewers: Vec<Viewer<'a, T>>,
+    spare_viewers: Vec<Viewer<'a, T>>,
 }
 
-/// Returns guests and hosts for these seats. If there are campaigns, half of the seats are for
-/// them. Places are counted from `base`, and a campaign's client may be silent for `idle` seconds.
-/// Fails only if an allocation fails.
-pub(crate) fn gather<T: Tabled<Any> + Drop>(
+/// Returns guests, hosts and viewers for these seats. Each kind of clients that is served gets as
+/// many seats. Places are counted from `base`, and a campaign's client may be silent for `idle`
+/// seconds. The watch counts their clients. Fails only if an allocation fails.
+pub(crate) fn gather<'a, T: Tabled<Any> + Drop, L: Drop>(
     alloc: Global,
-    front: &Front<T>,
+    front: &'a Front<T>,
     seats: Vec<Seat<T>>,
     base: usize,
     idle: u32,
-    campaigns: bool,
-) -> Result<Crowd<'_, T>, ProgramFault>
+    others: &Others<L>,
+    watch: &'a Watch,
+) -> Result<Crowd<'a, T>, ProgramFault>
     requires seats { All (λ seat. seat.lock ≡ front.now.id) seats.items }
     requires base { base + T.most ≤ 2 ^ 64 }
     ensures fault { IfErr result (λ fault. fault ≡ NoMemory) }
 {
-    let (ours, theirs) = match part(seats, campaigns) {
+    let (first, views) = match part(seats, others.web.is_some(), others.kinds()) {
         Ok(parts) => parts,
         Err(fault) => return Err(fault),
     };
-    let mut guests = guests(alloc, front, ours, base)?;
+    let (ours, theirs) = match part(first, others.campaigns.is_some(), 2) {
+        Ok(parts) => parts,
+        Err(fault) => return Err(fault),
+    };
+    let mut guests = guests(alloc, front, ours, base, watch)?;
     let spare_guests = guests.split_off(guests.len() / SEATS_EACH as usize)?;
-    let mut hosts = hosts(alloc, front, theirs, idle)?;
+    let mut hosts = hosts(alloc, front, theirs, idle, watch)?;
     let spare_hosts = hosts.split_off(hosts.len() / SEATS_EACH as usize)?;
+    let mut viewers = match &others.web {
+        Some(web) => viewers(alloc, front, views, base, web.keys, watch)?,
+        None => Vec::new(alloc),
+    };
+    let spare_viewers = viewers.split_off(viewers.len() / SEATS_EACH as usize)?;
     Ok(Crowd {
+        watch,
         guests,
         spare_guests,
         hosts,
         spare_hosts,
+        viewers,
+        spare_viewers,
     })
 }
 
-// Returns the seats for sessions and the seats for campaigns.
+// Returns two parts of the seats. The second is one of `parts` equal parts if it is asked for, else
+// empty.
 fn part<T: Tabled<Any> + Drop>(
     seats: Vec<Seat<T>>,
-    campaigns: bool,
+    asked: bool,
+    parts: u32,
 ) -> Result<(Vec<Seat<T>>, Vec<Seat<T>>), ProgramFault>
     ensures ours { (id : TableId) → All (λ seat. seat.lock ≡ id) seats.items
         → IfOk result (λ parts. All (λ seat. seat.lock ≡ id) parts.0.items) }
@@ -82,24 +140,28 @@ fn part<T: Tabled<Any> + Drop>(
     ensures fault { IfErr result (λ fault. fault ≡ NoMemory) }
 {
     let mut ours = seats;
-    let theirs = ours.split_off(kept_of(ours.len(), campaigns))?;
+    let theirs = ours.split_off(kept_of(ours.len(), asked, parts))?;
     Ok((ours, theirs))
 }
 
-// Returns how many of `seats` seats are for sessions.
-fn kept_of(seats: usize, campaigns: bool) -> usize
+// Returns how many of `seats` seats are in the first part.
+fn kept_of(seats: usize, asked: bool, parts: u32) -> usize
     ensures { result ≤ seats }
 {
-    if campaigns { seats / 2 } else { seats }
+    if asked && parts > 0 {
+        seats - seats / parts as usize
+    } else {
+        seats
+    }
 }
 
 impl<'a, T: Tabled<Any> + Send + Sync + Drop> Crowd<'a, T> {
-    /// Serves the clients of a listener, and the campaigns of another listener if there is one.
+    /// Serves the clients of a listener, and those of the other listeners.
     pub(crate) fn serve<R, L>(
         self,
         rt: &R,
         listener: L,
-        campaigns: Option<L>,
+        others: Others<L>,
         limits: Limits,
     ) -> Result<(), ProgramFault>
     where
@@ -108,28 +170,45 @@ impl<'a, T: Tabled<Any> + Send + Sync + Drop> Crowd<'a, T> {
         ensures { IfErr result (λ fault. fault ≡ ProgramFault.Thread) }
     {
         let Crowd {
+            watch,
             guests,
             spare_guests,
             hosts,
             spare_hosts,
+            viewers,
+            spare_viewers,
         } = self;
-        let first = Entrance {
-            door: Mutex::new(Door::new(listener)),
-            spare: Mutex::new(spare_guests),
-        };
-        match campaigns {
-            None => {
-                drop(hosts);
-                drop(spare_hosts);
-                seat_all(rt, &first.door, &first.spare, guests, limits)
-            }
-            Some(other) => {
-                let second = Entrance {
-                    door: Mutex::new(Door::new(other)),
-                    spare: Mutex::new(spare_hosts),
-                };
+        let Others { campaigns, web } = others;
+        let first = entrance(watch, listener, spare_guests);
+        match (campaigns, web) {
+            (None, None) => seat_all(rt, &first.door, &first.spare, guests, limits),
+            (Some(other), None) => {
+                let second = entrance(watch, other, spare_hosts);
                 seat_both(rt, &first, &second, guests, hosts, limits)
             }
+            (None, Some(web)) => {
+                let second = entrance(watch, web.listener, spare_viewers);
+                seat_views(rt, &first, &second, guests, viewers, limits)
+            }
+            (Some(other), Some(web)) => {
+                let second = entrance(watch, other, spare_hosts);
+                let third = entrance(watch, web.listener, spare_viewers);
+                let others = (&second, hosts);
+                seat_three(rt, (&first, guests), others, (&third, viewers), limits)
+            }
         }
+    }
+}
+
+// Where clients come in by a listener, and those that take the place of others. The watch counts
+// failed accepts.
+fn entrance<L, G>(watch: &Watch, listener: L, spare: Vec<G>) -> Entrance<Heeded<'_, L>, G>
+where
+    L: OpenListener<Stream = TcpStream> + Drop,
+    G: Drop,
+{
+    Entrance {
+        door: Mutex::new(Door::new(watch.heeded(listener))),
+        spare: Mutex::new(spare),
     }
 }

@@ -6,6 +6,7 @@ ghost use Rattle.ring_turn.specs.Seats.{Settled};
 
 use crate::patient::Patient;
 use crate::sessions::{Front, Seat};
+use crate::watching::{Port, Watch};
 use ring_any::Any;
 use ring_campaign::campaign;
 use ring_door::{ProgramFault, Serving};
@@ -23,17 +24,20 @@ pub struct Host<'a, T: Tabled<Any> + Drop = Table<Any>> {
     front: &'a Front<T>,
     seat: Seat<T>,
     idle: u32,
+    // counts its clients
+    watch: &'a Watch,
     ghost of_front: { seat.lock ≡ front.now.id },
 }
 
 /// Returns a host for each seat. Its clients may be silent for `idle` seconds, or without end if
-/// `idle` is 0. Fails only if an allocation fails.
-pub fn hosts<T: Tabled<Any> + Drop>(
+/// `idle` is 0. The watch counts its clients. Fails only if an allocation fails.
+pub fn hosts<'a, T: Tabled<Any> + Drop>(
     alloc: Global,
-    front: &Front<T>,
+    front: &'a Front<T>,
     seats: Vec<Seat<T>>,
     idle: u32,
-) -> Result<Vec<Host<'_, T>>, ProgramFault>
+    watch: &'a Watch,
+) -> Result<Vec<Host<'a, T>>, ProgramFault>
     requires { All (λ seat. seat.lock ≡ front.now.id) seats.items }
     ensures hosts { IfOk result (λ hosts. vec_len hosts ≡ vec_len seats) }
     ensures fault { IfErr result (λ fault. fault ≡ NoMemory) }
@@ -48,6 +52,7 @@ pub fn hosts<T: Tabled<Any> + Drop>(
             front,
             seat,
             idle,
+            watch,
         });
     }
     Ok(hosts)
@@ -70,7 +75,9 @@ impl<T: Tabled<Any> + Drop> Serving for Host<'_, T> {
         };
         let mut writer = ToWrite(stream);
         let (alloc, front, seat) = (self.alloc, self.front, &mut self.seat);
+        self.watch.enter(Port::Campaigns);
         run_campaign(rt, alloc, front, seat, session, &mut reader, &mut writer);
+        self.watch.leave(Port::Campaigns);
     }
 }
 

@@ -7,25 +7,38 @@
 #![tactic(auto)]
 
 mod base;
+mod counting;
 mod crowd;
+mod directory;
 mod handshake;
 mod hosting;
 mod listening;
+mod metering;
+mod noting;
 mod patient;
 mod resumed;
 mod resuming;
 mod running;
 mod server;
 mod sessions;
+mod viewing;
+mod watched;
+mod watching;
 
+pub use counting::Heeded;
+pub use crowd::{Others, Web};
 pub use hosting::{Host, hosts};
 pub use listening::accept_loop;
+pub use metering::{Meter, Metered};
 pub use resumed::Resumed;
 pub use resuming::resume_loop;
 pub use ring_door::{
-    Door, JournalFault, Limits, ProgramFault, Serving, accept_all, attend_all, tell,
+    Door, JournalFault, Limits, ProgramFault, Serving, SocketFault, accept_all, attend_all, tell,
 };
 pub use running::run_loop;
 pub use sessions::{
     Access, Closing, Front, Guest, Seat, Service, close, front, guests, open, open_gated,
 };
+pub use viewing::{Viewer, viewers};
+pub use watched::Watched;
+pub use watching::{Known, Port, Watch};

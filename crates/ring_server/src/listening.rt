@@ -1,25 +1,26 @@
 //! Serves a given number of clients, each in a thread of its own.
 ghost use Rattle.std.specs.Prelude.{◌≡◌, ◌++◌, All, MatchResult, vec_len};
 ghost use Rattle.ring_lines.specs.Ends.{Wrote};
-ghost use Rattle.ring_door.specs.Telling.{closed_line, listening_line};
+ghost use Rattle.ring_door.specs.Telling.{closed_line};
 ghost use Rattle.ring_server.specs.Listening.{BothAt};
 ghost use Rattle.ring_server.specs.private.Listening.{FirstAt};
 
 use crate::sessions;
 use crate::sessions::{Front, Seat, limited_guests};
+use crate::watching::Watch;
 use ring_config::Config;
-use ring_door::{ProgramFault, accept_all, say_closed, say_listening, tell};
+use ring_door::{ProgramFault, accept_all, say_closed, tell};
 use ring_lines::Outlet;
 use ring_table::Table;
 use std::net::{OpenListener, TcpStream};
-use std::sync::Wait;
+use std::sync::{Arc, Wait};
 use std::thread::Threads;
 use std::time::Clock;
 
 // the most read calls of a session
 const READS: u32 = 1_000_000_000;
 
-/// Makes the service, prints that it listens, and accepts `connections` connections. Waits for
+/// Makes the service, prints the line `listening`, and accepts `connections` connections. Waits for
 /// their sessions to end, closes the service, and prints that it closed.
 ///
 /// Each connection is a session in a thread of its own, numbered from 1 in the order of their
@@ -33,6 +34,7 @@ pub fn accept_loop<R, L, O>(
     listener: L,
     config: &Config,
     connections: u32,
+    listening: &str,
     out: &mut O,
 ) -> Result<(), ProgramFault>
 where
@@ -41,20 +43,23 @@ where
     O: Outlet,
     ensures { MatchResult result
         (λ _. Wrote O.write_gives out.old
-        (listening_line config.now.port ++ closed_line connections) out.new)
+        (listening.now ++ closed_line connections) out.new)
         (λ fault.
-        BothAt O.write_gives out.old (listening_line config.now.port) (closed_line connections)
-        fault out.new) }
+        BothAt O.write_gives out.old listening.now (closed_line connections) fault out.new) }
 {
     let alloc = rt.alloc();
-    let listening = say_listening(alloc, config.port)?;
     let closed = say_closed(alloc, connections)?;
-    let (service, seats) = sessions::open(rt, config, connections, Table::new(alloc))?;
+    let Ok(watch) = Arc::new(alloc, Watch::new(alloc, connections)?) else {
+        return Err(ProgramFault::NoMemory);
+    };
+    let theirs = Arc::try_clone(&watch)?;
+    let (service, seats) = sessions::open(rt, config, connections, Table::new(alloc), theirs)?;
     let served = serve_all(
         rt,
         sessions::front(&service),
+        &watch,
         listener,
-        listening.as_str(),
+        listening,
         seats,
         out,
     );
@@ -70,6 +75,7 @@ where
 fn serve_all<R, L, O>(
     rt: &R,
     front: &Front,
+    watch: &Watch,
     listener: L,
     listening: &str,
     seats: Vec<Seat>,
@@ -84,7 +90,7 @@ where
         (λ accepted. (accepted ≡ vec_len seats) × Wrote O.write_gives out.old listening.now out.new)
         (λ fault. FirstAt O.write_gives out.old listening.now fault out.new) }
 {
-    let guests = limited_guests(rt.alloc(), front, seats, 0, READS)?;
+    let guests = limited_guests(rt.alloc(), front, seats, 0, READS, watch)?;
     tell(out, listening)?;
     accept_all(rt, listener, guests)
 }

@@ -2,6 +2,7 @@
 ghost use Rattle.std.specs.Prelude.{◌≡◌, ◌≤◌, length, map};
 ghost use Rattle.ring_recovery.specs.Charters.{running_charters};
 
+use crate::metering::Meter;
 use ring_any::Any;
 use ring_journal::Medium;
 use ring_node::Charter;
@@ -20,6 +21,8 @@ pub struct Resumed<D: Medium + Drop> {
     pub alarm: Arc<Alarm>,
     /// The life of the journal. Places are counted from its base.
     pub life: Life,
+    /// The meter of the journal.
+    pub meter: Arc<Meter>,
     ghost kept: { length table.history ≤ table.sure },
     ghost running: { map (λ charter. charter.value) charters.items ≡ running_charters table.book },
 }

@@ -1,25 +1,28 @@
 //! Serves clients by a table that goes on after a restart, until its journal fails.
 ghost use Rattle.std.specs.Prelude.{◌≡◌, All, IfErr, IfOk, MatchResult};
 ghost use Rattle.ring_lines.specs.Ends.{Wrote};
-ghost use Rattle.ring_door.specs.Telling.{listening_line};
 ghost use Rattle.ring_server.specs.Faults.{IsOfStart};
 ghost use Rattle.ring_server.specs.Resuming.{ResumedAt};
 ghost use Rattle.ring_server.specs.Running.{FirstOrNone};
 ghost use Rattle.ring_server.specs.private.Faults.{start_told_as};
 ghost use Rattle.ring_server.specs.private.Resuming.{IsOfEnd};
 
+use crate::crowd::Others;
 use crate::handshake::Handshake;
 use crate::resumed::Resumed;
+use crate::running::watch_of;
 use crate::server::Server;
+use crate::watching::Watch;
 use ring_any::Any;
 use ring_config::Config;
-use ring_door::{JournalFault, Limits, ProgramFault, say_listening, tell};
+use ring_door::{JournalFault, Limits, ProgramFault, tell};
 use ring_journal::Medium;
 use ring_lines::Outlet;
 use ring_recovery::{Alarm, Ending};
 use ring_service::StartFault;
 use ring_table::Tabled;
 use std::alloc::Global;
+use std::fs::{File, Files};
 use std::net::{OpenListener, TcpStream};
 use std::sync::{Arc, Wait};
 use std::thread;
@@ -27,11 +30,11 @@ use std::thread::{JoinHandle, Threads};
 use std::time::Clock;
 
 /// Makes the service over a table that was recovered, and begins its running terms again. Prints
-/// that it listens, and serves clients as `run_loop` does, until the process ends or the journal
-/// fails.
+/// the line `listening`, and serves clients as `run_loop` does, until the process ends or the
+/// journal fails.
 ///
-/// If there is a listener for campaigns, all members of the life before are taken out first. None of
-/// their connections is left.
+/// If there is a listener for campaigns, all members of the life before are taken out first. None
+/// of their connections is left.
 ///
 /// If the journal fails, no more replies go out, and the fault is returned at once. The threads are
 /// not joined then, and end with the process. If the service could not begin, the fault is that of
@@ -39,34 +42,46 @@ use std::time::Clock;
 pub fn resume_loop<R, L, D, O>(
     rt: &R,
     listener: L,
-    campaigns: Option<L>,
+    others: Others<L>,
     config: &Config,
     limits: Limits,
     resumed: Resumed<D>,
+    listening: &str,
     out: &mut O,
 ) -> Result<(), ProgramFault>
 where
-    R: Threads + Wait + AllocGlobal + Eprint + Clock + Copy + Send + Sync + Drop + 'static,
+    R: Threads
+        + Wait
+        + AllocGlobal
+        + Eprint
+        + Clock
+        + Files<File = File>
+        + Copy
+        + Send
+        + Sync
+        + Drop
+        + 'static,
     L: OpenListener<Stream = TcpStream> + Send + Drop + 'static,
     D: Medium + Send + Sync + Drop + 'static,
     O: Outlet,
     ensures { MatchResult result
-        (λ _. Wrote O.write_gives out.old (listening_line config.now.port) out.new)
-        (λ fault. ResumedAt O.write_gives out.old (listening_line config.now.port) fault out.new) }
+        (λ _. Wrote O.write_gives out.old listening.now out.new)
+        (λ fault. ResumedAt O.write_gives out.old listening.now fault out.new) }
 {
     let alloc = rt.alloc();
-    let listening = say_listening(alloc, config.port)?;
     let bell = Arc::try_clone(&resumed.alarm)?;
     let (handshake, theirs) = handshakes(alloc)?;
+    let watch = watch_over(rt, alloc, limits, &others, &resumed)?;
     let Resumed {
         table,
         charters,
         alarm,
         life,
+        meter: _,
     } = resumed;
     let server = Server {
         listener,
-        campaigns,
+        others,
         config: *config,
         limits,
         table,
@@ -74,14 +89,35 @@ where
         base: life.base(),
         handshake: theirs,
         bell,
+        watch,
     };
     let thread = start(rt, server)?;
-    match begin(rt, &handshake, listening.as_str(), out) {
+    match begin(rt, &handshake, listening, out) {
         Ok(()) => wait_for_end(rt, &alarm, thread),
         Err(fault) => {
             thread.join(rt);
             Err(fault)
         }
+    }
+}
+
+// Returns the watch of a service over a table that was recovered. It has noted the groups of the
+// table, and counts its journal.
+fn watch_over<R: Files<File = File>, L: Drop, D: Medium + Drop>(
+    rt: &R,
+    alloc: Global,
+    limits: Limits,
+    others: &Others<L>,
+    resumed: &Resumed<D>,
+) -> Result<Arc<Watch>, ProgramFault>
+    ensures { IfErr result (λ fault. fault ≡ ProgramFault.NoMemory) }
+{
+    let meter = Arc::try_clone(&resumed.meter)?;
+    let watch = watch_of(rt, alloc, limits, others)?;
+    let watch = watch.with_groups(alloc, resumed.table.book())?;
+    match Arc::new(alloc, watch.with_journal(meter)) {
+        Ok(watch) => Ok(watch),
+        Err(_) => Err(ProgramFault::NoMemory),
     }
 }
 

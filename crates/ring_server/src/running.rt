@@ -1,29 +1,33 @@
 //! Serves clients until the process ends, `sessions` at a time.
 ghost use Rattle.std.specs.Prelude.{◌≡◌, All, IfErr, MatchResult};
 ghost use Rattle.ring_lines.specs.Ends.{Wrote};
-ghost use Rattle.ring_door.specs.Telling.{listening_line};
 ghost use Rattle.ring_server.specs.Running.{FirstOrNone};
 
-use crate::crowd::{gather, seats_for};
+use crate::counting::Heeded;
+use crate::crowd::{Others, gather};
 use crate::hosting::Host;
 use crate::sessions;
 use crate::sessions::{Front, Guest, Seat, Service};
+use crate::viewing::Viewer;
+use crate::watching::Watch;
 use ring_any::Any;
 use ring_config::Config;
 use ring_door::{
-    Door, Entrance, Limits, ProgramFault, attend_all, attend_both, say_listening, tell,
+    Door, Entrance, Limits, ProgramFault, attend_all, attend_both, attend_three, tell,
 };
 use ring_lines::Outlet;
 use ring_table::{Recorded, Tabled, Unkept};
+use std::alloc::{AllocError, Global};
+use std::fs::{File, Files};
 use std::net::{OpenListener, TcpStream};
-use std::sync::{Mutex, Wait};
+use std::sync::{Arc, Mutex, Wait};
 use std::thread::Threads;
 use std::time::Clock;
 
 // The table. Its history is not kept, so that questions do not fill the memory.
 type Forgetful = Recorded<Any, Unkept<Any>>;
 
-/// Makes the service, prints that it listens, and serves clients until the process ends.
+/// Makes the service, prints the line `listening`, and serves clients until the process ends.
 ///
 /// `sessions` threads accept one client after another, so a further client waits until a session
 /// has ended. Each thread has a seat of the table for its sessions. If the seat is spent, a spare
@@ -31,39 +35,54 @@ type Forgetful = Recorded<Any, Unkept<Any>>;
 /// again after 4294967295. A session's fault ends that session alone.
 ///
 /// The first failed accept, for want of a descriptor or of memory, is reported on standard error. A
-/// failed accept is tried again after 100 ms. If there is a listener for campaigns, as many threads
-/// accept those there, with seats of their own.
+/// failed accept is tried again after 100 ms. If there are listeners for campaigns or for HTTP, as
+/// many threads accept those there, with seats of their own.
 ///
 /// It returns only if it could not begin: an allocation or a write failed, or a thread could not be
 /// started.
 pub fn run_loop<R, L, O>(
     rt: &R,
     listener: L,
-    campaigns: Option<L>,
+    others: Others<L>,
     config: &Config,
     limits: Limits,
+    listening: &str,
     out: &mut O,
 ) -> Result<(), ProgramFault>
 where
-    R: Threads + Wait + AllocGlobal + Eprint + Clock + Copy + Send + Sync + Drop + 'static,
+    R: Threads
+        + Wait
+        + AllocGlobal
+        + Eprint
+        + Clock
+        + Files<File = File>
+        + Copy
+        + Send
+        + Sync
+        + Drop
+        + 'static,
     L: OpenListener<Stream = TcpStream> + Send + Drop,
     O: Outlet,
     ensures { MatchResult result
-        (λ _. Wrote O.write_gives out.old (listening_line config.now.port) out.new)
-        (λ fault.
-        FirstOrNone O.write_gives out.old (listening_line config.now.port) fault out.new) }
+        (λ _. Wrote O.write_gives out.old listening.now out.new)
+        (λ fault. FirstOrNone O.write_gives out.old listening.now fault out.new) }
 {
     let alloc = rt.alloc();
-    let listening = say_listening(alloc, config.port)?;
-    let seats = seats_for(limits.sessions, campaigns.is_some());
+    let seats = others.seats_for(limits.sessions);
     let table = Recorded::new(alloc, Unkept::new(alloc));
-    let (service, seats) = sessions::open(rt, config, seats, table)?;
+    let watch = watch_of(rt, alloc, limits, &others)?;
+    let Ok(watch) = Arc::new(alloc, watch) else {
+        return Err(ProgramFault::NoMemory);
+    };
+    let theirs = Arc::try_clone(&watch)?;
+    let (service, seats) = sessions::open(rt, config, seats, table, theirs)?;
     let begun = begin(
         rt,
         front_of(&service),
+        &watch,
         listener,
-        campaigns,
-        listening.as_str(),
+        others,
+        listening,
         seats,
         limits,
         out,
@@ -83,8 +102,9 @@ fn front_of(service: &Service<Forgetful>) -> &Front<Forgetful>
 fn begin<R, L, O>(
     rt: &R,
     front: &Front<Forgetful>,
+    watch: &Watch,
     listener: L,
-    campaigns: Option<L>,
+    others: Others<L>,
     listening: &str,
     seats: Vec<Seat<Forgetful>>,
     limits: Limits,
@@ -99,22 +119,27 @@ where
         (λ _. Wrote O.write_gives out.old listening.now out.new)
         (λ fault. FirstOrNone O.write_gives out.old listening.now fault out.new) }
 {
-    let crowd = gather(
-        rt.alloc(),
-        front,
-        seats,
-        0,
-        limits.idle,
-        campaigns.is_some(),
-    )?;
+    let crowd = gather(rt.alloc(), front, seats, 0, limits.idle, &others, watch)?;
     tell(out, listening)?;
-    crowd.serve(rt, listener, campaigns, limits)
+    crowd.serve(rt, listener, others, limits)
+}
+
+/// Returns the watch of a service without groups, with these limits and listeners.
+pub(crate) fn watch_of<R: Files<File = File>, L: Drop>(
+    rt: &R,
+    alloc: Global,
+    limits: Limits,
+    others: &Others<L>,
+) -> Result<Watch, AllocError> {
+    let watch = Watch::new(alloc, limits.sessions)?;
+    let watch = watch.with_campaigns(others.campaigns.is_some());
+    Ok(watch.with_memory(rt))
 }
 
 /// Lets guests of a table serve at a door.
 pub(crate) fn seat_all<'a, R, L, T>(
     rt: &R,
-    door: &Mutex<Door<L>>,
+    door: &Mutex<Door<Heeded<'a, L>>>,
     spare: &Mutex<Vec<Guest<'a, T>>>,
     guests: Vec<Guest<'a, T>>,
     limits: Limits,
@@ -131,8 +156,8 @@ where
 /// Lets guests of a table and its hosts serve, each at an entrance of their own.
 pub(crate) fn seat_both<'a, R, L, T>(
     rt: &R,
-    first: &Entrance<L, Guest<'a, T>>,
-    second: &Entrance<L, Host<'a, T>>,
+    first: &Entrance<Heeded<'a, L>, Guest<'a, T>>,
+    second: &Entrance<Heeded<'a, L>, Host<'a, T>>,
     guests: Vec<Guest<'a, T>>,
     others: Vec<Host<'a, T>>,
     limits: Limits,
@@ -144,4 +169,39 @@ where
     ensures { IfErr result (λ fault. fault ≡ ProgramFault.Thread) }
 {
     attend_both(rt, first, guests, second, others, limits)
+}
+
+/// Lets guests of a table and its viewers serve, each at an entrance of their own.
+pub(crate) fn seat_views<'a, R, L, T>(
+    rt: &R,
+    first: &Entrance<Heeded<'a, L>, Guest<'a, T>>,
+    second: &Entrance<Heeded<'a, L>, Viewer<'a, T>>,
+    guests: Vec<Guest<'a, T>>,
+    viewers: Vec<Viewer<'a, T>>,
+    limits: Limits,
+) -> Result<(), ProgramFault>
+where
+    R: Threads + Wait + Eprint + Clock + Sync,
+    L: OpenListener<Stream = TcpStream> + Send + Drop,
+    T: Tabled<Any> + Send + Sync + Drop,
+    ensures { IfErr result (λ fault. fault ≡ ProgramFault.Thread) }
+{
+    attend_both(rt, first, guests, second, viewers, limits)
+}
+
+/// Lets guests of a table, its hosts and its viewers serve, each at an entrance of their own.
+pub(crate) fn seat_three<'a, R, L, T>(
+    rt: &R,
+    first: (&Entrance<Heeded<'a, L>, Guest<'a, T>>, Vec<Guest<'a, T>>),
+    second: (&Entrance<Heeded<'a, L>, Host<'a, T>>, Vec<Host<'a, T>>),
+    third: (&Entrance<Heeded<'a, L>, Viewer<'a, T>>, Vec<Viewer<'a, T>>),
+    limits: Limits,
+) -> Result<(), ProgramFault>
+where
+    R: Threads + Wait + Eprint + Clock + Sync,
+    L: OpenListener<Stream = TcpStream> + Send + Drop,
+    T: Tabled<Any> + Send + Sync + Drop,
+    ensures { IfErr result (λ fault. fault ≡ ProgramFault.Thread) }
+{
+    attend_three(rt, first, second, third, limits)
 }

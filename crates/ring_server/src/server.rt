@@ -4,10 +4,11 @@ ghost use Rattle.ring_campaign.specs.Clearing.{Clears};
 ghost use Rattle.ring_turn.specs.Seats.{Settled};
 ghost use Rattle.ring_server.specs.Faults.{IsOfStart};
 
-use crate::crowd::{gather, seats_for};
+use crate::crowd::{Others, gather};
 use crate::handshake::Handshake;
 use crate::sessions;
 use crate::sessions::{Front, Seat, Service};
+use crate::watching::Watch;
 use ring_any::Any;
 use ring_campaign::clear;
 use ring_config::Config;
@@ -24,8 +25,8 @@ use std::time::Clock;
 #[derive(Drop)]
 pub(crate) struct Server<L: Drop, T: Tabled<Any> + Drop> {
     pub(crate) listener: L,
-    // the listener for campaigns, if they are served
-    pub(crate) campaigns: Option<L>,
+    // the listeners for campaigns and for HTTP, if they are served
+    pub(crate) others: Others<L>,
     pub(crate) config: Config,
     pub(crate) limits: Limits,
     pub(crate) table: T,
@@ -36,6 +37,7 @@ pub(crate) struct Server<L: Drop, T: Tabled<Any> + Drop> {
     pub(crate) handshake: Arc<Handshake>,
     // rung when no client is served any more
     pub(crate) bell: Arc<Alarm>,
+    pub(crate) watch: Arc<Watch>,
     ghost fits: { base + T.most ≤ 2 ^ 64 },
 }
 
@@ -52,7 +54,7 @@ where
     {
         let Server {
             listener,
-            campaigns,
+            others,
             config,
             limits,
             table,
@@ -60,16 +62,17 @@ where
             base,
             handshake,
             bell,
+            watch,
         } = self;
         // one more than serve, by which the members of an earlier life leave
-        let seats = seats_for(limits.sessions, campaigns.is_some()).saturating_add(1);
-        let served = match open(rt, &config, seats, table, charters) {
+        let seats = others.seats_for(limits.sessions).saturating_add(1);
+        let served = match open(rt, &config, seats, table, charters, &watch) {
             Ok((service, seats)) => serve_open(
-                rt, service, listener, campaigns, seats, base, limits, &handshake,
+                rt, service, listener, others, seats, base, limits, &handshake, &watch,
             ),
             Err(fault) => {
                 drop(listener);
-                drop(campaigns);
+                drop(others);
                 Err(fault)
             }
         };
@@ -81,13 +84,15 @@ where
     }
 }
 
-// Opens the service over the table, and begins the terms of these charters.
+// Opens the service over the table, and begins the terms of these charters. The watch notes the
+// answers of the table.
 fn open<R, T>(
     rt: &R,
     config: &Config,
     sessions: u32,
     table: T,
     charters: Vec<Arc<Charter<Any>>>,
+    watch: &Arc<Watch>,
 ) -> Result<(Service<T>, Vec<Seat<T>>), ProgramFault>
 where
     R: Threads + Wait + AllocGlobal + Clock + Copy + Send + Drop + 'static,
@@ -96,7 +101,12 @@ where
     ensures opening { IfOk result (λ opened. opened.0.opening ≡ (T.shows table).history) }
     ensures fault { IfErr result IsOfStart }
 {
-    let (service, seats) = sessions::open(rt, config, sessions, table)?;
+    let Ok(theirs) = Arc::try_clone(watch) else {
+        drop(table);
+        drop(charters);
+        return Err(ProgramFault::NoMemory);
+    };
+    let (service, seats) = sessions::open(rt, config, sessions, table, theirs)?;
     if service.resume(rt, charters).is_err() {
         drop(seats);
         let _ = sessions::close(rt, service);
@@ -110,11 +120,12 @@ fn serve_open<R, L, T>(
     rt: &R,
     service: Service<T>,
     listener: L,
-    campaigns: Option<L>,
+    others: Others<L>,
     seats: Vec<Seat<T>>,
     base: usize,
     limits: Limits,
     handshake: &Handshake,
+    watch: &Watch,
 ) -> Result<(), ProgramFault>
 where
     R: Threads + Wait + AllocGlobal + Eprint + Clock + Sync,
@@ -126,7 +137,7 @@ where
 {
     let front = sessions::front(&service);
     let served = serve(
-        rt, front, listener, campaigns, seats, base, limits, handshake,
+        rt, front, listener, others, seats, base, limits, handshake, watch,
     );
     let _ = sessions::close(rt, service);
     served
@@ -137,11 +148,12 @@ fn serve<R, L, T>(
     rt: &R,
     front: &Front<T>,
     listener: L,
-    campaigns: Option<L>,
+    others: Others<L>,
     seats: Vec<Seat<T>>,
     base: usize,
     limits: Limits,
     handshake: &Handshake,
+    watch: &Watch,
 ) -> Result<(), ProgramFault>
 where
     R: Threads + Wait + AllocGlobal + Eprint + Clock + Sync,
@@ -153,27 +165,20 @@ where
 {
     let mut seats = seats;
     let own = seats.pop();
-    let crowd = gather(
-        rt.alloc(),
-        front,
-        seats,
-        base,
-        limits.idle,
-        campaigns.is_some(),
-    )?;
+    let crowd = gather(rt.alloc(), front, seats, base, limits.idle, &others, watch)?;
     if !handshake.open(rt) {
         return Ok(());
     }
-    if campaigns.is_some()
+    if others.campaigns.is_some()
         && let Some(seat) = own
     {
         drop(clear_by(rt, front, seat));
     }
-    crowd.serve(rt, listener, campaigns, limits)
+    crowd.serve(rt, listener, others, limits)
 }
 
-// Takes out the members of an earlier life, for the service itself, which is session 0. Returns the seat by
-// which it was done.
+// Takes out the members of an earlier life, for the service itself, which is session 0. Returns the
+// seat by which it was done.
 fn clear_by<R: Wait + Clock, T: Tabled<Any> + Drop>(
     rt: &R,
     front: &Front<T>,

@@ -10,6 +10,8 @@ ghost use Rattle.ring_server.specs.Sessions.{GainsCalls, HasServed, base_if};
 ghost use Rattle.ring_door.specs.declared.fault.ProgramFault.TheVariants.{NoMemory};
 
 use crate::base::Base;
+use crate::watched::Watched;
+use crate::watching::{Port, Watch};
 use ring_any::Any;
 use ring_config::Config;
 use ring_door::{ProgramFault, Serving};
@@ -28,8 +30,8 @@ use std::time::Clock;
 // the most read calls of a guest in one session, unless it has another limit
 const READS: u32 = u32::MAX;
 
-/// The lock by which the sessions and workers of a program share its table.
-pub type Access<T = Table<Any>> = TurnLock<Any, T>;
+/// The lock by which the sessions and workers of a program share its table. Its answers are noted.
+pub type Access<T = Table<Any>> = Watched<T>;
 
 /// The seat by which a session or a worker reaches the table.
 pub type Seat<T = Table<Any>> = ring_turn::Seat<Any, T>;
@@ -50,18 +52,22 @@ pub struct Guest<'a, T: Tabled<Any> + Drop = Table<Any>> {
     seat: Seat<T>,
     base: Base<T>,
     reads: u32,
+    // counts its clients
+    watch: &'a Watch,
     ghost of_front: { seat.lock ≡ front.now.id },
 }
 
 /// Opens the service that a configuration describes over this table, with `sessions` seats for
 /// sessions.
 ///
-/// Workers and sessions have equal shares of the turns of a lock, of which there are 2^64 - 1.
+/// Workers and sessions have equal shares of the turns of a lock, of which there are 2^64 - 1. The
+/// watch notes the answers of the table.
 pub fn open<R, T>(
     rt: &R,
     config: &Config,
     sessions: u32,
     table: T,
+    watch: Arc<Watch>,
 ) -> Result<(Service<T>, Vec<Seat<T>>), ProgramFault>
 where
     R: Threads + Wait + Clock + AllocGlobal + Copy + Send + Drop + 'static,
@@ -78,7 +84,7 @@ where
         drop(table);
         return Err(ProgramFault::NoMemory);
     };
-    open_gated(rt, config, sessions, table, gate)
+    open_gated(rt, config, sessions, table, watch, gate)
 }
 
 /// Opens a service as `open` does. The gate looks at each item of each worker. The capacity of the
@@ -88,6 +94,7 @@ pub fn open_gated<R, G, T>(
     config: &Config,
     sessions: u32,
     table: T,
+    watch: Arc<Watch>,
     gate: Arc<G>,
 ) -> Result<(Service<T>, Vec<Seat<T>>), ProgramFault>
 where
@@ -109,7 +116,7 @@ where
         return Err(ProgramFault::NoMemory);
     };
     let guests = seats.split_off(config.workers)?;
-    let Ok(access) = Arc::new(alloc, lock) else {
+    let Ok(access) = Arc::new(alloc, Watched::new(lock, watch)) else {
         return Err(ProgramFault::NoMemory);
     };
     match Service::gated(rt, alloc, access, seats, config.workers, config.inbox, gate) {
@@ -147,13 +154,14 @@ pub fn close<R: Threads + Wait, T: Tabled<Any> + Send + Sync + Drop + 'static>(
 }
 
 /// Returns a guest for each seat. Its sessions make at most 4294967295 read calls each, and count
-/// places from `base`. Fails only if an allocation fails.
-pub fn guests<T: Tabled<Any> + Drop>(
+/// places from `base`. The watch counts its clients. Fails only if an allocation fails.
+pub fn guests<'a, T: Tabled<Any> + Drop>(
     alloc: Global,
-    front: &Front<T>,
+    front: &'a Front<T>,
     seats: Vec<Seat<T>>,
     base: usize,
-) -> Result<Vec<Guest<'_, T>>, ProgramFault>
+    watch: &'a Watch,
+) -> Result<Vec<Guest<'a, T>>, ProgramFault>
     requires base { base + T.most ≤ 2 ^ 64 }
     requires seats { All (λ seat. seat.lock ≡ front.now.id) seats.items }
     ensures guests { IfOk result (λ guests. vec_len guests ≡ vec_len seats) }
@@ -161,18 +169,19 @@ pub fn guests<T: Tabled<Any> + Drop>(
     ensures base { IfOk result (λ guests. All (λ guest. guest.base.number ≡ base) guests.items) }
     ensures fault { IfErr result (λ fault. fault ≡ NoMemory) }
 {
-    limited_guests(alloc, front, seats, base, READS)
+    limited_guests(alloc, front, seats, base, READS, watch)
 }
 
 /// Returns a guest for each seat. Its sessions make at most `reads` read calls each, and count
-/// places from `base`. Fails only if an allocation fails.
-pub fn limited_guests<T: Tabled<Any> + Drop>(
+/// places from `base`. The watch counts its clients. Fails only if an allocation fails.
+pub fn limited_guests<'a, T: Tabled<Any> + Drop>(
     alloc: Global,
-    front: &Front<T>,
+    front: &'a Front<T>,
     seats: Vec<Seat<T>>,
     base: usize,
     reads: u32,
-) -> Result<Vec<Guest<'_, T>>, ProgramFault>
+    watch: &'a Watch,
+) -> Result<Vec<Guest<'a, T>>, ProgramFault>
     requires base { base + T.most ≤ 2 ^ 64 }
     requires seats { All (λ seat. seat.lock ≡ front.now.id) seats.items }
     ensures guests { IfOk result (λ guests. vec_len guests ≡ vec_len seats) }
@@ -193,6 +202,7 @@ pub fn limited_guests<T: Tabled<Any> + Drop>(
                 of: PhantomData,
             },
             reads,
+            watch,
         });
     }
     Ok(guests)
@@ -215,6 +225,7 @@ impl<T: Tabled<Any> + Drop> Serving for Guest<'_, T> {
         let (mut reader, mut writer) = (FromRead(stream), ToWrite(stream));
         let (front, reads, seat) = (self.front, self.reads, &mut self.seat);
         let base = told_base(places, self.base.number);
+        self.watch.enter(Port::Sessions);
         let _ = answer(
             rt,
             front,
@@ -225,6 +236,7 @@ impl<T: Tabled<Any> + Drop> Serving for Guest<'_, T> {
             &mut reader,
             &mut writer,
         );
+        self.watch.leave(Port::Sessions);
     }
 }
 

@@ -1,5 +1,5 @@
 -- The text of a service, as the text of `serve` and `run`.
-use Rattle.std.proofs.Common.{◌++◌, List, ℕ, Result, Ok, Err, inl, inr, refl, subst, sym}
+use Rattle.std.proofs.Common.{◌≡◌, ◌++◌, List, ℕ, Result, Ok, Err, inl, inr, refl, subst, sym}
 use Rattle.std.specs.Prelude.{MatchResult}
 use Rattle.ring_lines.specs.Ends.{Writing, Wrote}
 use Rattle.ring_door.specs.declared.fault.JournalFault.{JournalFault}
@@ -25,13 +25,20 @@ module _ {V : Type 0} (gives : V → Writing → V → Type 0) (from to : V) (fi
   served_at program.Bad told = absurd told
   served_at program.Listen told = absurd told
   served_at (program.Journal fault) told = absurd told
+  served_at (program.Socket fault) told = absurd told
+
+  -- the text of a whole, as that of `serve`
+  pub all_served : {A : Type 0} (answer : Result A ProgramFault) → MatchResult answer (λ _. Wrote gives from (first ++ last) to) (λ fault. BothAt gives from first last fault to)
+      → MatchResult answer (λ _. Wrote gives from (first ++ last) to) (λ fault. ServedAt gives from first last fault to)
+  all_served (Ok done) told = told
+  all_served (Err fault) told = served_at fault told
 
 -- the text, for some port
-module _ {V A : Type 0} (gives : V → Writing → V → Type 0) (from to : V) (line : ℕ → List ℕ) (last : List ℕ) (port : ℕ) where
-  pub served_told : (answer : Result A ProgramFault) → MatchResult answer (λ _. Wrote gives from (line port ++ last) to) (λ fault. BothAt gives from (line port) last fault to)
+module _ {V A : Type 0} (gives : V → Writing → V → Type 0) (from to : V) (line : ℕ → List ℕ) (last first : List ℕ) (port : ℕ) (is : first ≡ line port) where
+  pub served_told : (answer : Result A ProgramFault) → MatchResult answer (λ _. Wrote gives from (first ++ last) to) (λ fault. ServedAt gives from first last fault to)
       → MatchResult answer (λ _. (p : ℕ) × Wrote gives from (line p ++ last) to) (λ fault. (p : ℕ) × ServedAt gives from (line p) last fault to)
-  served_told (Ok done) told = (port, told)
-  served_told (Err fault) told = (port, served_at gives from to (line port) last fault told)
+  served_told (Ok done) told = (port, subst (λ (text : List ℕ). Wrote gives from (text ++ last) to) is told)
+  served_told (Err fault) told = (port, subst (λ (text : List ℕ). ServedAt gives from text last fault to) is told)
 
 -- a fault of the whole, as one of `run`
 module _ {V : Type 0} (gives : V → Writing → V → Type 0) (from : V) (first : List ℕ) where
@@ -46,12 +53,18 @@ module _ {V : Type 0} (gives : V → Writing → V → Type 0) (from : V) (first
   ran_at to program.Bad told = absurd told
   ran_at to program.Listen told = absurd told
   ran_at to (program.Journal fault) told = absurd told
+  ran_at to (program.Socket fault) told = absurd told
 
-module _ {V A : Type 0} (gives : V → Writing → V → Type 0) (from to : V) (line : ℕ → List ℕ) (port : ℕ) where
-  pub ran_told : (answer : Result A ProgramFault) → MatchResult answer (λ _. Wrote gives from (line port) to) (λ fault. FirstOrNone gives from (line port) fault to)
+  pub all_ran : {A : Type 0} (to : V) (answer : Result A ProgramFault) → MatchResult answer (λ _. Wrote gives from first to) (λ fault. FirstOrNone gives from first fault to)
+      → MatchResult answer (λ _. Wrote gives from first to) (λ fault. RanAt gives from first fault to)
+  all_ran to (Ok done) told = told
+  all_ran to (Err fault) told = ran_at to fault told
+
+module _ {V A : Type 0} (gives : V → Writing → V → Type 0) (from to : V) (line : ℕ → List ℕ) (first : List ℕ) (port : ℕ) (is : first ≡ line port) where
+  pub ran_told : (answer : Result A ProgramFault) → MatchResult answer (λ _. Wrote gives from first to) (λ fault. RanAt gives from first fault to)
       → MatchResult answer (λ _. (p : ℕ) × Wrote gives from (line p) to) (λ fault. (p : ℕ) × RanAt gives from (line p) fault to)
-  ran_told (Ok done) told = (port, told)
-  ran_told (Err fault) told = (port, ran_at gives from (line port) to fault told)
+  ran_told (Ok done) told = (port, subst (λ (text : List ℕ). Wrote gives from text to) is told)
+  ran_told (Err fault) told = (port, subst (λ (text : List ℕ). RanAt gives from text fault to) is told)
 
 -- a fault of the whole, as one of `run` with a journal
 module _ {V : Type 0} (gives : V → Writing → V → Type 0) (from : V) (first : List ℕ) where
@@ -72,6 +85,7 @@ module _ {V : Type 0} (gives : V → Writing → V → Type 0) (from : V) (first
   kept_at to program.Unreadable told = absurd told
   kept_at to program.Bad told = absurd told
   kept_at to program.Listen told = absurd told
+  kept_at to (program.Socket fault) told = absurd told
 
   -- a fault of taking up a journal comes before any text
   pub not_taken_up : (fault : ProgramFault) → IsOfJournal fault → KeptAt gives from first fault from
@@ -87,8 +101,13 @@ module _ {V : Type 0} (gives : V → Writing → V → Type 0) (from : V) (first
       nothing journal.Lives = refl
   not_taken_up fault (inr memory) = subst (λ (f : ProgramFault). KeptAt gives from first f from) (sym memory) refl
 
-module _ {V A : Type 0} (gives : V → Writing → V → Type 0) (from to : V) (line : ℕ → List ℕ) (port : ℕ) where
-  pub kept_told : (answer : Result A ProgramFault) → MatchResult answer (λ _. Wrote gives from (line port) to) (λ fault. ResumedAt gives from (line port) fault to)
+  pub all_kept : {A : Type 0} (to : V) (answer : Result A ProgramFault) → MatchResult answer (λ _. Wrote gives from first to) (λ fault. ResumedAt gives from first fault to)
+      → MatchResult answer (λ _. Wrote gives from first to) (λ fault. KeptAt gives from first fault to)
+  all_kept to (Ok done) told = told
+  all_kept to (Err fault) told = kept_at to fault told
+
+module _ {V A : Type 0} (gives : V → Writing → V → Type 0) (from to : V) (line : ℕ → List ℕ) (first : List ℕ) (port : ℕ) (is : first ≡ line port) where
+  pub kept_told : (answer : Result A ProgramFault) → MatchResult answer (λ _. Wrote gives from first to) (λ fault. KeptAt gives from first fault to)
       → MatchResult answer (λ _. (p : ℕ) × Wrote gives from (line p) to) (λ fault. (p : ℕ) × KeptAt gives from (line p) fault to)
-  kept_told (Ok done) told = (port, told)
-  kept_told (Err fault) told = (port, kept_at gives from (line port) to fault told)
+  kept_told (Ok done) told = (port, subst (λ (text : List ℕ). Wrote gives from text to) is told)
+  kept_told (Err fault) told = (port, subst (λ (text : List ℕ). KeptAt gives from text fault to) is told)

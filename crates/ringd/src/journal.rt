@@ -10,22 +10,24 @@ use ring_file::{FileMedium, Place, PlaceFault, Replaces};
 use ring_lines::{Outlet, put};
 use ring_listing::list_journal;
 use ring_recovery::{Alarm, RecoverFault, Recovered, resume};
-use ring_server::{JournalFault, ProgramFault, Resumed};
+use ring_server::{JournalFault, Meter, Metered, ProgramFault, Resumed};
 use std::alloc::Global;
 use std::fs::{File, Files};
 use std::io::{ErrorKind, Read};
 use std::sync::Arc;
+use std::time::Clock;
 use std::{fs, io};
 
 /// Takes the journal at `path` and recovers its table. The file begins anew with the lines that
 /// were found, or with at most half as many that give equal groups and terms. While the result
-/// lives, no other process gets the file. The life is the one after that of the file.
+/// lives, no other process gets the file. The life is the one after that of the file. The meter
+/// counts what is written and synced from then on.
 ///
 /// The faults, in their order: the journal is in use, unreadable, no file, damaged, of another
 /// version; its new file cannot be written. Except at the last one, nothing has changed.
-pub fn take_up<R>(rt: &R, path: &str) -> Result<Resumed<FileMedium<R>>, ProgramFault>
+pub fn take_up<R>(rt: &R, path: &str) -> Result<Resumed<Metered<FileMedium<R>, R>>, ProgramFault>
 where
-    R: Files<File = File> + Replaces + AllocGlobal + Copy + Drop,
+    R: Files<File = File> + Replaces + Clock + AllocGlobal + Copy + Drop,
     ensures ok { IfOk result (λ resumed.
         (found : List ℕ) × IsTakenUp found resumed.table resumed.life) }
     ensures fault { IfErr result IsOfJournal }
@@ -45,9 +47,9 @@ fn begin<R>(
     rt: &R,
     place: Place,
     resumed: Recovered,
-) -> Result<Resumed<FileMedium<R>>, ProgramFault>
+) -> Result<Resumed<Metered<FileMedium<R>, R>>, ProgramFault>
 where
-    R: Files<File = File> + Replaces + AllocGlobal + Copy + Drop,
+    R: Files<File = File> + Replaces + Clock + AllocGlobal + Copy + Drop,
     ensures ok { IfOk result (λ begun.
         (begun.table.book ≡ resumed.book) × (begun.table.history ≡ resumed.history)
         × (begun.life ≡ resumed.life)) }
@@ -58,13 +60,15 @@ where
         return Err(ProgramFault::NoMemory);
     };
     let (alarm, bell) = alarms(alloc)?;
+    let (meter, theirs) = meters(alloc, resumed.text().len())?;
     let life = resumed.life();
     match place.begin(rt, resumed.text()) {
         Ok(medium) => Ok(Resumed {
-            table: resumed.open(alloc, medium, bell),
+            table: resumed.open(alloc, Metered::new(*rt, medium, theirs), bell),
             charters,
             alarm,
             life,
+            meter,
         }),
         Err(fault) => Err(told_of_place(fault)),
     }
@@ -81,6 +85,20 @@ fn alarms(alloc: Global) -> Result<(Arc<Alarm>, Arc<Alarm>), ProgramFault>
         return Err(ProgramFault::NoMemory);
     };
     Ok((alarm, bell))
+}
+
+// Returns the meter of a journal of `bytes` bytes: one handle for who reads it, one for the medium
+// that is counted.
+fn meters(alloc: Global, bytes: usize) -> Result<(Arc<Meter>, Arc<Meter>), ProgramFault>
+    ensures { IfErr result (λ fault. fault ≡ ProgramFault.NoMemory) }
+{
+    let Ok(meter) = Arc::new(alloc, Meter::new(bytes)) else {
+        return Err(ProgramFault::NoMemory);
+    };
+    let Ok(theirs) = Arc::try_clone(&meter) else {
+        return Err(ProgramFault::NoMemory);
+    };
+    Ok((meter, theirs))
 }
 
 // Returns the table that the bytes of a journal give, compacted.

@@ -1,31 +1,32 @@
-//! The orders of the command line: standard streams, the configuration's file and the port.
-ghost use Rattle.std.specs.Prelude.{◌≡◌, ◌<◌, ◌≤◌, ◌++◌, ◌⊎◌, ℕ, List, IfErr, IfOk, IfSome, MatchOption, MatchResult, Ok, Err, length};
+//! The orders of the command line: standard streams, the configuration's file and the listeners.
+ghost use Rattle.std.specs.Prelude.{◌≡◌, ◌++◌, ◌⊎◌, ℕ, List, IfErr, IfOk, MatchResult, string_bytes};
 ghost use Rattle.ring_lines.specs.Ends.{Wrote, WroteFront};
-ghost use Rattle.ring_config.specs.Reading.{Spells};
-ghost use Rattle.ring_config.specs.declared.config.Config.{Config};
-ghost use Rattle.ring_door.specs.Telling.{closed_line, listening_line};
-ghost use Rattle.ringd.specs.private.Run.{IsOfFile, IsOfReading, Replayed};
-ghost use Rattle.ringd.specs.Run.{IsOfLines, KeptAt, RanAt, ServedAt};
+ghost use Rattle.ring_door.specs.Telling.{closed_line};
+ghost use Rattle.ringd.specs.private.Run.{Replayed};
+ghost use Rattle.ringd.specs.Run.{IsOfLines, KeptAt, RanAt, ServedAt, first_line};
 
 use crate::journal;
-use ring_config::{Config, ConfigFault, read_config};
-use ring_file::Replaces;
+use crate::listening::{Places, listen, listen_all, place_or};
+use crate::loading::load;
+use crate::sockets::Sockets;
+use ring_config::Config;
+use ring_door::{say_listening, say_listening_at};
+use ring_file::{FileMedium, Replaces};
 use ring_lines::{FromRead, Intake, Outlet, ToWrite};
-use ring_server::{Limits, ProgramFault, accept_loop, resume_loop, run_loop, tell};
+use ring_server::{
+    Limits, Metered, ProgramFault, Resumed, accept_loop, resume_loop, run_loop, tell,
+};
+use ring_words::Place;
 use std::alloc::Global;
 use std::fs::{File, Files};
-use std::io::{ErrorKind, Read};
-use std::net::{Ipv4Addr, Net, SocketAddr, TcpListener, TcpStream};
+use std::net::{Net, TcpListener, TcpStream};
+use std::random::RandomSource;
 use std::sync::Wait;
 use std::thread::Threads;
 use std::time::Clock;
-use std::{fs, io};
 
 // the most read calls before the input counts as endless
 const READS: u32 = 1_000_000_000;
-
-// the most bytes of a configuration
-const LONGEST: usize = 65536;
 
 /// Answers each line of standard input by one line on standard output, to the end of the input.
 ///
@@ -72,14 +73,23 @@ pub fn tell_version<O: Outlet>(
     tell(out, text.as_str())
 }
 
-/// Serves `connections` clients on 127.0.0.1, at the port of the configuration in this file.
+/// Serves `connections` clients of this machine: on a socket at this path if there is one,
+/// otherwise at the port of the configuration in this file. The socket has this mode, and is
+/// removed at the end.
 ///
 /// The faults, in their order: the file is unreadable, is too long or spells no configuration; the
-/// port cannot be listened on; those of `accept_loop`.
-#[tactic(auto, using(crate::proofs::Causes::served_unloaded))]
-pub fn serve<R, O>(rt: &R, path: &str, connections: u32, out: &mut O) -> Result<(), ProgramFault>
+/// socket or the port cannot be listened on; those of `accept_loop`.
+#[tactic(auto, using(crate::proofs::Causes::served_unloaded, crate::proofs::Causes::served_unsaid))]
+pub fn serve<R, O>(
+    rt: &R,
+    path: &str,
+    connections: u32,
+    socket: Option<&str>,
+    mode: u32,
+    out: &mut O,
+) -> Result<(), ProgramFault>
 where
-    R: Files
+    R: Files<File = File>
         + Clock
         + AllocGlobal
         + Threads
@@ -93,32 +103,44 @@ where
     O: Outlet,
     ensures { MatchResult result
         (λ _. (port : ℕ) × Wrote O.write_gives out.old
-        (listening_line port ++ closed_line connections) out.new)
+        (first_line port socket.entry ++ closed_line connections) out.new)
         (λ fault.
-        (port : ℕ) × ServedAt O.write_gives out.old (listening_line port)
+        (port : ℕ) × ServedAt O.write_gives out.old (first_line port socket.entry)
         (closed_line connections) fault out.new) }
 {
     let config = load(rt, path)?;
-    let listener = listen(rt, config.port)?;
-    accept_loop(rt, listener, &config, connections, out)
+    let first = say_first(rt.alloc(), config.port, socket)?;
+    let mut sockets = Sockets::new(rt.alloc());
+    let first = first.as_str();
+    let place = place_or(socket, config.port);
+    let served = serve_at(
+        rt,
+        &config,
+        connections,
+        place,
+        mode,
+        first,
+        &mut sockets,
+        out,
+    );
+    sockets.remove(rt);
+    served
 }
 
-/// Serves clients on 127.0.0.1 until the process ends, at the port of the configuration in this
-/// file. If there is a port for campaigns, serves those there.
-///
-/// The faults, in their order: the file is unreadable, is too long or spells no configuration; a
-/// port cannot be listened on; those of `run_loop`.
-#[tactic(auto, using(crate::proofs::Causes::ran_unloaded))]
-pub fn run<R, O>(
+// Listens at a place, and serves `connections` clients there.
+#[tactic(auto, using(crate::proofs::Causes::served_unlistened))]
+fn serve_at<R, O>(
     rt: &R,
-    path: &str,
-    limits: Limits,
-    campaigns: Option<u16>,
+    config: &Config,
+    connections: u32,
+    place: Place<'_>,
+    mode: u32,
+    first: &str,
+    sockets: &mut Sockets,
     out: &mut O,
 ) -> Result<(), ProgramFault>
 where
-    R: Files
-        + Eprint
+    R: Files<File = File>
         + Clock
         + AllocGlobal
         + Threads
@@ -131,26 +153,110 @@ where
         + Net<Stream = TcpStream, Listener = TcpListener>,
     O: Outlet,
     ensures { MatchResult result
-        (λ _. (port : ℕ) × Wrote O.write_gives out.old (listening_line port) out.new)
-        (λ fault. (port : ℕ) × RanAt O.write_gives out.old (listening_line port) fault out.new) }
+        (λ _. Wrote O.write_gives out.old (first.now ++ closed_line connections) out.new)
+        (λ fault. ServedAt O.write_gives out.old first.now (closed_line connections) fault out.new) }
+{
+    let listener = listen(rt, place, mode, sockets)?;
+    accept_loop(rt, listener, config, connections, first, out)
+}
+
+/// Serves clients of this machine until the process ends. Sessions are served on the socket of
+/// `places` if it has one, otherwise at the port of the configuration in this file. If there are
+/// places for campaigns and for HTTP, serves those there. If it returns, the sockets are removed.
+///
+/// The faults, in their order: the file is unreadable, is too long or spells no configuration; a
+/// socket or a port cannot be listened on; those of `run_loop`.
+#[tactic(auto, using(crate::proofs::Causes::ran_unloaded, crate::proofs::Causes::ran_unsaid))]
+pub fn run<R, O>(
+    rt: &R,
+    path: &str,
+    limits: Limits,
+    places: Places<'_>,
+    out: &mut O,
+) -> Result<(), ProgramFault>
+where
+    R: Files<File = File>
+        + Eprint
+        + Clock
+        + AllocGlobal
+        + RandomSource
+        + Threads
+        + Wait
+        + Copy
+        + Send
+        + Sync
+        + Drop
+        + 'static
+        + Net<Stream = TcpStream, Listener = TcpListener>,
+    O: Outlet,
+    ensures { MatchResult result
+        (λ _. (port : ℕ)
+        × Wrote O.write_gives out.old (first_line port places.entry.sessions) out.new)
+        (λ fault. (port : ℕ)
+        × RanAt O.write_gives out.old (first_line port places.entry.sessions) fault out.new) }
 {
     let config = load(rt, path)?;
-    let (listener, campaigns) = listen_both(rt, config.port, campaigns)?;
-    run_loop(rt, listener, campaigns, &config, limits, out)
+    let first = say_first(rt.alloc(), config.port, places.sessions)?;
+    let mut sockets = Sockets::new(rt.alloc());
+    let ran = run_at(
+        rt,
+        &config,
+        limits,
+        places,
+        first.as_str(),
+        &mut sockets,
+        out,
+    );
+    sockets.remove(rt);
+    ran
+}
+
+// Listens at the places, and serves clients there until the process ends.
+#[tactic(auto, using(crate::proofs::Causes::ran_unlistened))]
+fn run_at<R, O>(
+    rt: &R,
+    config: &Config,
+    limits: Limits,
+    places: Places<'_>,
+    first: &str,
+    sockets: &mut Sockets,
+    out: &mut O,
+) -> Result<(), ProgramFault>
+where
+    R: Files<File = File>
+        + Eprint
+        + Clock
+        + AllocGlobal
+        + RandomSource
+        + Threads
+        + Wait
+        + Copy
+        + Send
+        + Sync
+        + Drop
+        + 'static
+        + Net<Stream = TcpStream, Listener = TcpListener>,
+    O: Outlet,
+    ensures { MatchResult result
+        (λ _. Wrote O.write_gives out.old first.now out.new)
+        (λ fault. RanAt O.write_gives out.old first.now fault out.new) }
+{
+    let (listener, others) = listen_all(rt, config.port, places, sockets)?;
+    run_loop(rt, listener, others, config, limits, first, out)
 }
 
 /// Serves clients as `run` does, by the table that a journal keeps, until the journal fails or the
 /// process ends.
 ///
-/// The faults, in their order: those of the configuration; those of taking up the journal; a port
-/// cannot be listened on; those of `resume_loop`.
-#[tactic(auto, using(crate::proofs::Causes::kept_unloaded))]
+/// The faults, in their order: those of the configuration; those of taking up the journal; a socket
+/// or a port cannot be listened on; those of `resume_loop`.
+#[tactic(auto, using(crate::proofs::Causes::kept_unloaded, crate::proofs::Causes::kept_unsaid))]
 pub fn run_kept<R, O>(
     rt: &R,
     path: &str,
     file: &str,
     limits: Limits,
-    campaigns: Option<u16>,
+    places: Places<'_>,
     out: &mut O,
 ) -> Result<(), ProgramFault>
 where
@@ -159,6 +265,7 @@ where
         + Eprint
         + Clock
         + AllocGlobal
+        + RandomSource
         + Threads
         + Wait
         + Copy
@@ -169,106 +276,75 @@ where
         + Net<Stream = TcpStream, Listener = TcpListener>,
     O: Outlet,
     ensures { MatchResult result
-        (λ _. (port : ℕ) × Wrote O.write_gives out.old (listening_line port) out.new)
-        (λ fault. (port : ℕ) × KeptAt O.write_gives out.old (listening_line port) fault out.new) }
+        (λ _. (port : ℕ)
+        × Wrote O.write_gives out.old (first_line port places.entry.sessions) out.new)
+        (λ fault. (port : ℕ)
+        × KeptAt O.write_gives out.old (first_line port places.entry.sessions) fault out.new) }
 {
     let config = load(rt, path)?;
+    let first = say_first(rt.alloc(), config.port, places.sessions)?;
     let resumed = journal::take_up(rt, file)?;
-    let Ok((listener, campaigns)) = listen_both(rt, config.port, campaigns) else {
-        return Err(ProgramFault::Listen);
-    };
-    resume_loop(rt, listener, campaigns, &config, limits, resumed, out)
+    let mut sockets = Sockets::new(rt.alloc());
+    let first = first.as_str();
+    let ran = resume_at(
+        rt,
+        &config,
+        limits,
+        places,
+        resumed,
+        first,
+        &mut sockets,
+        out,
+    );
+    sockets.remove(rt);
+    ran
 }
 
-/// Returns the port with this number, or `None` at 0 and above 65535.
-pub fn port_of(number: u32) -> Option<u16>
-    ensures { MatchOption result ((number ≡ 0) ⊎ (65535 < number))
-        (λ port. (port ≡ number) × (1 ≤ port)) }
-{
-    if number == 0 || number > 65535 {
-        return None;
-    }
-    Some(number as u16)
-}
-
-// Listens on a port, and on another one for campaigns, if there is one.
-fn listen_both<R: Net>(
+// Listens at the places, and serves clients there by a table that was taken up.
+#[tactic(auto, using(crate::proofs::Causes::kept_unlistened))]
+fn resume_at<R, O>(
     rt: &R,
-    port: u16,
-    campaigns: Option<u16>,
-) -> Result<(R::Listener, Option<R::Listener>), ProgramFault>
-    ensures { IfErr result (λ fault. fault ≡ ProgramFault.Listen) }
+    config: &Config,
+    limits: Limits,
+    places: Places<'_>,
+    resumed: Resumed<Metered<FileMedium<R>, R>>,
+    first: &str,
+    sockets: &mut Sockets,
+    out: &mut O,
+) -> Result<(), ProgramFault>
+where
+    R: Files<File = File>
+        + Replaces
+        + Eprint
+        + Clock
+        + AllocGlobal
+        + RandomSource
+        + Threads
+        + Wait
+        + Copy
+        + Send
+        + Sync
+        + Drop
+        + 'static
+        + Net<Stream = TcpStream, Listener = TcpListener>,
+    O: Outlet,
+    ensures { MatchResult result
+        (λ _. Wrote O.write_gives out.old first.now out.new)
+        (λ fault. KeptAt O.write_gives out.old first.now fault out.new) }
 {
-    let listener = listen(rt, port)?;
-    let campaigns = listen_if(rt, campaigns)?;
-    Ok((listener, campaigns))
+    let (listener, others) = listen_all(rt, config.port, places, sockets)?;
+    resume_loop(rt, listener, others, config, limits, resumed, first, out)
 }
 
-// Listens on a port, if there is one.
-fn listen_if<R: Net>(rt: &R, port: Option<u16>) -> Result<Option<R::Listener>, ProgramFault>
-    ensures { IfErr result (λ fault. fault ≡ ProgramFault.Listen) }
+// Returns the first line of a service for sessions: with the path of its socket if there is one,
+// otherwise with its port.
+fn say_first(alloc: Global, port: u16, socket: Option<&str>) -> Result<String, ProgramFault>
+    ensures line { IfOk result (λ line. string_bytes line ≡ first_line port socket.entry) }
+    ensures fault { IfErr result (λ fault. fault ≡ ProgramFault.NoMemory) }
 {
-    match port {
-        Some(port) => Ok(Some(listen(rt, port)?)),
-        None => Ok(None),
-    }
-}
-
-// Listens on a port of this machine alone.
-fn listen<R: Net>(rt: &R, port: u16) -> Result<R::Listener, ProgramFault>
-    ensures { IfErr result (λ fault. fault ≡ ProgramFault.Listen) }
-{
-    listening(rt.bind(SocketAddr::from((Ipv4Addr::LOCALHOST, port))))
-}
-
-// Returns the listener, or a fault exactly if it could not be bound.
-fn listening<L: Drop>(bound: io::Result<L>) -> Result<L, ProgramFault>
-    ensures { MatchResult bound (λ listener. result ≡ Ok listener)
-        (λ _. result ≡ Err ProgramFault.Listen) }
-{
-    match bound {
-        Ok(listener) => Ok(listener),
-        Err(_) => Err(ProgramFault::Listen),
-    }
-}
-
-// Reads the configuration in a file.
-fn load<R: Files + AllocGlobal>(rt: &R, path: &str) -> Result<Config, ProgramFault>
-    ensures { IfErr result IsOfFile }
-{
-    let file = match fs::open(rt, path) {
-        Ok(file) => file,
-        Err(error) if error.kind() == ErrorKind::OutOfMemory => return Err(ProgramFault::NoMemory),
-        Err(_) => return Err(ProgramFault::Unreadable),
+    let line = match socket {
+        Some(path) => say_listening_at(alloc, path),
+        None => say_listening(alloc, port),
     };
-    let text = read_whole(rt.alloc(), file)?;
-    config_in(rt.alloc(), text.as_slice())
-}
-
-// Returns the configuration that a text spells. It is refused as bad only if it spells none.
-fn config_in(alloc: Global, text: &[u8]) -> Result<Config, ProgramFault>
-    requires { length text.now ≤ 65536 }
-    ensures spelled { IfOk result (Spells text.now) }
-    ensures bad { result ≡ Err ProgramFault.Bad → (config : Config) → Spells text.now config → ⊥ }
-    ensures fault { IfErr result IsOfFile }
-{
-    match read_config(alloc, text) {
-        Ok(config) => Ok(config),
-        Err(ConfigFault::Bad) => Err(ProgramFault::Bad),
-        Err(ConfigFault::NoMemory) => Err(ProgramFault::NoMemory),
-    }
-}
-
-// Returns all bytes that a reader has left, unless they are too long for a configuration.
-fn read_whole<R: Read + Drop>(alloc: Global, reader: R) -> Result<Vec<u8>, ProgramFault>
-    ensures short { IfOk result (λ text. length text.items ≤ 65536) }
-    ensures whole { IfOk result (λ text. IfSome (R.remaining reader) (λ left. text.items ≡ left)) }
-    ensures fault { IfErr result IsOfReading }
-{
-    let mut text = Vec::new(alloc);
-    match reader.take(LONGEST as u64 + 1).read_to_end(&mut text) {
-        Ok(_) if text.len() <= LONGEST => Ok(text),
-        Err(error) if error.kind() == ErrorKind::OutOfMemory => Err(ProgramFault::NoMemory),
-        _ => Err(ProgramFault::Unreadable),
-    }
+    Ok(line?)
 }

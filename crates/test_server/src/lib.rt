@@ -1,6 +1,6 @@
 //! Worked rows of the server: the line of each fault, what is told where an accept or a write fails, the numbers that
-//! sessions have, who serves them, how many items an inbox holds, and how a run ends whose journal fails. Each has the
-//! values that it must come to.
+//! sessions have, who serves them, how many items an inbox holds, how a run ends whose journal fails, and what is counted
+//! and noted beside the table. Each has the values that it must come to.
 #![tactic(auto)]
 
 #[cfg(test)]
@@ -15,3 +15,5 @@ mod running;
 mod sessions;
 #[cfg(test)]
 mod trial;
+#[cfg(test)]
+mod watching;

@@ -10,6 +10,15 @@ use std::thread;
 use std::thread::Threads;
 use std::time::Clock;
 
+// The first line.
+fn line_of(config: &Config) -> &'static str {
+    if config.port == 80 {
+        "listening 127.0.0.1:80\n"
+    } else {
+        "listening 127.0.0.1:7400\n"
+    }
+}
+
 // Stops the test if so many accepts, which fail, end otherwise, or something else was told, where the write call of this
 // number fails. A run that ran out of memory is repeated.
 fn fails<R>(
@@ -24,9 +33,23 @@ where
     R: Abort + AllocGlobal + Threads + Wait + Clock + Copy + Send + Sync + Drop + 'static,
 {
     let mut out = out_failing_at(rt, rt.alloc(), fault_at);
-    let mut served = accept_loop(rt, NoClients, config, connections, &mut out);
+    let mut served = accept_loop(
+        rt,
+        NoClients,
+        config,
+        connections,
+        line_of(config),
+        &mut out,
+    );
     if served == Err(ProgramFault::NoMemory) {
-        served = accept_loop(rt, NoClients, config, connections, &mut out);
+        served = accept_loop(
+            rt,
+            NoClients,
+            config,
+            connections,
+            line_of(config),
+            &mut out,
+        );
     }
     assert_eq!(rt; served, Err(wanted));
     assert_eq!(rt; out.taken(), told);
@@ -150,7 +173,7 @@ where
         rt,
         || {
             let mut out = out;
-            let served = accept_loop(rt, listener, config, 2, &mut out);
+            let served = accept_loop(rt, listener, config, 2, line_of(config), &mut out);
             (served, out)
         },
         || told(rt, address),

@@ -5,8 +5,9 @@ use crate::trial::{NoClients, client, listener, out_failing_at};
 use ring_config::Config;
 use ring_journal::{Batch, Fault, Medium, MemoryMedium};
 use ring_recovery::{Alarm, Recovered, recover};
-use ring_server::{JournalFault, Limits, ProgramFault, Resumed, resume_loop};
+use ring_server::{JournalFault, Limits, Meter, Others, ProgramFault, Resumed, resume_loop};
 use std::alloc::Global;
+use std::fs::{File, Files};
 use std::io::Read;
 use std::net::{Net, OpenListener, TcpListener, TcpStream};
 use std::process::Abort;
@@ -53,11 +54,13 @@ fn unsynced(alloc: Global) -> Option<Resumed<UnsyncedMedium>> {
     let charters = recovered.charters(alloc).ok()?;
     let medium = medium_of(alloc, &recovered)?;
     let life = recovered.life();
+    let meter = Arc::new(alloc, Meter::new(recovered.text().len())).ok()?;
     Some(Resumed {
         table: recovered.open(alloc, medium, bell),
         charters,
         alarm,
         life,
+        meter,
     })
 }
 
@@ -83,7 +86,18 @@ fn ends<R, L>(
     wanted: Result<(), ProgramFault>,
 )
 where
-    R: Abort + AllocGlobal + Threads + Wait + Eprint + Clock + Copy + Send + Sync + Drop + 'static,
+    R: Abort
+        + AllocGlobal
+        + Threads
+        + Wait
+        + Eprint
+        + Clock
+        + Files<File = File>
+        + Copy
+        + Send
+        + Sync
+        + Drop
+        + 'static,
     L: OpenListener<Stream = TcpStream> + Send + Drop + 'static,
 {
     let limits = Limits {
@@ -93,7 +107,16 @@ where
     };
     let mut out = out_failing_at(rt, rt.alloc(), fault_at);
     let resumed = unsynced(rt.alloc()).expect(rt, "no table");
-    let ran = resume_loop(rt, listener, None, &CONFIG, limits, resumed, &mut out);
+    let ran = resume_loop(
+        rt,
+        listener,
+        Others::none(),
+        &CONFIG,
+        limits,
+        resumed,
+        "listening 127.0.0.1:80\n",
+        &mut out,
+    );
     assert_eq!(rt; ran, wanted);
     assert_eq!(rt; out.taken(), told);
     drop(out);
@@ -116,6 +139,7 @@ where
         + Wait
         + Eprint
         + Clock
+        + Files<File = File>
         + Copy
         + Send
         + Sync

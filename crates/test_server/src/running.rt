@@ -1,6 +1,7 @@
 use crate::trial::{NoClients, client, clients, is_numbered, listener, out_failing_at};
 use ring_config::Config;
-use ring_server::{Door, Limits, ProgramFault, Serving, attend_all, run_loop};
+use ring_server::{Door, Limits, Others, ProgramFault, Serving, attend_all, run_loop};
+use std::fs::{File, Files};
 use std::io::Read;
 use std::net::{Net, SocketAddr, TcpListener, TcpStream};
 use std::process::Abort;
@@ -9,6 +10,9 @@ use std::test::Fail;
 use std::thread::Threads;
 use std::time::{Clock, Duration};
 use std::{io, thread};
+
+// The first line.
+const LINE: &str = "listening 127.0.0.1:80\n";
 
 // One session at a time, told with places.
 const ONE_SESSION: Limits = Limits {
@@ -21,7 +25,18 @@ const ONE_SESSION: Limits = Limits {
 // number fails. A run that ran out of memory is repeated.
 fn ends<R>(rt: &R, fault_at: u64, told: &[u8], wanted: Result<(), ProgramFault>)
 where
-    R: Abort + AllocGlobal + Threads + Wait + Eprint + Clock + Copy + Send + Sync + Drop + 'static,
+    R: Abort
+        + AllocGlobal
+        + Threads
+        + Wait
+        + Eprint
+        + Clock
+        + Files<File = File>
+        + Copy
+        + Send
+        + Sync
+        + Drop
+        + 'static,
 {
     let config = Config {
         workers: 2,
@@ -34,9 +49,25 @@ where
         places: false,
     };
     let mut out = out_failing_at(rt, rt.alloc(), fault_at);
-    let mut ran = run_loop(rt, NoClients, None, &config, nobody, &mut out);
+    let mut ran = run_loop(
+        rt,
+        NoClients,
+        Others::none(),
+        &config,
+        nobody,
+        LINE,
+        &mut out,
+    );
     if ran == Err(ProgramFault::NoMemory) {
-        ran = run_loop(rt, NoClients, None, &config, nobody, &mut out);
+        ran = run_loop(
+            rt,
+            NoClients,
+            Others::none(),
+            &config,
+            nobody,
+            LINE,
+            &mut out,
+        );
     }
     assert_eq!(rt; ran, wanted);
     assert_eq!(rt; out.taken(), told);
@@ -175,31 +206,6 @@ const TWO_SESSIONS: Limits = Limits {
     places: false,
 };
 
-// Runs in a thread of its own, which lasts as long as the test. Returns whether there is one.
-fn has_run<R>(rt: &R, listener: TcpListener) -> bool
-where
-    R: Abort + AllocGlobal + Threads + Wait + Eprint + Clock + Copy + Send + Sync + Drop + 'static,
-{
-    let inner = *rt;
-    let run = move || {
-        let config = Config {
-            workers: 2,
-            inbox: 1024,
-            port: 80,
-        };
-        let mut out = out_failing_at(&inner, inner.alloc(), 0);
-        let _ = run_loop(&inner, listener, None, &config, TWO_SESSIONS, &mut out);
-        drop(out);
-    };
-    match thread::spawn(rt, run) {
-        Ok(thread) => {
-            drop(thread);
-            true
-        }
-        Err(_) => false,
-    }
-}
-
 // A client that has sent a line, and is told this within some seconds. Its session lasts as long as it does.
 fn asks<R: Abort + Net<Stream = TcpStream>>(
     rt: &R,
@@ -217,23 +223,7 @@ fn asks<R: Abort + Net<Stream = TcpStream>>(
 }
 
 // A second client is told what it must while the session of the first one lasts.
-fn serves_two<R>(rt: &R) -> io::Result<()>
-where
-    R: Abort
-        + AllocGlobal
-        + Threads
-        + Wait
-        + Eprint
-        + Clock
-        + Copy
-        + Send
-        + Sync
-        + Drop
-        + 'static
-        + Net<Stream = TcpStream, Listener = TcpListener>,
-{
-    let (listener, address) = listener(rt)?;
-    assert!(rt; has_run(rt, listener));
+fn asks_twice<R: Abort + Net<Stream = TcpStream>>(rt: &R, address: SocketAddr) -> io::Result<()> {
     let one = asks(rt, address, b"create a chang\n", b"ok\n")?;
     let other = asks(rt, address, b"groups\n", b"groups a\n")?;
     drop(one);
@@ -241,8 +231,22 @@ where
     Ok(())
 }
 
-// A run has a thread for each of two sessions.
+// A run has a thread for each of two sessions. It is in a thread of its own, which lasts as long as the test.
 #[test]
 fn a_run_serves_two_clients_at_once(rt: HostRuntime) {
-    serves_two(&rt).expect(&rt, "a client has failed");
+    let (listener, address) = listener(&rt).expect(&rt, "no listener");
+    let run = move || {
+        let config = Config {
+            workers: 2,
+            inbox: 1024,
+            port: 80,
+        };
+        let others = Others::none();
+        let mut out = out_failing_at(&rt, rt.alloc(), 0);
+        let _ = run_loop(&rt, listener, others, &config, TWO_SESSIONS, LINE, &mut out);
+        drop(out);
+    };
+    let thread = thread::spawn(&rt, run).ok().expect(&rt, "no thread");
+    asks_twice(&rt, address).expect(&rt, "a client has failed");
+    drop(thread);
 }

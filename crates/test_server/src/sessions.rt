@@ -2,7 +2,7 @@ ghost use Rattle.std.specs.Prelude.{◌≡◌, ◌≤◌, All};
 
 use crate::trial::{client, listener};
 use ring_config::Config;
-use ring_server::{Front, Guest, Seat, Serving, close, front, guests, open_gated};
+use ring_server::{Front, Guest, Seat, Serving, Watch, close, front, guests, open_gated};
 use ring_table::Table;
 use ring_workers::{Gate, Pass};
 use std::alloc::Global;
@@ -77,7 +77,7 @@ where
 }
 
 // Stops the test if a client is told something else that sends these lines to a guest.
-fn is_told<R>(rt: &R, guest: &mut Guest<'_>, lines: &[u8], told: &[u8])
+pub fn is_told<R>(rt: &R, guest: &mut Guest<'_>, lines: &[u8], told: &[u8])
 where
     R: Abort + Wait + Clock + AllocGlobal + Net<Stream = TcpStream, Listener = TcpListener>,
 {
@@ -99,12 +99,18 @@ const FIVE_TOLD: &[u8] =
     b"ok\nok\nterm 1\nok\nok\nterm 1\nok\nok\nterm 1\nok\nok\nterm 1\nok\nok\nterm 1\n";
 
 // Starts a group, whose begin the worker takes, and five more. None if memory was refused.
-fn starts_six<R>(rt: &R, front: &Front, seats: Vec<Seat>, gate: &LastItem<R>) -> Option<()>
+fn starts_six<R>(
+    rt: &R,
+    front: &Front,
+    watch: &Watch,
+    seats: Vec<Seat>,
+    gate: &LastItem<R>,
+) -> Option<()>
 where
     R: Abort + Wait + Clock + AllocGlobal + Net<Stream = TcpStream, Listener = TcpListener>,
     requires { All (λ seat. seat.lock ≡ front.now.id) seats.items }
 {
-    let mut guest = guests(rt.alloc(), front, seats, 0).ok()?.pop()?;
+    let mut guest = guests(rt.alloc(), front, seats, 0, watch).ok()?.pop()?;
     is_told(rt, &mut guest, ONE, b"ok\nok\nterm 1\n");
     assert!(rt; has_come(rt, &gate.has_entered));
     is_told(rt, &mut guest, FIVE, FIVE_TOLD);
@@ -112,7 +118,42 @@ where
     Some(())
 }
 
-// How many of five begins wait for the one worker, which takes none of them, where its inbox holds so many.
+// How many of five begins wait for the one worker, which takes none of them.
+fn begins_behind<R>(
+    rt: &R,
+    config: &Config,
+    watch: &Arc<Watch>,
+    gate: &Arc<LastItem<R>>,
+) -> Option<usize>
+where
+    R: Abort
+        + Threads
+        + Wait
+        + Clock
+        + AllocGlobal
+        + Copy
+        + Send
+        + Sync
+        + Drop
+        + 'static
+        + Net<Stream = TcpStream, Listener = TcpListener>,
+{
+    let theirs = Arc::try_clone(watch).ok()?;
+    let copy = Arc::try_clone(gate).ok()?;
+    let table = Table::new(rt.alloc());
+    let Ok((service, seats)) = open_gated(rt, config, 1, table, theirs, copy) else {
+        return None;
+    };
+    let all = starts_six(rt, front(&service), watch, seats, gate);
+    gate.may_end.store(true, Ordering::SeqCst);
+    let closing = close(rt, service);
+    let waiting = closing.waiting.len();
+    drop(closing);
+    all?;
+    Some(waiting)
+}
+
+// The same, where the worker's inbox holds so many.
 fn begins_left<R>(rt: &R, inbox: usize) -> Option<usize>
 where
     R: Abort
@@ -135,16 +176,11 @@ where
         port: 80,
     };
     let gate = new_gate(rt, alloc)?;
-    let copy = Arc::try_clone(&gate).ok()?;
-    let (service, seats) = open_gated(rt, &config, 1, Table::new(alloc), copy).ok()?;
-    let all = starts_six(rt, front(&service), seats, &gate);
-    gate.may_end.store(true, Ordering::SeqCst);
+    let watch = Arc::new(alloc, Watch::new(alloc, 1).ok()?).ok()?;
+    let left = begins_behind(rt, &config, &watch, &gate);
     drop(gate);
-    let closing = close(rt, service);
-    let waiting = closing.waiting.len();
-    drop(closing);
-    all?;
-    Some(waiting)
+    drop(watch);
+    left
 }
 
 #[test]

@@ -2,7 +2,10 @@
 use Rattle.ring_server.proofs.crowd.gather.Goals as goal
 
 pub guests-requires-clause-seats : goal.guests-requires-clause-seats
-guests-requires-clause-seats g c = c.in-Ok.ensures.ours _ c.requires.seats
+guests-requires-clause-seats g c = c.in-Ok-part.ensures.ours _ (c.in-Ok.ensures.ours _ c.requires.seats)
 
 pub hosts-requires : goal.hosts-requires
-hosts-requires g c = c.in-Ok.ensures.theirs _ c.requires.seats
+hosts-requires g c = c.in-Ok-part.ensures.theirs _ (c.in-Ok.ensures.ours _ c.requires.seats)
+
+pub viewers-requires-clause-seats : goal.viewers-requires-clause-seats
+viewers-requires-clause-seats g c = c.in-Ok.ensures.theirs _ c.requires.seats

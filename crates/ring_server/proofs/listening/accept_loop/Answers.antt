@@ -1,15 +1,12 @@
 use Rattle.std.proofs.Common.{◌≡◌, ◌∙◌}
-use Rattle.ring_door.specs.Telling.{closed_line, listening_line}
+use Rattle.ring_door.specs.Telling.{closed_line}
 use Rattle.ring_server.proofs.Telling.{both_at, both_told}
 use Rattle.ring_server.proofs.listening.accept_loop.Goals as goal
 
-pub returns-in-Ok : goal.returns-in-Ok
-returns-in-Ok g c =
-    let first : c.as_str.result.now ≡ listening_line c.args.config.now.port = c.as_str.ensures.value ∙ c.in_ok-listening.ensures in
-    let last : c.as_str-in-Ok.result.now ≡ closed_line c.args.connections = c.as_str-in-Ok.ensures.value ∙ c.in_ok-closed.ensures in
-    both_told _ _ _ (listening_line c.args.config.now.port) (closed_line c.args.connections) _ c.tell.result (rw first at c.in-Ok.ensures.1) (rw last at c.tell.ensures)
+pub returns-in-Ok-served : goal.returns-in-Ok-served
+returns-in-Ok-served g c =
+    let last : c.as_str.result.now ≡ closed_line c.args.connections = c.as_str.ensures.value ∙ c.in_ok-closed.ensures in
+    both_told _ _ _ c.args.listening.now (closed_line c.args.connections) _ c.tell.result c.in-Ok-served.ensures.1 (rw last at c.tell.ensures)
 
 pub returns : goal.returns
-returns g c =
-    let first : c.as_str.result.now ≡ listening_line c.args.config.now.port = c.as_str.ensures.value ∙ c.in_ok-listening.ensures in
-    both_at _ _ _ (listening_line c.args.config.now.port) (closed_line c.args.connections) _ (rw first at c.in-Err.ensures)
+returns g c = both_at _ _ _ c.args.listening.now (closed_line c.args.connections) _ c.in-Err.ensures

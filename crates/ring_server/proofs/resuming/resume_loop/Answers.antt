@@ -1,7 +1,5 @@
 use denote.Param.{param}
 use denote.Param.Send.{param_send, param_sync}
-use Rattle.std.proofs.Common.{◌≡◌, ◌∙◌}
-use Rattle.ring_door.specs.Telling.{listening_line}
 use Rattle.ring_recovery.proofs.Crossing.{written_table_send}
 use Rattle.ring_server.proofs.Ending.{begun_at, ended_at}
 use Rattle.ring_server.proofs.Lasting.{written_table_sync}
@@ -17,11 +15,7 @@ start-requires-sync-T g c κs within =
     let sync = param_sync 2 _ (written_table_sync (param 2 g.row.D) g.D.Medium c.type_bounds.sync-D) in record { shared = sync.shared }
 
 pub returns-in-Ok : goal.returns-in-Ok
-returns-in-Ok g c =
-    let first : c.as_str.result.now ≡ listening_line c.args.config.now.port = c.as_str.ensures.value ∙ c.in_ok-listening.ensures in
-    ended_at _ _ _ (listening_line c.args.config.now.port) c.wait_for_end.result (rw first at c.in-Ok.ensures) c.wait_for_end.ensures
+returns-in-Ok g c = ended_at _ _ _ c.args.listening.now c.wait_for_end.result c.in-Ok.ensures c.wait_for_end.ensures
 
 pub returns : goal.returns
-returns g c =
-    let first : c.as_str.result.now ≡ listening_line c.args.config.now.port = c.as_str.ensures.value ∙ c.in_ok-listening.ensures in
-    begun_at _ _ _ (listening_line c.args.config.now.port) _ (rw first at c.in-Err.ensures)
+returns g c = begun_at _ _ _ c.args.listening.now _ c.in-Err.ensures

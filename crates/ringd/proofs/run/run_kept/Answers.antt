@@ -1,18 +1,10 @@
-use denote.Param.{copied}
-use denote.Param.Send.{param_send, param_sync}
-use Rattle.ring_door.specs.Telling.{listening_line}
-use Rattle.ringd.proofs.Crossing.{file_send, file_sync}
+use Rattle.std.proofs.Common.{◌≡◌, ◌∙◌}
 use Rattle.ringd.proofs.Telling.{kept_told}
+use Rattle.ringd.specs.Run.{first_line}
 use Rattle.ringd.proofs.run.run_kept.Goals as goal
 
--- the file may go to the thread that serves, since the handle may
-pub resume_loop-requires-send-D : goal.resume_loop-requires-send-D
-resume_loop-requires-send-D g c κs within =
-    let send = param_send 2 _ (file_send (copied 0 g.row.R) c.type_bounds.send-R) in record { owned = send.owned; leaving = send.leaving }
-
-pub resume_loop-requires-sync-D : goal.resume_loop-requires-sync-D
-resume_loop-requires-sync-D g c κs within =
-    let sync = param_sync 2 _ (file_sync (copied 0 g.row.R) c.type_bounds.sync-R) in record { shared = sync.shared }
-
 pub returns : goal.returns
-returns g c = kept_told _ _ _ listening_line c.in_ok-config.config.port c.resume_loop.result c.resume_loop.ensures
+returns g c =
+    let port = c.in_ok-config.config.port in
+    let is : c.as_str-first.result.now ≡ first_line port c.args.places.sessions = c.as_str-first.ensures.value ∙ c.in_ok-first.ensures.line in
+    kept_told _ _ _ (λ p. first_line p c.args.places.sessions) c.as_str-first.result.now port is c.resume_at-ran.result c.resume_at-ran.ensures
