@@ -1,9 +1,12 @@
 //! A connection to a service.
 use crate::fault::Fault;
 use crate::reply::{Reply, read_reply};
+use crate::words::path_of;
 use std::alloc::Global;
 use std::io::{self, BufRead, BufReader, ErrorKind, Read, Write};
 use std::net::{Net, TcpStream, ToSocketAddrs};
+use std::os::fd::OwnedFd;
+use std::os::unix::net::UnixStream;
 use std::time::Duration;
 
 // The time limit of a connection, a write and a read, in seconds.
@@ -22,26 +25,24 @@ pub struct Client<S: Drop> {
 }
 
 impl Client<TcpStream> {
-    /// Connects to the service at `HOST:PORT`. Tries each address of the host. Fails with
-    /// `NoService` if none can be connected to, and with `NoMemory` if an allocation fails.
+    /// Connects to the service at `HOST:PORT` or `unix:PATH`. Tries each address of the host. Fails
+    /// with `NoService` if none can be connected to, and with `NoMemory` if an allocation fails.
     pub fn reach<R>(rt: &R, address: &str) -> Result<Client<TcpStream>, Fault>
     where
         R: AllocGlobal + Net<Stream = TcpStream>,
     {
-        let Ok(addresses) = address.to_socket_addrs(rt) else {
+        let reached = match path_of(address) {
+            Some(path) => connect_to(rt, path),
+            None => connect(rt, address),
+        };
+        let Some(stream) = reached else {
             return Err(Fault::NoService);
         };
         let patience = Duration::from_secs(PATIENCE);
-        for address in addresses {
-            let Ok(stream) = TcpStream::connect_timeout(rt, &address, patience) else {
-                continue;
-            };
-            let _ = stream.set_nodelay(true);
-            let _ = stream.set_read_timeout(Some(patience));
-            let _ = stream.set_write_timeout(Some(patience));
-            return Client::over(rt.alloc(), stream);
-        }
-        Err(Fault::NoService)
+        let _ = stream.set_nodelay(true);
+        let _ = stream.set_read_timeout(Some(patience));
+        let _ = stream.set_write_timeout(Some(patience));
+        Client::over(rt.alloc(), stream)
     }
 
     /// Sets how long `hear` waits for a reply, in milliseconds. Fails with `NoService` if the
@@ -117,6 +118,27 @@ impl<S: Read + Write + Drop> Client<S> {
             Ok(()) => Ok(()),
             Err(_) => Err(Fault::NoService),
         }
+    }
+}
+
+// Connects to the first address of `HOST:PORT` that answers.
+fn connect<R: Net<Stream = TcpStream>>(rt: &R, address: &str) -> Option<TcpStream> {
+    let addresses = address.to_socket_addrs(rt).ok()?;
+    for address in addresses {
+        let patience = Duration::from_secs(PATIENCE);
+        if let Ok(stream) = TcpStream::connect_timeout(rt, &address, patience) {
+            return Some(stream);
+        }
+    }
+    None
+}
+
+// Connects to the socket at a path. Its stream is read, written and timed as one to a port is, so
+// it has the same type.
+fn connect_to<R: Net>(rt: &R, path: &str) -> Option<TcpStream> {
+    match UnixStream::connect(rt, path) {
+        Ok(stream) => Some(TcpStream::from(OwnedFd::from(stream))),
+        Err(_) => None,
     }
 }
 

@@ -1,5 +1,5 @@
 //! The words of the command line, and the orders that they give.
-ghost use Rattle.std.specs.Prelude.{◌≡◌, ℕ, IfNone, IfSome, string_bytes};
+ghost use Rattle.std.specs.Prelude.{◌≡◌, ◌≢◌, ◌++◌, ℕ, List, IfNone, IfSome, MatchOption, codes, string_bytes};
 ghost use Rattle.ringctl.specs.private.Words.{IsAsk, IsCampaign, SpellsNoCommand, SpellsNoJoin, joins};
 
 use clap::error::ErrorKind;
@@ -39,7 +39,7 @@ Without a command, ringctl sends each line of standard input and prints its repl
 A watch asks a member once a second what it knows. When the answer has changed, it asks for
 the terms. 'ringd run' keeps nothing of these questions; 'ringd serve' keeps each until it ends.
 
-A campaign needs the port of 'ringd run --campaign PORT'. It sends a sign of life twice a second.
+A campaign needs the place of 'ringd run --campaign PLACE'. It sends a sign of life twice a second.
 
 Exit status:
   0   The command was done.
@@ -83,8 +83,10 @@ fn command<'a>(alloc: Global) -> Result<Command<'a>, AllocError> {
 fn address_arg<'a>(alloc: Global) -> Arg<'a> {
     Arg::new(alloc, "address")
         .long("address")
-        .value_name("HOST:PORT")
-        .help("The address of the service [default: 127.0.0.1:7400; for campaign 127.0.0.1:7401]")
+        .value_name("ADDRESS")
+        .help(
+            "The address of the service: HOST:PORT, or unix:PATH for a socket [default: 127.0.0.1:7400; for campaign 127.0.0.1:7401]",
+        )
 }
 
 // The option with the length of a watch.
@@ -138,7 +140,7 @@ fn asked_of(
     let given = matches.get_strs("words").unwrap_or(&[]);
     let address = matches.get_str("address").unwrap_or(usual_address(given));
     if !is_address(address) {
-        return Ok(Err("the address must be HOST:PORT, with a port of 1 to 65535"));
+        return Ok(Err("the address must be HOST:PORT, with a port of 1 to 65535, or unix:PATH"));
     }
     match order_of(alloc, given, matches.get_one::<u32>("for"))? {
         Some(order) => Ok(Ok(Asked {
@@ -157,8 +159,11 @@ fn usual_address(words: &[&str]) -> &'static str {
     }
 }
 
-// Returns whether this is a host and a port.
+// Returns whether this is a host and a port, or the path of a socket.
 fn is_address(text: &str) -> bool {
+    if let Some(path) = path_of(text) {
+        return !path.is_empty();
+    }
     let Some((host, port)) = text.rsplit_once(':') else {
         return false;
     };
@@ -166,6 +171,16 @@ fn is_address(text: &str) -> bool {
         Ok(port) => port > 0 && !host.is_empty(),
         Err(_) => false,
     }
+}
+
+/// Returns the path of the socket that an address names: what follows `unix:`. Returns `None` if
+/// the address is that of a port.
+pub fn path_of(address: &str) -> Option<&str>
+    ensures { MatchOption result
+        ((path : List ℕ) → address.now ≢ codes "unix:" ++ path)
+        (λ path. address.now ≡ codes "unix:" ++ path.now) }
+{
+    address.strip_prefix("unix:")
 }
 
 // Returns the order that these words give, or `None` if they give none. Only a watch may have an
