@@ -1,6 +1,10 @@
-"""Shared by the checks of the program as a server: a client, a free port, a configuration."""
+"""Shared by the checks of the program as a server: a client, a free port, a configuration.
+
+A place is the number of a port, or the path of a socket as a text.
+"""
 
 import contextlib
+import pathlib
 import socket
 import struct
 
@@ -37,12 +41,33 @@ def text_of(port, workers=2, inbox=1024):
     return f"workers = {workers}\ninbox = {inbox}\nport = {port}\n".encode()
 
 
+def free_place(folder, name, is_path):
+    """A free port, or the path of a socket with this name in a folder."""
+    return str(pathlib.Path(folder, name)) if is_path else free_port()
+
+
+def first_line(place):
+    """The line by which the program says that it listens."""
+    return b"listening %s\n" % (place if isinstance(place, str) else f"{HOST}:{place}").encode()
+
+
+def connected(place):
+    """A connection to a place."""
+    if isinstance(place, str):
+        there = socket.socket(socket.AF_UNIX)
+        there.settimeout(PATIENCE)
+        there.connect(place)
+        return there
+    there = socket.create_connection((HOST, place), timeout=PATIENCE)
+    there.setsockopt(socket.IPPROTO_TCP, socket.TCP_NODELAY, 1)
+    return there
+
+
 class Client:
     """A connection to the program."""
 
-    def __init__(self, port):
-        self.socket = socket.create_connection((HOST, port), timeout=PATIENCE)
-        self.socket.setsockopt(socket.IPPROTO_TCP, socket.TCP_NODELAY, 1)
+    def __init__(self, place):
+        self.socket = connected(place)
         self.rest = b""
 
     def send(self, lines):

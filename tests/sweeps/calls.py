@@ -29,6 +29,7 @@ ASK_AGAIN = {
     ),
     "test_table_tests": ("closing_rows::", "seat_rows::", "table_rows::", *SHARED),
     "test_winner_tests": ("",),
+    "test_chart_tests": ("",),
 }
 # Tests that start threads, and end whichever growth is refused.
 THREADED = {

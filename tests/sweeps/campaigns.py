@@ -12,7 +12,8 @@ With a journal, the program ends if it can't be synced. Then a restart has what 
 campaigns takes all members out.
 """
 
-from candidates import Gone, Group
+from candidates import Group
+from failing import Gone
 from journal import ENDED, FAILED
 from serving import serving
 from sweep import Bad, FAULTS, NO_MEMORY
@@ -28,9 +29,9 @@ HOWS = {"read": MOVING, "write": MOVING, "accept": (("fail", 1), ("fail", 3), ("
 CERTAIN = ("accept", "setsockopt")
 SYNCS = ("fail", "exit", "done")
 AGAIN = b"ringd: accept failed, trying again\n"
-UNTHREADED = b"ringd: thread failed\n"
+UNTHREADED, UNREADABLE = b"ringd: thread failed\n", b"ringd: config unreadable\n"
 # What the program says if a call goes wrong before it listens.
-AT_START = {"growth": (NO_MEMORY, UNTHREADED), "spawn": (UNTHREADED,), "read": (b"ringd: config unreadable\n",),
+AT_START = {"growth": (NO_MEMORY, UNTHREADED), "spawn": (UNTHREADED,), "read": (UNREADABLE,), "open": (UNREADABLE,),
             "write": (FAULTS[b"write"],), "setsockopt": (b"ringd: listen failed\n",), "accept": ()}
 
 

@@ -1,7 +1,7 @@
 """Clients that campaign in one group of a running program, and a session that asks who is a member.
 
-Each line that a client is told is compared with the one before it, and with what others were told. The program may end a
-connection, or refuse memory to a command, no more often than calls went wrong in it. The client then comes again.
+Each line that a client is told is compared with the one before it, and with what others were told. How often a
+connection may end, or memory be refused to a command, is in failing.py.
 """
 
 import contextlib
@@ -9,10 +9,10 @@ import re
 import select
 import socket
 import struct
-import subprocess
 import time
 
-from serving import PATIENCE, Client, Lost
+from failing import REFUSED, Failing
+from serving import PATIENCE
 from sweep import Bad
 
 # The members by their numbers, as lines name them. The first comes alone.
@@ -20,14 +20,8 @@ NAMES = {3: b"3", 1: b"1/9", 2: b"2"}
 WAYS = ("close", "reset", "half")
 # How long a leader is waited for if a worker may have starved, and how long one look at all sockets takes at most.
 STARVED, LOOK = 0.15, 0.02
-# The calls by which a connection may end, or a command be refused, if they fail.
-LETTING_GO = ("growth", "read", "write", "setsockopt")
-REFUSED, NO_TERM, NOT_IN_TERM = b"no no-memory", b"no no-term", b"no not-in-term"
+NO_TERM, NOT_IN_TERM = b"no no-term", b"no not-in-term"
 OF_TERM = rb"undecided [1-9][0-9]*|leader [1-9][0-9]* [1-9][0-9/]*"
-
-
-class Gone(Exception):
-    """The program takes no more clients."""
 
 
 def rank(name):
@@ -118,58 +112,13 @@ class Candidate:
         self.has_joined = False
 
 
-class Group:
+class Group(Failing):
     """A group, its candidates, and a session that asks who is a member."""
 
     def __init__(self, server, call, how, kind):
-        self.server, self.kind, self.leaders, self.newest = server, kind, {}, 0
-        self.may_fail, self.may_starve = how == "fail" and call in LETTING_GO, call == "growth"
-        self.failed = self.lines = 0
-        self.candidates, self.session = [Candidate(self, number) for number in NAMES], None
-
-    def wrong(self):
-        """How many calls went wrong that may end a connection or refuse a command."""
-        return self.server.told() if self.may_fail else 0
-
-    def starves(self):
-        """Whether memory was refused."""
-        return self.may_starve and self.wrong() > 0
-
-    def fail(self, what):
-        """Notes an end or a refusal. Each needs a call that went wrong, unless the program ends."""
-        self.failed += 1
-        if self.failed > self.wrong():
-            try:
-                self.server.run.wait(timeout=PATIENCE)
-            except subprocess.TimeoutExpired:
-                raise Bad(f"{what}: that is failure {self.failed}, and {self.wrong()} calls went wrong") from None
-            raise Gone
-
-    def connect(self, port):
-        """A client of one of the ports."""
-        try:
-            return Client(port)
-        except Lost:
-            raise Gone from None
-
-    def ask(self, line, wanted):
-        """Asks in a session until the line is answered. The answer is the reply, which is one of those wanted."""
-        while True:
-            self.session = self.session or self.connect(self.server.port)
-            try:
-                reply = self.session.ask(line)
-            except Lost:
-                self.session.socket.close()
-                self.session = None
-                self.fail(f"a session ended at {line!r}")
-                continue
-            self.lines += 1
-            if reply != REFUSED:
-                break
-            self.fail(f"{line!r} is refused memory")
-        if not re.fullmatch(wanted, reply):
-            raise Bad(f"{line!r} is answered {reply!r}")
-        return reply
+        super().__init__(server, call, how)
+        self.kind, self.leaders, self.newest = kind, {}, 0
+        self.candidates = [Candidate(self, number) for number in NAMES]
 
     def there(self):
         """The candidates that are connected."""

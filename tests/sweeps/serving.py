@@ -78,11 +78,11 @@ class Client:
 
 class Server:
     """A run of the program that serves clients, where the calls go wrong that the names say. It has a journal if the
-    bytes of one are given, and a second port if campaigns are asked for."""
+    bytes of one are given, and a second port if campaigns or HTTP are asked for."""
 
-    def __init__(self, library, program, words, workers=2, inbox=64, journal=None, campaigns=False, **wrong):
+    def __init__(self, library, program, words, workers=2, inbox=64, journal=None, campaigns=False, http=False, **wrong):
         self.program, self.words, self.workers, self.inbox = program, words, workers, inbox
-        self.campaigns, self.may_refuse_ports = campaigns, "setsockopt" in wrong
+        self.campaigns, self.http, self.may_refuse_ports = campaigns, http, "setsockopt" in wrong
         settings = {f"SWEEP_{name.upper()}": str(value) for name, value in wrong.items()}
         self.environment = {**os.environ, "LD_PRELOAD": str(library), **settings}
         self.folder = tempfile.TemporaryDirectory()
@@ -113,6 +113,9 @@ class Server:
         if self.campaigns:
             self.second = next_port()
             words += ["--campaign", str(self.second)]
+        if self.http:
+            self.web = next_port()
+            words += ["--http", str(self.web)]
         self.run = subprocess.Popen(words, stdin=subprocess.DEVNULL, stdout=subprocess.PIPE,
                                     stderr=subprocess.PIPE, pass_fds=[theirs],
                                     env={**self.environment, "SWEEP_TELL": str(theirs)})

@@ -1,0 +1,78 @@
+"""A client of the port of `ringd run --http`, and what the program uses meanwhile."""
+
+import http.client
+import json
+import os
+import pathlib
+import time
+
+from serving import HOST, PATIENCE, Differs, same
+from web.metrics import samples_in
+
+POLICY = "default-src 'self'"
+JSON, METRICS = "application/json", "text/plain; version=0.0.4; charset=utf-8"
+
+
+class Web:
+    """A connection for one request after another. Each place that it is told is greater than the one before."""
+
+    def __init__(self, port):
+        self.link = http.client.HTTPConnection(HOST, port, timeout=PATIENCE)
+        self.place = -1
+
+    def get(self, path, method="GET", host=None):
+        """A response: its status, its fields and its body."""
+        self.link.request(method, path, headers={"Host": host} if host else {})
+        response = self.link.getresponse()
+        body = response.read()
+        same(f"the policy of {path}", response.getheader("content-security-policy"), POLICY)
+        same(f"the cookies of {path}", response.getheader("set-cookie"), None)
+        return response.status, response, body
+
+    def body(self, path, kind):
+        """The body of a response that has to be good, and of this type."""
+        status, response, body = self.get(path)
+        same(f"the status and type of {path}", (status, response.getheader("content-type")), (200, kind))
+        return body
+
+    def told(self, path):
+        """The JSON of a path, with its place."""
+        value = json.loads(self.body(path, JSON))
+        self.rise(value["place"], path)
+        return value
+
+    def samples(self):
+        """The samples of the metrics."""
+        samples = samples_in(self.body("/metrics", METRICS).decode())
+        self.rise(samples["ringd_entries_total"], "/metrics")
+        return samples
+
+    def rise(self, place, path):
+        """Notes a place that this connection was told."""
+        if place <= self.place:
+            raise Differs(f"{path} tells place {place} after {self.place}")
+        self.place = place
+
+    def close(self):
+        """Ends the connection."""
+        self.link.close()
+
+
+def used(pid):
+    """The threads, the descriptors and the resident bytes of a process."""
+    threads = len(os.listdir(f"/proc/{pid}/task"))
+    pages = int(pathlib.Path(f"/proc/{pid}/statm").read_text(encoding="utf-8").split()[1])
+    return threads, len(os.listdir(f"/proc/{pid}/fd")), pages * os.sysconf("SC_PAGE_SIZE")
+
+
+def at_rest(pid):
+    """What a process uses, once the number of its threads and descriptors has been the same for half a second. The
+    program closes a connection some time after its client."""
+    seen, since = used(pid), time.monotonic()
+    while time.monotonic() < since + 0.5:
+        time.sleep(0.02)
+        now = used(pid)
+        if now[:2] != seen[:2]:
+            since = time.monotonic()
+        seen = now
+    return seen

@@ -1,0 +1,86 @@
+"""The metrics that are not of groups: clients, refusals, resident memory and the journal."""
+
+import time
+
+from serving import PATIENCE, Client, Differs, same
+from web import metrics
+from web.asking import METRICS, Web, used
+from web.metrics import of
+from web.refused import GOOD
+
+# The lines of a session that are refused, with the words. A line that is no command does not come to the table, and is
+# not counted.
+REFUSED = {b"create a chang": "exists", b"members none": "no-group", b"join a 1": "member", b"leave a 99": "not-member",
+           b"start empty": "empty", b"who empty 1": "no-term", b"who a 99": "not-in-term", b"hello": "bad-line"}
+UNCOUNTED = ("bad-line",)
+# as many as serve each port at a time without --sessions
+THREADS = 16
+# By how many bytes resident memory may differ that is read twice.
+APART = 1 << 20
+
+
+def check_figures(service):
+    """Clients, refusals, memory and the journal are counted as they are."""
+    web, client = Web(service.web), Client(service.port)
+    metrics.check_lint(web.body("/metrics", METRICS))
+    before = web.samples()
+    metrics.check_names(before, not service.has_journal, service.has_journal)
+    same("failed accepts", before["ringd_failed_accepts_total"], 0)
+    check_refusals(web, client)
+    check_clients(service, web)
+    resident, seen = web.samples()["process_resident_memory_bytes"], used(service.run.pid)[2]
+    if abs(resident - seen) > APART:
+        raise Differs(f"resident memory: {resident}, and not {seen}")
+    if service.has_journal:
+        check_journal(service, web, client)
+    client.close()
+    web.close()
+
+
+def check_refusals(web, client):
+    """Each refused command of a session is counted once. A scrape's own questions are counted too, always alike."""
+    first, before = web.samples(), web.samples()
+    for line, word in REFUSED.items():
+        same(line, client.ask(line + b"\n"), f"no {word}\n".encode())
+    after = web.samples()
+    for word in metrics.REFUSALS:
+        name = of("ringd_refusals_total", "refusal", word)
+        count = 0 if word in UNCOUNTED else list(REFUSED.values()).count(word)
+        same(name, after[name] - 2 * before[name] + first[name], count)
+
+
+def expect_clients(web, port, count):
+    """Waits until so many clients of a port are told. The program notices some time later that a client has gone."""
+    name, until = of("ringd_clients", "port", port), time.monotonic() + PATIENCE
+    while (seen := web.samples()[name]) != count:
+        if time.monotonic() > until:
+            raise Differs(f"{name}: {seen}, and not {count}")
+
+
+def check_clients(service, web):
+    """As many clients are told as there are. One session and one client of HTTP ask meanwhile."""
+    asked = [("sessions", service.port, 1, b"groups\n"), ("http", service.web, 1, GOOD)]
+    asked += [] if service.has_journal else [("campaigns", service.campaigns, 0, b"")]
+    for port, number, others, text in asked:
+        same(f"the limit of {port}", web.samples()[of("ringd_clients_limit", "port", port)], THREADS)
+        expect_clients(web, port, others)
+        clients = [Client(number) for _ in range(3)]
+        for client in clients:
+            client.send(text)
+        expect_clients(web, port, others + 3)
+        for client in clients:
+            client.close()
+        expect_clients(web, port, others)
+
+
+def check_journal(service, web, client):
+    """A change is synced and makes the journal longer. A question does not."""
+    before = web.samples()
+    client.ask(b"members a\n")
+    same("the journal after a question", *[[it[name] for name in metrics.JOURNAL] for it in (web.samples(), before)])
+    same("join and leave", client.ask(b"join empty 7\n") + client.ask(b"leave empty 7\n"), b"ok\nok\n")
+    after = web.samples()
+    for name in metrics.JOURNAL:
+        if after[name] <= before[name]:
+            raise Differs(f"{name} is {after[name]} after two changes, and was {before[name]}")
+    same("the bytes of the journal", after["ringd_journal_bytes"], len(service.journal.read_bytes().rstrip(b"\0")))
