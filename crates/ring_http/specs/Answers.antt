@@ -90,7 +90,7 @@ pub record IsDrawn (sent : List Header) (response : Response) : Type 0 where
   pub says : Says 200 sent picture response ⊎ Says 404 sent no_picture response
 
 -- `last` is the last place that was told on the connection before, and `later` the last one after:
--- what a response tells is told at the place `later`, which is greater than `last`.
+-- the place of what a response says is `later`, which is greater than `last`.
 module _ (base most session : ℕ) (sent : List Header) (mine : List (Entry Any)) (last : ℕ)
     (response : Response) (now : List (Entry Any)) (later : ℕ) where
   -- There is no answer, for a reason. A group that is not there is a 404 where it was asked for.

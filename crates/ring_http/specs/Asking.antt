@@ -17,7 +17,7 @@ use Rattle.ring_http.specs.declared.asking.Lack.{Lack}
 use Rattle.ring_http.specs.declared.asking.Lack.TheVariants.{NoGroup, Odd, Unplaced}
 use Rattle.ring_http.specs.declared.picture.GroupPicture.{GroupPicture}
 
--- a place that is told, given what is added to each and how many the access has
+-- a place in a response, given the number that is added to each, and how many the access has
 abbrev pub IsPlaceFrom : ℕ → ℕ → ℕ → Type 0
 IsPlaceFrom base most place = (base ≤ place) × (place < base + most)
 

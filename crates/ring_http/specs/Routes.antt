@@ -34,7 +34,7 @@ is_for_here head = is_host_local (uri_authority head.uri) (get head.headers (cod
 abbrev pub reads : List ℕ → Bool
 reads method = bytes_eq method (codes "GET") || bytes_eq method (codes "HEAD")
 
--- the path of what there is
+-- the path of each resource
 abbrev pub path_of : Resource → List ℕ
 path_of Page = codes "/"
 path_of Script = codes "/app.js"

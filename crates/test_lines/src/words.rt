@@ -49,8 +49,8 @@ fn replay_is_an_order(rt: HostRuntime) {
     }
 }
 
-// Stops the test if a command line doesn't have so many clients served, by the file `x`, on a socket with this path and
-// mode. An empty text is none.
+// Stops the test unless a command line serves `wanted` clients by the file `x`, on a socket with this path and mode. An
+// empty text is none.
 fn serves(rt: &impl Abort, alloc: Global, line: &str, wanted: u32, given: [&str; 2]) {
     let order = read_again(alloc, line);
     match &order {
@@ -86,9 +86,9 @@ fn serve_names_a_file_and_a_number(rt: HostRuntime) {
     }
 }
 
-// Stops the test if a command line doesn't have clients served by the file `x`, so many at a time, each for so many
-// silent seconds, with places if these are told. The texts are those of the journal, of the places for campaigns and for
-// HTTP, of the socket and of its mode. An empty text is none.
+// Stops the test unless a command line serves clients by the file `x`. The numbers are how many are served at a time,
+// and after how many silent seconds one is let go. The texts are those of the journal, of the places for campaigns and
+// for HTTP, of the socket and of its mode. An empty text is none.
 fn runs(
     rt: &impl Abort,
     alloc: Global,
