@@ -15,7 +15,8 @@ def check_picture(port, group, leader):
     path = f"/v1/groups/{group}/election.svg"
     status, response, body = web.get(path)
     if leader is None:
-        same(path, (status, body), (404, NO_PICTURE))
+        kind = response.getheader("content-type")
+        same(path, (status, kind, body), (404, "text/plain; charset=utf-8", NO_PICTURE))
     else:
         same(f"the status and type of {path}", (status, response.getheader("content-type")), (200, "image/svg+xml"))
         look_at(xml.etree.ElementTree.fromstring(body), leader)

@@ -43,6 +43,7 @@ REASONS = [
     (GOOD.replace(b"\r\n", b"\n"), [400]), (ask(host=b"", line=b"GET / HTTP/1.0"), [421]),
     (ask(host=b"Host: example.org\r\n"), [421]), (ask(line=b"GET http://example.org/ HTTP/1.1"), [421]),
     (ask(line=b"GET http://localhost/healthz HTTP/1.1", host=b"Host: example.org\r\n"), [200]),
+    (ask(host=b"Host: LOCALHOST\r\n"), [200]), (ask(line=b"GET http://LOCALHOST/healthz HTTP/1.1"), [200]),
     (ask(line=b"GET * HTTP/1.1"), [404]), (ask(line=b"GET /v1/groups/%61 HTTP/1.1"), [404]),
     (ask(line=b"CONNECT localhost:80 HTTP/1.1"), [405]), (ask(line=b"get / HTTP/1.1"), [405]),
     (ask(b"Upgrade: websocket", b"Connection: upgrade"), [200]),

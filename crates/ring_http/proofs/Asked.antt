@@ -1,7 +1,6 @@
 -- Whatever is answered, questions alone were asked, and the last place that was told did not fall.
 use Rattle.std.proofs.Common.{◌≡◌, ◌≤◌, ℕ, List, Result, Ok, Err, OnErr, OnOk, ap, arith, inl, inr, refl}
 use Rattle.http.specs.declared.request.Parts.{Parts}
-use Rattle.http1.specs.Fields.{Header}
 use Rattle.http_server.specs.declared.response.Response.{Response}
 use Rattle.ring_any.specs.declared.any.Any.{Any}
 use Rattle.ring_events.specs.declared.event.Command.TheVariants as command
@@ -9,7 +8,7 @@ use Rattle.ring_events.specs.declared.reply.Reply.TheVariants as reply
 use Rattle.ring_table.specs.declared.entry.Entry.{Entry}
 use Rattle.ring_table.specs.declared.entry.Entry.TheVariants.{Call}
 use Rattle.ring_http.specs.Answering.{IsAnswered}
-use Rattle.ring_http.specs.Answers.{Answers, Shows, fields_for}
+use Rattle.ring_http.specs.Answers.{Answers, Shows}
 use Rattle.ring_http.specs.Asking.{AddsQuestions}
 use Rattle.ring_http.specs.declared.route.Resource.{Resource}
 use Rattle.ring_http.specs.declared.route.Resource.TheVariants.{Page, Script, Style, Health, Metrics, Groups, Group, Election}
@@ -19,48 +18,48 @@ use Rattle.ring_http.proofs.Questions.{adds_more, adds_none, adds_one}
 
 module _ (base most session : ℕ) (mine : List (Entry Any)) (last : ℕ) (response : Response) (now : List (Entry Any)) (later : ℕ) where
   -- what is shown of a resource
-  shown : (sent : List Header) (resource : Resource) → Shows base most session sent mine last response now later resource → AddsQuestions session mine now
-  shown sent Page page = adds_none session mine now page.same
-  shown sent Script page = adds_none session mine now page.same
-  shown sent Style page = adds_none session mine now page.same
-  shown sent Health (inl names) = adds_one session mine now (Call session command.Groups (reply.Groups names.names)) refl names.gained
-  shown sent Health (inr lack) = lack.lacks.adds
-  shown sent Groups (inl names) = adds_one session mine now (Call session command.Groups (reply.Groups names.names)) refl names.gained
-  shown sent Groups (inr lack) = lack.lacks.adds
-  shown sent Metrics (inl all) = adds_more session mine all.mid now (adds_one session mine all.mid (Call session command.Groups (reply.Groups all.names)) refl all.listed) all.each.adds
-  shown sent Metrics (inr lack) = lack.lacks.adds
-  shown sent (Group name) (inl group) = adds_more session mine group.mid now group.earlier group.pictured.adds
-  shown sent (Group name) (inr lack) = lack.lacks.adds
-  shown sent (Election name) drawn = adds_none session mine now drawn.same
+  shown : (resource : Resource) → Shows base most session mine last response now later resource → AddsQuestions session mine now
+  shown Page page = adds_none session mine now page.same
+  shown Script page = adds_none session mine now page.same
+  shown Style page = adds_none session mine now page.same
+  shown Health (inl names) = adds_one session mine now (Call session command.Groups (reply.Groups names.names)) refl names.gained
+  shown Health (inr lack) = lack.lacks.adds
+  shown Groups (inl names) = adds_one session mine now (Call session command.Groups (reply.Groups names.names)) refl names.gained
+  shown Groups (inr lack) = lack.lacks.adds
+  shown Metrics (inl all) = adds_more session mine all.mid now (adds_one session mine all.mid (Call session command.Groups (reply.Groups all.names)) refl all.listed) all.each.adds
+  shown Metrics (inr lack) = lack.lacks.adds
+  shown (Group name) (inl group) = adds_more session mine group.mid now group.earlier group.pictured.adds
+  shown (Group name) (inr lack) = lack.lacks.adds
+  shown (Election name) drawn = adds_none session mine now drawn.same
 
   -- the last place that was told
-  shown_rises : (sent : List Header) (resource : Resource) → Shows base most session sent mine last response now later resource → last ≤ later
-  shown_rises sent Page page = omega (arith, page.still)
-  shown_rises sent Script page = omega (arith, page.still)
-  shown_rises sent Style page = omega (arith, page.still)
-  shown_rises sent Health (inl names) = omega (arith, names.placed.1)
-  shown_rises sent Health (inr lack) = lack.rises
-  shown_rises sent Groups (inl names) = omega (arith, names.placed.1)
-  shown_rises sent Groups (inr lack) = lack.rises
-  shown_rises sent Metrics (inl all) = omega (arith, all.placed.1)
-  shown_rises sent Metrics (inr lack) = lack.rises
-  shown_rises sent (Group name) (inl group) = omega (arith, group.placed.1)
-  shown_rises sent (Group name) (inr lack) = lack.rises
-  shown_rises sent (Election name) drawn = omega (arith, drawn.still)
+  shown_rises : (resource : Resource) → Shows base most session mine last response now later resource → last ≤ later
+  shown_rises Page page = omega (arith, page.still)
+  shown_rises Script page = omega (arith, page.still)
+  shown_rises Style page = omega (arith, page.still)
+  shown_rises Health (inl names) = omega (arith, names.placed.1)
+  shown_rises Health (inr lack) = lack.rises
+  shown_rises Groups (inl names) = omega (arith, names.placed.1)
+  shown_rises Groups (inr lack) = lack.rises
+  shown_rises Metrics (inl all) = omega (arith, all.placed.1)
+  shown_rises Metrics (inr lack) = lack.rises
+  shown_rises (Group name) (inl group) = omega (arith, group.placed.1)
+  shown_rises (Group name) (inr lack) = lack.rises
+  shown_rises (Election name) drawn = omega (arith, drawn.still)
 
   -- what is answered
   answered : (route : Route) → Answers base most session route mine last response now later → AddsQuestions session mine now
   answered Misdirected says = adds_none session mine now says.0
   answered NotAllowed says = adds_none session mine now says.0
   answered Unknown says = adds_none session mine now says.0
-  answered (Found resource) shows = shown (fields_for (Found resource)) resource shows
+  answered (Found resource) shows = shown resource shows
 
   -- the last place that was told
   rises : (route : Route) → Answers base most session route mine last response now later → last ≤ later
   rises Misdirected says = omega (arith, says.1)
   rises NotAllowed says = omega (arith, says.1)
   rises Unknown says = omega (arith, says.1)
-  rises (Found resource) shows = shown_rises (fields_for (Found resource)) resource shows
+  rises (Found resource) shows = shown_rises resource shows
 
 -- an answer, or an error at which the seat is as it was
 pub questions_of : {T E S : Type 0} (result : Result T E) (base most session : ℕ) (head : Parts) (mine : S → List (Entry Any)) (old new : S) (last : ℕ) (response : Response) (later : ℕ) → OnOk result (IsAnswered base most session head (mine old) last response (mine new) later) → OnErr result ((new ≡ old) × (later ≡ last))

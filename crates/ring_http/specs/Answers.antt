@@ -1,8 +1,10 @@
 -- What is answered to a request: the response, as a function of what the seat was answered.
-use Rattle.std.specs.Prelude.{◌≡◌, ◌≤◌, ◌⊎◌, ℕ, List, [], ◌∷◌, ◌++◌, codes}
+use Rattle.std.specs.Prelude.{◌≡◌, ◌≤◌, ◌⊎◌, ℕ, List, [], ◌∷◌, ◌++◌, Some, codes}
 use Rattle.http1.specs.Fields.{Header}
 use Rattle.http_server.specs.Response.{IsResponse}
 use Rattle.http_server.specs.declared.response.Response.{Response}
+use Rattle.serde_json.specs.Data.{Data}
+use Rattle.serde_json.specs.Read.{read}
 use Rattle.ring_id.specs.Refusals.{word_in_table}
 use Rattle.ring_id.specs.declared.refusal.Refusal.{Refusal}
 use Rattle.ring_any.specs.declared.any.Any.{Any}
@@ -11,7 +13,7 @@ use Rattle.ring_events.specs.declared.reply.Reply.TheVariants as reply
 use Rattle.ring_table.specs.declared.entry.Entry.{Entry}
 use Rattle.ring_table.specs.declared.entry.Entry.TheVariants.{Call}
 use Rattle.ring_http.specs.Asking.{AddsPicture, AddsPictures, AddsQuestions, IsPlaceAfter, Lacks}
-use Rattle.ring_http.specs.Json.{group_json, groups_json}
+use Rattle.ring_http.specs.Json.{group_value, groups_value, line_of}
 use Rattle.ring_http.specs.Metrics.{metrics_of}
 use Rattle.ring_http.specs.declared.asking.Lack.{Lack}
 use Rattle.ring_http.specs.declared.asking.Lack.TheVariants.{NoGroup, Odd, Unplaced}
@@ -29,7 +31,7 @@ code_of NotAllowed = 405
 code_of Unknown = 404
 code_of (Found resource) = 200
 
--- the type of what is sent
+-- the type of a resource that is there
 abbrev pub kind_in : Resource → List ℕ
 kind_in Page = codes "text/html; charset=utf-8"
 kind_in Script = codes "text/javascript; charset=utf-8"
@@ -40,18 +42,24 @@ kind_in Groups = codes "application/json"
 kind_in (Group name) = codes "application/json"
 kind_in (Election name) = codes "image/svg+xml"
 
-abbrev pub kind_of : Route → List ℕ
-kind_of (Found resource) = kind_in resource
-kind_of _ = codes "text/plain; charset=utf-8"
+-- the type of a reason, whatever was asked for
+abbrev pub reason_kind : List ℕ
+reason_kind = codes "text/plain; charset=utf-8"
 
--- the methods that are allowed, where another was used
-abbrev pub allow_of : Route → List Header
-allow_of NotAllowed = (codes "allow", codes "GET, HEAD") ∷ []
-allow_of _ = []
+-- the field of each response: nothing is loaded from elsewhere
+abbrev pub policy_fields : List Header
+policy_fields = (codes "content-security-policy", codes "default-src 'self'") ∷ []
 
--- the fields of each response: nothing is loaded from elsewhere
+-- the same field, and the type of the text
+abbrev pub fields_with : List ℕ → List Header
+fields_with kind = policy_fields ++ (codes "content-type", kind) ∷ []
+
+-- the fields that follow from the route: the type of a resource is known only once it is found
 abbrev pub fields_for : Route → List Header
-fields_for route = (codes "content-security-policy", codes "default-src 'self'") ∷ (codes "content-type", kind_of route) ∷ allow_of route
+fields_for Misdirected = fields_with reason_kind
+fields_for NotAllowed = fields_with reason_kind ++ (codes "allow", codes "GET, HEAD") ∷ []
+fields_for Unknown = fields_with reason_kind
+fields_for (Found resource) = policy_fields
 
 -- the text that follows from the route
 abbrev pub text_of : Route → List ℕ
@@ -80,32 +88,43 @@ fault_code (NoGroup refusal) = 404
 fault_code (Unplaced refusal) = 503
 fault_code Odd = 503
 
--- the response has this status and this text, or its text was refused memory
-abbrev pub Says : ℕ → List Header → List ℕ → Response → Type 0
-Says code sent text response = IsResponse code sent text response ⊎ IsResponse 503 sent [] response
+-- The response has this status, and a text of this type. If an allocation failed for its text or its
+-- field, it is a 503 without a text and without a type.
+abbrev pub Says : ℕ → List ℕ → List ℕ → Response → Type 0
+Says code kind text response = IsResponse code (fields_with kind) text response ⊎ IsResponse 503 policy_fields [] response
+
+-- the response is the text of this value, and reads back as it
+pub record IsJson (value : Data) (response : Response) : Type 0 where
+  pub is : IsResponse 200 (fields_with (codes "application/json")) (line_of value) response
+  pub reads : read response.body.items ≡ Some value
+
+-- the same, or an allocation failed
+abbrev pub SaysJson : Data → Response → Type 0
+SaysJson value response = IsJson value response ⊎ IsResponse 503 policy_fields [] response
 
 -- a picture was drawn, or there is none
-pub record IsDrawn (sent : List Header) (response : Response) : Type 0 where
+pub record IsDrawn (response : Response) : Type 0 where
   pub picture : List ℕ
-  pub says : Says 200 sent picture response ⊎ Says 404 sent no_picture response
+  pub says : Says 200 (codes "image/svg+xml") picture response
+      ⊎ Says 404 reason_kind no_picture response
 
 -- `last` is the last place that was told on the connection before, and `later` the last one after:
 -- the place of what a response says is `later`, which is greater than `last`.
-module _ (base most session : ℕ) (sent : List Header) (mine : List (Entry Any)) (last : ℕ)
-    (response : Response) (now : List (Entry Any)) (later : ℕ) where
+module _ (base most session : ℕ) (mine : List (Entry Any)) (last : ℕ) (response : Response)
+    (now : List (Entry Any)) (later : ℕ) where
   -- There is no answer, for a reason. A group that is not there is a 404 where it was asked for.
   pub record ShowsLack (code : Lack → ℕ) : Type 0 where
     pub lack : Lack
     pub lacks : Lacks session lack mine now
     pub rises : last ≤ later
-    pub says : Says (code lack) sent (reason_of lack) response
+    pub says : Says (code lack) reason_kind (reason_of lack) response
 
-  -- The names of all groups were asked for.
-  pub record ShowsNames (text : ℕ → List (List ℕ) → List ℕ) : Type 0 where
+  -- The names of all groups were asked for. The response is told of their place and of them.
+  pub record ShowsNames (Told : ℕ → List (List ℕ) → Response → Type 0) : Type 0 where
     pub names : List (List ℕ)
     pub gained : now ≡ mine ++ Call session command.Groups (reply.Groups names) ∷ []
     pub placed : IsPlaceAfter base most last later
-    pub says : Says 200 sent (text later names) response
+    pub says : Told later names response
 
   -- All groups were asked about.
   pub record ShowsAll : Type 0 where
@@ -116,7 +135,7 @@ module _ (base most session : ℕ) (sent : List Header) (mine : List (Entry Any)
     pub each : AddsPictures session names groups mid now
     pub figures : Figures
     pub placed : IsPlaceAfter base most last later
-    pub says : Says 200 sent (metrics_of later groups figures) response
+    pub says : Says 200 (kind_in Metrics) (metrics_of later groups figures) response
 
   -- A group was asked about, and last after other questions.
   pub record ShowsGroup (name : List ℕ) : Type 0 where
@@ -126,34 +145,34 @@ module _ (base most session : ℕ) (sent : List Header) (mine : List (Entry Any)
     pub named : group.name ≡ name
     pub pictured : AddsPicture session group mid now
     pub placed : IsPlaceAfter base most last later
-    pub says : Says 200 sent (group_json later group) response
+    pub says : SaysJson (group_value later group) response
 
   -- A constant text, and nothing was asked.
-  pub record ShowsPage : Type 0 where
+  pub record ShowsPage (kind : List ℕ) : Type 0 where
     pub same : now ≡ mine
     pub still : later ≡ last
     pub text : List ℕ
-    pub is : IsResponse 200 sent text response
+    pub is : IsResponse 200 (fields_with kind) text response
 
   -- A picture, or that there is none, and nothing was asked.
   pub record ShowsPicture : Type 0 where
     pub same : now ≡ mine
     pub still : later ≡ last
-    pub drawn : IsDrawn sent response
+    pub drawn : IsDrawn response
 
   -- what is answered for a resource
   abbrev pub Shows : Resource → Type 0
-  Shows Health = ShowsNames (λ place names. codes "ok\n") ⊎ ShowsLack (λ lack. 503)
+  Shows Health = ShowsNames (λ place names. Says 200 (kind_in Health) (codes "ok\n")) ⊎ ShowsLack (λ lack. 503)
   Shows Metrics = ShowsAll ⊎ ShowsLack (λ lack. 503)
-  Shows Groups = ShowsNames groups_json ⊎ ShowsLack (λ lack. 503)
+  Shows Groups = ShowsNames (λ place names. SaysJson (groups_value place names)) ⊎ ShowsLack (λ lack. 503)
   Shows (Group name) = ShowsGroup name ⊎ ShowsLack fault_code
   Shows (Election name) = ShowsPicture
-  Shows _ = ShowsPage
+  Shows resource = ShowsPage (kind_in resource)
 
 -- what is answered
 abbrev pub Answers : ℕ → ℕ → ℕ → Route → List (Entry Any) → ℕ → Response → List (Entry Any) → ℕ
     → Type 0
 Answers base most session (Found resource) mine last response now later =
-    Shows base most session (fields_for (Found resource)) mine last response now later resource
+    Shows base most session mine last response now later resource
 Answers base most session route mine last response now later = (now ≡ mine) × (later ≡ last)
     × IsResponse (code_of route) (fields_for route) (text_of route) response

@@ -1,7 +1,7 @@
 -- What a request asks for, by its host, its method and its path.
 use Rattle.std.specs.Prelude.{◌≡◌, ◌==◌, ◌||◌, ℕ, Bool, true, false, not, List, ◌++◌, Option, None, Some, codes, take}
 use Rattle.std.specs.List.{prefix_len}
-use Rattle.std.specs.Str.{bytes_eq}
+use Rattle.std.specs.Str.{bytes_eq, str_eq_ignore_ascii_case}
 use Rattle.http.specs.declared.request.Parts.{Parts}
 use Rattle.http_header.specs.FieldValue.{FieldValue}
 use Rattle.http_header.specs.HeaderMap.{get}
@@ -16,9 +16,9 @@ use Rattle.ring_http.specs.declared.route.Route.TheVariants.{Misdirected, NotAll
 abbrev pub is_no_colon : ℕ → Bool
 is_no_colon b = not (b == 58)
 
--- a host is this machine's, whatever its port
+-- a host is this machine's, whatever its port and the case of its letters
 abbrev pub is_local : List ℕ → Bool
-is_local host = let name = take (prefix_len is_no_colon host) host in bytes_eq name (codes "127.0.0.1") || bytes_eq name (codes "localhost")
+is_local host = let name = take (prefix_len is_no_colon host) host in bytes_eq name (codes "127.0.0.1") || str_eq_ignore_ascii_case name (codes "localhost")
 
 -- the host of a request: that of its target, or else the first field `Host`
 abbrev pub is_host_local : Option (List ℕ) → Option FieldValue → Bool

@@ -13,11 +13,11 @@ use std::sync::Wait;
 use std::thread;
 use std::time::{Clock, Duration};
 
-// The milliseconds between two looks at a group.
-const PAUSE: u64 = 20;
+// The microseconds between two looks at a group.
+const PAUSE: u64 = 31_250;
 
 // The number of looks in a second.
-const LOOKS: u32 = 50;
+const LOOKS: u32 = 32;
 
 impl<A: Access<Any> + Drop, R: Wait + Clock, B: Beside> Asker<'_, A, R, B> {
     /// A picture of a group as soon as its sum is not `seen` or it differs from the first one, or
@@ -47,7 +47,7 @@ impl<A: Access<Any> + Drop, R: Wait + Clock, B: Beside> Asker<'_, A, R, B> {
             return Ok(shown);
         }
         for _ in 0..wait * LOOKS {
-            thread::sleep(self.rt, Duration::from_millis(PAUSE));
+            thread::sleep(self.rt, Duration::from_micros(PAUSE));
             let next = self.look(seat, place, name)?;
             if !shown.is_same(&next) {
                 return Ok(next);

@@ -1,6 +1,7 @@
 //! The route of a request: the resource that it asks for, or why there is none.
 ghost use Rattle.std.specs.Prelude.{◌≡◌, ◌≤◌, ◌↔◌, IsTrue, length};
 ghost use Rattle.std.specs.List.{prefix_len};
+ghost use Rattle.std.specs.Str.{str_eq_ignore_ascii_case};
 ghost use Rattle.http.specs.Request.{head_of};
 ghost use Rattle.ring_http.specs.Routes.{IsRoute, Names, is_for_here, is_local, is_no_colon, reads};
 ghost use Rattle.ring_http.specs.private.Routes.{Finds, NamesGroup};
@@ -72,13 +73,20 @@ fn is_for_here(request: &Request<Bytes>) -> bool
     }
 }
 
-// Whether a host and perhaps a port are this machine's.
+// Whether a host and perhaps a port are this machine's. The name of a host has no case.
 fn is_local(host: &[u8]) -> bool
     ensures { result ≡ is_local host.now }
 {
     let len = name_len(host);
     let name = &host[..len];
-    name == b"127.0.0.1".as_slice() || name == b"localhost".as_slice()
+    name == b"127.0.0.1".as_slice() || is_same_name(name, b"localhost")
+}
+
+// Whether two names differ at most in the case of their letters.
+fn is_same_name(name: &[u8], other: &[u8]) -> bool
+    ensures { result ≡ str_eq_ignore_ascii_case name.now other.now }
+{
+    name.eq_ignore_ascii_case(other)
 }
 
 // The number of bytes before the first colon.

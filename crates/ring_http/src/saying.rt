@@ -2,7 +2,7 @@
 ghost use Rattle.std.specs.Prelude.{◌≡◌, ◌++◌, OnErr, OnOk, IsTrue, []};
 ghost use Rattle.http_header.specs.FieldValue.{is_visible_text};
 ghost use Rattle.http_server.specs.Response.{IsBlank, IsResponse, fields_of};
-ghost use Rattle.ring_http.specs.Answers.{Says, allow_of, code_of, fault_code, fields_for, kind_in, kind_of, no_picture, reason_of, refusal_text, text_of};
+ghost use Rattle.ring_http.specs.Answers.{Says, code_of, fault_code, fields_for, fields_with, kind_in, no_picture, policy_fields, reason_kind, reason_of, refusal_text, text_of};
 
 use crate::asking::Lack;
 use crate::page::{APP, INDEX, STYLE};
@@ -13,7 +13,11 @@ use http_server::{Response, Rope};
 use ring_id::Refusal;
 use std::alloc::AllocError;
 
-/// Begins a response: its status and its fields, and its text if it follows from the route.
+// The type of a reason.
+const REASON: &str = "text/plain; charset=utf-8";
+
+/// Begins a response: its status and its policy, and its type and its text if they follow from the
+/// route.
 pub(crate) fn begin(route: &Route, response: &mut Response) -> Result<(), AllocError>
     requires { IsBlank response.old }
     ensures { OnOk result (IsResponse (code_of route.now) (fields_for route.now) (text_of route.now)
@@ -22,27 +26,37 @@ pub(crate) fn begin(route: &Route, response: &mut Response) -> Result<(), AllocE
     response.status = code_of(route);
     let policy = HeaderValue::from_static("default-src 'self'");
     response.add_header(header::CONTENT_SECURITY_POLICY, policy)?;
-    response.add_header(
-        header::CONTENT_TYPE,
-        HeaderValue::from_static(kind_of(route)),
-    )?;
-    add_allow(route, response)?;
+    add_rest(route, response)?;
     put(text_of(route).as_bytes(), &mut response.body)
 }
 
-// Adds the methods that are allowed, if the request has another.
-fn add_allow(route: &Route, response: &mut Response) -> Result<(), AllocError>
-    ensures headers { OnOk result (fields_of response.new
-        ≡ fields_of response.old ++ allow_of route.now) }
+// Adds the fields after the policy that follow from the route.
+fn add_rest(route: &Route, response: &mut Response) -> Result<(), AllocError>
+    requires { fields_of response.old ≡ policy_fields }
+    ensures headers { OnOk result (fields_of response.new ≡ fields_for route.now) }
     ensures status { response.new.status ≡ response.old.status }
     ensures body { response.new.body ≡ response.old.body }
 {
     match route {
+        Route::Found(_) => Ok(()),
         Route::NotAllowed => {
+            add_kind(REASON, response)?;
             response.add_header(header::ALLOW, HeaderValue::from_static("GET, HEAD"))
         }
-        _ => Ok(()),
+        Route::Misdirected | Route::Unknown => add_kind(REASON, response),
     }
+}
+
+/// Adds the type of the text.
+pub(crate) fn add_kind(kind: &'static str, response: &mut Response) -> Result<(), AllocError>
+    requires visible { IsTrue (is_visible_text kind.now) }
+    requires begun { fields_of response.old ≡ policy_fields }
+    ensures ok { OnOk result (fields_of response.new ≡ fields_with kind.now) }
+    ensures err { OnErr result (fields_of response.new ≡ policy_fields) }
+    ensures status { response.new.status ≡ response.old.status }
+    ensures body { response.new.body ≡ response.old.body }
+{
+    response.add_header(header::CONTENT_TYPE, HeaderValue::from_static(kind))
 }
 
 // The status that follows from the route.
@@ -57,19 +71,8 @@ fn code_of(route: &Route) -> StatusCode
     }
 }
 
-// The content type of a response.
-fn kind_of(route: &Route) -> &'static str
-    ensures value { result.now ≡ kind_of route.now }
-    ensures visible { IsTrue (is_visible_text result.now) }
-{
-    match route {
-        Route::Found(resource) => kind_in(resource),
-        _ => "text/plain; charset=utf-8",
-    }
-}
-
-// The content type of a resource.
-fn kind_in(resource: &Resource) -> &'static str
+/// The type of a resource that is there.
+pub(crate) fn kind_in(resource: &Resource) -> &'static str
     ensures value { result.now ≡ kind_in resource.now }
     ensures visible { IsTrue (is_visible_text result.now) }
 {
@@ -106,39 +109,60 @@ pub(crate) fn page_of(resource: &Resource) -> &'static str {
     }
 }
 
-/// Ends a response. If an allocation failed for its text, it is a 503 without a text.
-pub(crate) fn end(put: Result<(), AllocError>, response: &mut Response)
-    ensures ok { OnOk put (response.new ≡ response.old) }
-    ensures err { OnErr put (IsResponse 503 (fields_of response.old) [] response.new) }
+/// Ends a response, whose text is of this type. If an allocation failed for the text or fails for the
+/// type, it is a 503 with neither.
+pub(crate) fn end(put: Result<(), AllocError>, kind: &'static str, response: &mut Response)
+    requires visible { IsTrue (is_visible_text kind.now) }
+    requires begun { fields_of response.old ≡ policy_fields }
+    ensures ok { OnOk put
+        (Says response.old.status kind.now response.old.body.items response.new) }
+    ensures err { OnErr put (IsResponse 503 policy_fields [] response.new) }
 {
     match put {
-        Ok(()) => {}
-        Err(_) => {
-            response.status = StatusCode::SERVICE_UNAVAILABLE;
-            response.body.clear();
-        }
+        Ok(()) => end_as(kind, response),
+        Err(_) => withdraw(response),
     }
+}
+
+// Ends a response whose text was put.
+fn end_as(kind: &'static str, response: &mut Response)
+    requires visible { IsTrue (is_visible_text kind.now) }
+    requires begun { fields_of response.old ≡ policy_fields }
+    ensures { Says response.old.status kind.now response.old.body.items response.new }
+{
+    match add_kind(kind, response) {
+        Ok(()) => {}
+        Err(_) => withdraw(response),
+    }
+}
+
+// Makes of a response a 503 without a text.
+fn withdraw(response: &mut Response)
+    ensures { IsResponse 503 (fields_of response.old) [] response.new }
+{
+    response.status = StatusCode::SERVICE_UNAVAILABLE;
+    response.body.clear();
 }
 
 /// Says why there is no answer.
 pub(crate) fn fail(status: StatusCode, lack: Lack, response: &mut Response)
-    requires { response.old.body.items ≡ [] }
-    ensures { Says status (fields_of response.old) (reason_of lack) response.new }
+    requires { IsResponse 200 policy_fields [] response.old }
+    ensures { Says status reason_kind (reason_of lack) response.new }
 {
     response.status = status;
     let put = put_reason(lack, &mut response.body);
-    end(put, response);
+    end(put, REASON, response);
 }
 
 /// Says that there is no picture.
 pub(crate) fn lack_picture(response: &mut Response)
-    requires { response.old.body.items ≡ [] }
-    ensures { Says 404 (fields_of response.old) no_picture response.new }
+    requires { IsResponse 200 policy_fields [] response.old }
+    ensures { Says 404 reason_kind no_picture response.new }
 {
     response.status = StatusCode::NOT_FOUND;
     let text = b"no picture: no term was started since ringd began\n";
     let done = put(text, &mut response.body);
-    end(done, response);
+    end(done, REASON, response);
 }
 
 // Appends why there is no answer.

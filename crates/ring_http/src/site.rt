@@ -1,8 +1,8 @@
 //! The answer to a request.
 ghost use Rattle.std.specs.Prelude.{◌≡◌, ◌≤◌, ◌+◌, ◌⊎◌, ◌^◌, [], OnErr, OnOk};
 ghost use Rattle.http.specs.Request.{head_of};
-ghost use Rattle.http_server.specs.Response.{IsBlank, IsResponse, fields_of};
-ghost use Rattle.ring_http.specs.Answers.{IsDrawn, Shows, fields_for};
+ghost use Rattle.http_server.specs.Response.{IsBlank, IsResponse};
+ghost use Rattle.ring_http.specs.Answers.{IsDrawn, Shows, fields_with, kind_in, policy_fields};
 ghost use Rattle.ring_http.specs.Answering.{IsAnswered};
 ghost use Rattle.ring_http.specs.Asking.{AddsQuestions};
 ghost use Rattle.ring_http.specs.declared.route.Resource.TheVariants as Resource;
@@ -12,7 +12,7 @@ use crate::asking::Asker;
 use crate::beside::Beside;
 use crate::metrics::put_metrics;
 use crate::route::{Resource, Route, route_of};
-use crate::saying::{begin, end, fail, fault_code, lack_picture, page_of};
+use crate::saying::{add_kind, begin, end, fail, fault_code, kind_in, lack_picture, page_of};
 use crate::text::put;
 use crate::values::{put_group, put_names};
 use crate::waiting::{seen_of, wait_of};
@@ -107,11 +107,10 @@ impl<A: Access<Any> + Drop, R: Wait + Clock, B: Beside> Asker<'_, A, R, B> {
         requires seat { A.has_seat self.now.access.now seat.old }
         requires base { self.now.base + A.most ≤ 2 ^ 64 }
         requires wait { wait ≤ 60 }
-        requires begun { IsResponse 200 (fields_for (Route.Found resource.now)) [] response.old }
+        requires begun { IsResponse 200 policy_fields [] response.old }
         ensures seat { A.has_seat self.now.access.now seat.new }
         ensures ok { OnOk result (Shows self.now.base A.most self.now.session
-            (fields_for (Route.Found resource.now)) (A.mine seat.old) last.old response.new
-            (A.mine seat.new) last.new resource.now) }
+            (A.mine seat.old) last.old response.new (A.mine seat.new) last.new resource.now) }
         ensures err { OnErr result ((seat.new ≡ seat.old) × (last.new ≡ last.old)) }
         ensures told { (seat.new ≡ seat.old) ⊎ A.is_settled seat.new }
     {
@@ -136,7 +135,7 @@ impl<A: Access<Any> + Drop, R: Wait + Clock, B: Beside> Asker<'_, A, R, B> {
                 self.show_election(*name, response);
                 Ok(())
             }
-            _ => put(page_of(resource).as_bytes(), &mut response.body),
+            _ => show_page(resource, response),
         }
     }
 
@@ -144,10 +143,10 @@ impl<A: Access<Any> + Drop, R: Wait + Clock, B: Beside> Asker<'_, A, R, B> {
     fn show_health(&self, seat: &mut A::Seat, last: &mut usize, response: &mut Response)
         requires seat { A.has_seat self.now.access.now seat.old }
         requires base { self.now.base + A.most ≤ 2 ^ 64 }
-        requires begun { IsResponse 200 (fields_of response.old) [] response.old }
+        requires begun { IsResponse 200 policy_fields [] response.old }
         ensures seat { A.has_seat self.now.access.now seat.new }
-        ensures shows { Shows self.now.base A.most self.now.session (fields_of response.old)
-            (A.mine seat.old) last.old response.new (A.mine seat.new) last.new Resource.Health }
+        ensures shows { Shows self.now.base A.most self.now.session (A.mine seat.old)
+            last.old response.new (A.mine seat.new) last.new Resource.Health }
         ensures told { A.is_settled seat.new }
     {
         let asked = self.names(seat, last);
@@ -156,7 +155,7 @@ impl<A: Access<Any> + Drop, R: Wait + Clock, B: Beside> Asker<'_, A, R, B> {
             Ok(names) => {
                 drop(names);
                 let done = put(b"ok\n", &mut response.body);
-                end(done, response);
+                end(done, kind_in(&Resource::Health), response);
             }
             Err(lack) => fail(StatusCode::SERVICE_UNAVAILABLE, lack, response),
         }
@@ -166,10 +165,10 @@ impl<A: Access<Any> + Drop, R: Wait + Clock, B: Beside> Asker<'_, A, R, B> {
     fn show_groups(&self, seat: &mut A::Seat, last: &mut usize, response: &mut Response)
         requires seat { A.has_seat self.now.access.now seat.old }
         requires base { self.now.base + A.most ≤ 2 ^ 64 }
-        requires begun { IsResponse 200 (fields_of response.old) [] response.old }
+        requires begun { IsResponse 200 policy_fields [] response.old }
         ensures seat { A.has_seat self.now.access.now seat.new }
-        ensures shows { Shows self.now.base A.most self.now.session (fields_of response.old)
-            (A.mine seat.old) last.old response.new (A.mine seat.new) last.new Resource.Groups }
+        ensures shows { Shows self.now.base A.most self.now.session (A.mine seat.old)
+            last.old response.new (A.mine seat.new) last.new Resource.Groups }
         ensures told { A.is_settled seat.new }
     {
         let asked = self.names(seat, last);
@@ -177,7 +176,7 @@ impl<A: Access<Any> + Drop, R: Wait + Clock, B: Beside> Asker<'_, A, R, B> {
         match asked {
             Ok(names) => {
                 let done = put_names(self.alloc, *last, names.as_slice(), &mut response.body);
-                end(done, response);
+                end(done, kind_in(&Resource::Groups), response);
             }
             Err(lack) => fail(StatusCode::SERVICE_UNAVAILABLE, lack, response),
         }
@@ -187,10 +186,10 @@ impl<A: Access<Any> + Drop, R: Wait + Clock, B: Beside> Asker<'_, A, R, B> {
     fn show_metrics(&self, seat: &mut A::Seat, last: &mut usize, response: &mut Response)
         requires seat { A.has_seat self.now.access.now seat.old }
         requires base { self.now.base + A.most ≤ 2 ^ 64 }
-        requires begun { IsResponse 200 (fields_of response.old) [] response.old }
+        requires begun { IsResponse 200 policy_fields [] response.old }
         ensures seat { A.has_seat self.now.access.now seat.new }
-        ensures shows { Shows self.now.base A.most self.now.session (fields_of response.old)
-            (A.mine seat.old) last.old response.new (A.mine seat.new) last.new Resource.Metrics }
+        ensures shows { Shows self.now.base A.most self.now.session (A.mine seat.old)
+            last.old response.new (A.mine seat.new) last.new Resource.Metrics }
         ensures told { A.is_settled seat.new }
     {
         let asked = self.look_at_all(seat, last);
@@ -198,7 +197,7 @@ impl<A: Access<Any> + Drop, R: Wait + Clock, B: Beside> Asker<'_, A, R, B> {
         match asked {
             Ok(groups) => {
                 let done = put_metrics(*last, &groups, &self.beside.figures(), &mut response.body);
-                end(done, response);
+                end(done, kind_in(&Resource::Metrics), response);
             }
             Err(lack) => fail(StatusCode::SERVICE_UNAVAILABLE, lack, response),
         }
@@ -217,11 +216,10 @@ impl<A: Access<Any> + Drop, R: Wait + Clock, B: Beside> Asker<'_, A, R, B> {
         requires seat { A.has_seat self.now.access.now seat.old }
         requires base { self.now.base + A.most ≤ 2 ^ 64 }
         requires wait { wait ≤ 60 }
-        requires begun { IsResponse 200 (fields_of response.old) [] response.old }
+        requires begun { IsResponse 200 policy_fields [] response.old }
         ensures seat { A.has_seat self.now.access.now seat.new }
-        ensures shows { Shows self.now.base A.most self.now.session (fields_of response.old)
-            (A.mine seat.old) last.old response.new (A.mine seat.new) last.new
-            (Resource.Group name) }
+        ensures shows { Shows self.now.base A.most self.now.session (A.mine seat.old)
+            last.old response.new (A.mine seat.new) last.new (Resource.Group name) }
         ensures told { A.is_settled seat.new }
     {
         let asked = self.watch(seat, last, name, wait, seen);
@@ -229,15 +227,16 @@ impl<A: Access<Any> + Drop, R: Wait + Clock, B: Beside> Asker<'_, A, R, B> {
         match asked {
             Ok(group) => {
                 let done = put_group(self.alloc, *last, &group, &mut response.body);
-                end(done, response);
+                end(done, kind_in(&Resource::Group(name)), response);
             }
             Err(lack) => fail(fault_code(lack), lack, response),
         }
     }
+
     // Shows the election of a group's last term as a picture.
     fn show_election(&self, name: GroupName, response: &mut Response)
-        requires { IsResponse 200 (fields_of response.old) [] response.old }
-        ensures { IsDrawn (fields_of response.old) response.new }
+        requires { IsResponse 200 policy_fields [] response.old }
+        ensures { IsDrawn response.new }
     {
         let Some(charter) = self.beside.charter(name) else {
             lack_picture(response);
@@ -246,9 +245,19 @@ impl<A: Access<Any> + Drop, R: Wait + Clock, B: Beside> Asker<'_, A, R, B> {
         match election(self.alloc, &charter) {
             Ok(picture) => {
                 let done = put(picture.as_bytes(), &mut response.body);
-                end(done, response);
+                end(done, kind_in(&Resource::Election(name)), response);
             }
-            Err(fault) => end(Err(fault), response),
+            Err(fault) => end(Err(fault), kind_in(&Resource::Election(name)), response),
         }
     }
+}
+
+// Shows the page, its script or its style.
+fn show_page(resource: &Resource, response: &mut Response) -> Result<(), AllocError>
+    requires { IsResponse 200 policy_fields [] response.old }
+    ensures { OnOk result (IsResponse 200 (fields_with (kind_in resource.now))
+        response.new.body.items response.new) }
+{
+    put(page_of(resource).as_bytes(), &mut response.body)?;
+    add_kind(kind_in(resource), response)
 }

@@ -1,12 +1,13 @@
-//! How long a request waits for news. Tested, not proved: it decides when it is answered, and
-//! not how.
+//! How long a request waits for news, and what its client has seen. `seen=` alone says what is news:
+//! without it the group is compared with itself at the start of the request. Tested, not proved: it
+//! decides when a request is answered, and not how.
 ghost use Rattle.std.specs.Prelude.{◌≤◌};
 
 // How many seconds a request waits at most.
 const MOST: u32 = 60;
 
 /// How many seconds a request waits, by its query `after=PLACE&wait=SECONDS`: at most 60, and none
-/// if it does not say after which place.
+/// if it has no `after=`. The place is not looked at.
 pub(crate) fn wait_of(query: Option<&str>) -> u32
     ensures { result ≤ 60 }
 {

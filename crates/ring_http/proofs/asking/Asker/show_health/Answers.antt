@@ -10,5 +10,5 @@ returns-in-Ok-clause-shows g c =
       names = c.in-Ok.names;
       gained = c.settle.ensures.entries ∙ c.in-Ok.ensures.asks;
       placed = c.in-Ok.ensures.placed;
-      says = says_put c.put-done.result 200 _ _ c.args.response.now _ c.end.new.response c.requires.begun refl refl c.put-done.ensures c.end.ensures.ok c.end.ensures.err;
+      says = says_put c.put-done.result _ 200 _ _ _ _ c.args.response.now c.end.new.response c.requires.begun refl c.kind_in.ensures.value c.put-done.ensures c.end.ensures.ok c.end.ensures.err;
     })

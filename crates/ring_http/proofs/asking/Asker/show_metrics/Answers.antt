@@ -15,5 +15,5 @@ returns-in-Ok-clause-shows g c =
       each = rw c.settle.ensures.entries all.each;
       figures = c.figures.result;
       placed = c.in-Ok.ensures.placed;
-      says = says_put c.put_metrics-done.result 200 _ _ c.args.response.now _ c.end.new.response c.requires.begun refl refl (rw c.deref.ensures.value at c.put_metrics-done.ensures) c.end.ensures.ok c.end.ensures.err;
+      says = says_put c.put_metrics-done.result _ 200 _ _ _ _ c.args.response.now c.end.new.response c.requires.begun refl c.kind_in.ensures.value (rw c.deref.ensures.value at c.put_metrics-done.ensures) c.end.ensures.ok c.end.ensures.err;
     })
