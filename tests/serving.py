@@ -113,7 +113,8 @@ class Client:
         self.socket.close()
 
     def reset(self):
-        """Ends the connection by a reset."""
+        """Ends the connection by a reset. A socket in the file system has none: it is closed, and the program hears of a
+        reset only if replies are left unread."""
         linger = struct.pack("ii", 1, 0)
         self.socket.setsockopt(socket.SOL_SOCKET, socket.SO_LINGER, linger)
         self.socket.close()

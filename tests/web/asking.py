@@ -1,4 +1,4 @@
-"""A client of the port of `ringd run --http`, and what the program uses meanwhile."""
+"""A client of the place of `ringd run --http`, and what the program uses meanwhile."""
 
 import http.client
 import json
@@ -6,25 +6,44 @@ import os
 import pathlib
 import time
 
-from serving import HOST, PATIENCE, Differs, same
+from serving import HOST, PATIENCE, Differs, connected, same
 from web.metrics import samples_in
 
 POLICY = "default-src 'self'"
 JSON, METRICS = "application/json", "text/plain; version=0.0.4; charset=utf-8"
 
 
+# After how many seconds without a request a client connects anew, since the program lets silent clients go.
+FRESH = 1
+
+
+class Link(http.client.HTTPConnection):
+    """A connection of HTTP to a port or to the path of a socket. A socket has no name, and its host is localhost."""
+
+    def __init__(self, there):
+        host = ("localhost",) if isinstance(there, str) else (HOST, there)
+        super().__init__(*host, timeout=PATIENCE)
+        self.there = there
+
+    def connect(self):
+        """Connects, also anew after the program has ended the connection."""
+        self.sock = connected(self.there)
+
+
 class Web:
     """A connection for one request after another. Each place that it is told is greater than the one before."""
 
-    def __init__(self, port):
-        self.link = http.client.HTTPConnection(HOST, port, timeout=PATIENCE)
+    def __init__(self, there):
+        self.link, self.last = Link(there), time.monotonic()
         self.place = -1
 
     def get(self, path, method="GET", host=None):
         """A response: its status, its fields and its body."""
+        if time.monotonic() - self.last > FRESH:
+            self.link.close()
         self.link.request(method, path, headers={"Host": host} if host else {})
         response = self.link.getresponse()
-        body = response.read()
+        body, self.last = response.read(), time.monotonic()
         same(f"the policy of {path}", response.getheader("content-security-policy"), POLICY)
         same(f"the cookies of {path}", response.getheader("set-cookie"), None)
         return response.status, response, body

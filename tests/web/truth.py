@@ -18,7 +18,7 @@ class Ringctl:
     """Asks by runs of ringctl."""
 
     def __init__(self, path, port):
-        self.words = [path, "--address", f"{HOST}:{port}"]
+        self.words = [path, "--address", f"unix:{port}" if isinstance(port, str) else f"{HOST}:{port}"]
 
     def ask(self, line):
         """The reply to a line, and nothing if it is refused."""
