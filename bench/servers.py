@@ -26,21 +26,25 @@ class Failed(Exception):
 
 
 class Server:
-    """A server, by its name in the table and the words that start it at a port."""
+    """A server, by its name in the table and the words that start it at a place: a port, or the path of a socket."""
 
     def __init__(self, name, what, words):
         self.name, self.what, self.words = name, what, words
 
+    def place(self, _):
+        """A free port. Other servers may have a path in the folder."""
+        return free_port()
+
     @contextlib.contextmanager
     def running(self, folder, before=()):
-        """The server once it listens: its process, and its port. Words before its own may run it in a tool."""
-        port = free_port()
-        run = subprocess.Popen([*before, *self.words(port, folder)], stdin=subprocess.DEVNULL,
+        """The server once it listens: its process, and its place. Words before its own may run it in a tool."""
+        place = self.place(folder)
+        run = subprocess.Popen([*before, *self.words(place, folder)], stdin=subprocess.DEVNULL,
                                stdout=subprocess.PIPE)
         try:
             if not run.stdout.readline().startswith(b"listening"):
                 raise Failed(f"{self.name} doesn't listen")
-            yield run, port
+            yield run, place
         finally:
             run.terminate()
             run.wait()
@@ -63,9 +67,9 @@ def processor_seconds(pid):
 
 def measured(server, connections, depth, seconds, folder):
     """Replies a second, and microseconds of the server's processor time for each."""
-    with server.running(folder) as (run, port):
+    with server.running(folder) as (run, place):
         before = processor_seconds(run.pid)
-        words = [BUILT / "load", str(port), str(connections), str(depth), str(seconds), server.what]
+        words = [BUILT / "load", str(place), str(connections), str(depth), str(seconds), server.what]
         load = subprocess.run(words, stdout=subprocess.PIPE, check=True)
         count, took = load.stdout.split()
         spent = processor_seconds(run.pid) - before

@@ -1,6 +1,6 @@
 //! What clients ask over and over: who leads the group `a`, of its members in turn; or changes of a group of their own.
 
-use crate::client::{Client, Groups, LEADER, MEMBERS};
+use crate::client::{Client, Groups, LEADER, MEMBERS, Place};
 use std::io;
 
 /// Which replies are wanted.
@@ -32,11 +32,11 @@ impl Wanted {
 
     /// Makes the group, and waits until each member knows that the last one leads. For changes there is a group for
     /// each client; an echo has no groups.
-    pub fn prepare(self, port: u16) -> io::Result<()> {
+    pub fn prepare(self, place: &Place) -> io::Result<()> {
         if self == Wanted::Echo {
             return Ok(());
         }
-        let mut client = Client::connect(port)?;
+        let mut client = Client::connect(place)?;
         if self == Wanted::Changes {
             let lines: String = (0..GROUPS)
                 .map(|group| format!("create g{group} chang\n"))

@@ -1,7 +1,9 @@
-//! A client of a server on 127.0.0.1, and the groups that it makes there.
+//! A client of a server on this machine, and the groups that it makes there.
 
 use std::io::{self, BufRead, BufReader, Read, Write};
 use std::net::{Ipv4Addr, TcpStream};
+use std::os::unix::net::UnixStream;
+use std::path::PathBuf;
 use std::time::{Duration, Instant};
 
 /// The members of a group are 1 to this number, joined in rising order, so that it leads.
@@ -19,17 +21,82 @@ const DEPTH: usize = 64;
 /// How long the elections may take, and while they are waited for a reply.
 const PATIENCE: Duration = Duration::from_secs(10);
 
+/// Where a server listens.
+#[derive(Clone)]
+pub enum Place {
+    /// A port of 127.0.0.1.
+    Port(u16),
+    /// The path of a socket in the file system.
+    Path(PathBuf),
+}
+
+impl Place {
+    /// The place that a word names. A word with a slash is a path.
+    pub fn from_word(word: &str) -> Option<Place> {
+        if word.contains('/') {
+            return Some(Place::Path(PathBuf::from(word)));
+        }
+        word.parse().ok().map(Place::Port)
+    }
+}
+
+/// A connection to either place.
+enum Stream {
+    Tcp(TcpStream),
+    Unix(UnixStream),
+}
+
+impl Stream {
+    fn connect(place: &Place) -> io::Result<Stream> {
+        match place {
+            Place::Port(port) => {
+                let stream = TcpStream::connect((Ipv4Addr::LOCALHOST, *port))?;
+                stream.set_nodelay(true)?;
+                Ok(Stream::Tcp(stream))
+            }
+            Place::Path(path) => Ok(Stream::Unix(UnixStream::connect(path)?)),
+        }
+    }
+
+    fn set_read_timeout(&self, time: Duration) -> io::Result<()> {
+        match self {
+            Stream::Tcp(stream) => stream.set_read_timeout(Some(time)),
+            Stream::Unix(stream) => stream.set_read_timeout(Some(time)),
+        }
+    }
+}
+
+impl Read for Stream {
+    fn read(&mut self, bytes: &mut [u8]) -> io::Result<usize> {
+        match self {
+            Stream::Tcp(stream) => stream.read(bytes),
+            Stream::Unix(stream) => stream.read(bytes),
+        }
+    }
+}
+
+impl Write for Stream {
+    fn write(&mut self, bytes: &[u8]) -> io::Result<usize> {
+        match self {
+            Stream::Tcp(stream) => stream.write(bytes),
+            Stream::Unix(stream) => stream.write(bytes),
+        }
+    }
+
+    fn flush(&mut self) -> io::Result<()> {
+        Ok(())
+    }
+}
+
 /// A connection. Lines are sent as they are written; replies are read through a buffer.
 pub struct Client {
-    stream: BufReader<TcpStream>,
+    stream: BufReader<Stream>,
 }
 
 impl Client {
-    pub fn connect(port: u16) -> io::Result<Client> {
-        let stream = TcpStream::connect((Ipv4Addr::LOCALHOST, port))?;
-        stream.set_nodelay(true)?;
+    pub fn connect(place: &Place) -> io::Result<Client> {
         Ok(Client {
-            stream: BufReader::new(stream),
+            stream: BufReader::new(Stream::connect(place)?),
         })
     }
 
@@ -106,7 +173,7 @@ impl Groups {
             started: Vec::new(),
             questions: Vec::new(),
         };
-        client.stream.get_ref().set_read_timeout(Some(PATIENCE))?;
+        client.stream.get_ref().set_read_timeout(PATIENCE)?;
         for name in names {
             let mut lines = format!("create {name} chang\n");
             for member in 1..=MEMBERS {

@@ -1,10 +1,10 @@
-//! Asks a server on 127.0.0.1 who leads, or has it change groups, over and over, and counts the replies.
+//! Asks a server on this machine who leads, or has it change groups, over and over, and counts the replies.
 //!
-//! `load PORT CONNECTIONS DEPTH SECONDS WHAT`: each connection has a thread, which writes DEPTH lines at
-//! once and reads as many replies before it writes the next. WHAT is `leader`, where every reply has to
-//! be the leader of the group that is made first, or `echo`, where it has to be the line itself. With `changes` a
-//! member joins and leaves a group of each connection's own. One line is printed: the number of replies, and the
-//! seconds that they took.
+//! `load PLACE CONNECTIONS DEPTH SECONDS WHAT`: PLACE is a port of 127.0.0.1 or the path of a socket. Each connection
+//! has a thread, which writes DEPTH lines at once and reads as many replies before it writes the next. WHAT is
+//! `leader`, where every reply has to be the leader of the group that is made first, or `echo`, where it has to be the
+//! line itself. With `changes` a member joins and leaves a group of each connection's own. One line is printed: the
+//! number of replies, and the seconds that they took.
 
 #[path = "../asking.rs"]
 mod asking;
@@ -14,14 +14,14 @@ mod client;
 mod crowd;
 
 use asking::Wanted;
-use client::Client;
+use client::{Client, Place};
 use std::io;
 use std::process::ExitCode;
 use std::sync::Barrier;
 use std::time::{Duration, Instant};
 
 struct Load {
-    port: u16,
+    place: Place,
     connections: usize,
     depth: usize,
     time: Duration,
@@ -30,11 +30,11 @@ struct Load {
 
 impl Load {
     fn from_words(words: &[String]) -> Option<Load> {
-        let [port, connections, depth, seconds, wanted] = words else {
+        let [place, connections, depth, seconds, wanted] = words else {
             return None;
         };
         Some(Load {
-            port: port.parse().ok()?,
+            place: Place::from_word(place)?,
             connections: connections.parse().ok()?,
             depth: depth.parse().ok()?,
             time: Duration::try_from_secs_f64(seconds.parse().ok()?).ok()?,
@@ -44,7 +44,7 @@ impl Load {
 
     /// One connection, from the moment when all are there; the answer is how many replies it got.
     fn ask(&self, connection: usize, begin: &Barrier) -> io::Result<usize> {
-        let connected = Client::connect(self.port);
+        let connected = Client::connect(&self.place);
         begin.wait();
         let mut client = connected?;
         let batches = self.wanted.batches(self.depth, connection);
@@ -62,7 +62,7 @@ impl Load {
 
     /// All connections at once; the answer is how many replies they got, and the seconds that passed.
     fn run(&self) -> io::Result<(usize, f64)> {
-        self.wanted.prepare(self.port)?;
+        self.wanted.prepare(&self.place)?;
         crowd::ask_at_once(self.connections, |connection, begin| {
             self.ask(connection, begin)
         })
@@ -72,7 +72,7 @@ impl Load {
 fn main() -> ExitCode {
     let words: Vec<String> = std::env::args().skip(1).collect();
     let Some(load) = Load::from_words(&words) else {
-        eprintln!("usage: load PORT CONNECTIONS DEPTH SECONDS leader|echo|changes");
+        eprintln!("usage: load PLACE CONNECTIONS DEPTH SECONDS leader|echo|changes");
         return ExitCode::from(2);
     };
     match load.run() {

@@ -1,6 +1,6 @@
-//! Asks servers on 127.0.0.1 who leads, in turns, and says how long lines that are written at once take each.
+//! Asks servers on this machine who leads, in turns, and says how long lines that are written at once take each.
 //!
-//! `turns ROUNDS DEPTH PORT WHAT ..`: there is one connection to each server, where WHAT is as for `load`.
+//! `turns ROUNDS DEPTH PLACE WHAT ..`: there is one connection to each server. PLACE and WHAT are as for `load`.
 //! In a round each server is asked DEPTH lines at once, some times, while the others wait; its time is
 //! that which a quarter of these took no longer than. For each server one line is printed: the median of
 //! its times in microseconds, and the median of how many times the first server's time of that round it was.
@@ -12,7 +12,7 @@ mod asking;
 mod client;
 
 use asking::Wanted;
-use client::Client;
+use client::{Client, Place};
 use std::io;
 use std::process::ExitCode;
 use std::time::Instant;
@@ -29,11 +29,11 @@ struct Server {
 }
 
 impl Server {
-    fn prepare(port: u16, wanted: Wanted, depth: usize) -> io::Result<Server> {
-        wanted.prepare(port)?;
+    fn prepare(place: &Place, wanted: Wanted, depth: usize) -> io::Result<Server> {
+        wanted.prepare(place)?;
         let (lines, replies) = wanted.batches(depth, 0).swap_remove(0);
         Ok(Server {
-            client: Client::connect(port)?,
+            client: Client::connect(place)?,
             lines,
             replies,
             times: Vec::new(),
@@ -59,11 +59,11 @@ impl Server {
     }
 }
 
-/// What is measured: the servers, each by its port and what it is to reply.
+/// What is measured: the servers, each by its place and what it is to reply.
 struct Turns {
     rounds: usize,
     depth: usize,
-    servers: Vec<(u16, Wanted)>,
+    servers: Vec<(Place, Wanted)>,
 }
 
 impl Turns {
@@ -84,7 +84,7 @@ impl Turns {
         let mut servers = self
             .servers
             .iter()
-            .map(|(port, wanted)| Server::prepare(*port, *wanted, self.depth))
+            .map(|(place, wanted)| Server::prepare(place, *wanted, self.depth))
             .collect::<io::Result<Vec<Server>>>()?;
         let count = servers.len();
         for round in 0..self.rounds {
@@ -96,11 +96,11 @@ impl Turns {
     }
 }
 
-fn read_server(words: &[String]) -> Option<(u16, Wanted)> {
-    let [port, wanted] = words else {
+fn read_server(words: &[String]) -> Option<(Place, Wanted)> {
+    let [place, wanted] = words else {
         return None;
     };
-    Some((port.parse().ok()?, Wanted::from_word(wanted)?))
+    Some((Place::from_word(place)?, Wanted::from_word(wanted)?))
 }
 
 fn median(mut values: Vec<f64>) -> f64 {
@@ -111,7 +111,7 @@ fn median(mut values: Vec<f64>) -> f64 {
 fn main() -> ExitCode {
     let words: Vec<String> = std::env::args().skip(1).collect();
     let Some(turns) = Turns::from_words(&words) else {
-        eprintln!("usage: turns ROUNDS DEPTH PORT leader|echo ..");
+        eprintln!("usage: turns ROUNDS DEPTH PLACE leader|echo ..");
         return ExitCode::from(2);
     };
     match turns.run() {
