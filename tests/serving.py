@@ -51,14 +51,16 @@ def first_line(place):
     return b"listening %s\n" % (place if isinstance(place, str) else f"{HOST}:{place}").encode()
 
 
-def connected(place):
-    """A connection to a place."""
+def connected(place, patience=PATIENCE):
+    """A connection to a place, of which each call waits for so many seconds."""
     if isinstance(place, str):
         there = socket.socket(socket.AF_UNIX)
-        there.settimeout(PATIENCE)
+        # A socket with a time limit of Python's is refused at once if the kernel has no room for it yet.
+        there.setsockopt(socket.SOL_SOCKET, socket.SO_SNDTIMEO, struct.pack("ll", patience, 0))
         there.connect(place)
+        there.settimeout(patience)
         return there
-    there = socket.create_connection((HOST, place), timeout=PATIENCE)
+    there = socket.create_connection((HOST, place), timeout=patience)
     there.setsockopt(socket.IPPROTO_TCP, socket.TCP_NODELAY, 1)
     return there
 
@@ -66,8 +68,8 @@ def connected(place):
 class Client:
     """A connection to the program."""
 
-    def __init__(self, place):
-        self.socket = connected(place)
+    def __init__(self, place, patience=PATIENCE):
+        self.socket = connected(place, patience)
         self.rest = b""
 
     def send(self, lines):
