@@ -6,6 +6,7 @@ hold all places that they get, and come again as soon as their connection is end
 
 import collections
 import contextlib
+import ctypes
 import json
 import os
 import select
@@ -25,6 +26,8 @@ LATE = 20
 # How often a squatter with half a line sends one byte more, in seconds.
 DRIP = 0.5
 BLOCK = b"x" * (1 << 16)
+# A number of prctl: the system ends a process when its parent ends.
+END_WITH_PARENT = 1
 RESET = struct.pack("ii", 1, 0)
 # What is said in each kind of flood: half a line, or half a head.
 HALF = {"sessions": b"who kept", "campaigns": b"join kept", "http": b"GET /healthz HTTP/1.1\r\nX: "}
@@ -156,6 +159,7 @@ class Worker:
         self.pid = os.fork()
         if self.pid == 0:
             status = 1
+            ctypes.CDLL(None).prctl(END_WITH_PARENT, signal.SIGKILL)
             try:
                 os.write(tell, json.dumps(make(*given)).encode())
                 status = 0
@@ -168,7 +172,15 @@ class Worker:
         with open(self.source, "rb") as told:
             said = told.read()
         os.waitpid(self.pid, 0)
+        self.pid = None
         return json.loads(said)
+
+    def kill(self):
+        """Ends it, if nobody has waited for it."""
+        if self.pid:
+            os.kill(self.pid, signal.SIGKILL)
+            os.waitpid(self.pid, 0)
+            os.close(self.source)
 
 
 class Flood:
@@ -181,6 +193,13 @@ class Flood:
         given = gate, place, first, words.rate / words.processes, STAY if stays else 0, words.seconds
         self.comers = [Worker(stream, *given) for _ in range(words.processes)]
         os.close(gate)
+
+    def __enter__(self):
+        return self
+
+    def __exit__(self, kind, value, trace):
+        for it in [*self.comers, *([self.squatters] if self.squatters else [])]:
+            it.kill()
 
     def begin(self):
         """Lets comers come."""
