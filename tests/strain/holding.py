@@ -1,11 +1,12 @@
 """Clients that hold places: silent, slow, unread, waiting, or asking for all that there is."""
 
 import contextlib
+import select
 import socket
 import time
 
 from serving import PATIENCE, Client, Differs, same
-from strain.floods import HALF
+from strain.floods import HALF, Worker
 from strain.others import fetch, visit
 
 PLACES = 64
@@ -154,7 +155,7 @@ def check_unread(trial):
 
 
 def check_polls(trial):
-    """A long poll of a client that has gone holds its place until its wait is over, and no longer."""
+    """Long polls of a client that has gone hold its place until their waits are over, one after another, and no longer."""
     client = Client(trial.places["sessions"])
     same("a group", client.told(b"create polled chang\n"), b"ok\n")
     poll, wait, began = b"GET /v1/groups/polled?after=1&wait=%d HTTP/1.1\r\nHost: localhost\r\n\r\n", 2, time.monotonic()
@@ -168,6 +169,56 @@ def check_polls(trial):
     if not wait - 0.5 < took < wait + 5:
         raise Differs(f"polls of clients that had gone took {took:.2f} s, and not {wait}")
     trial.said.append(f"polls of gone clients over after {took:.1f} s")
+    began, client = time.monotonic(), Client(trial.places["http"])
+    client.send(poll % 1 * 3)
+    client.close()
+    wait_served(trial, "http", 1, 1)
+    wait_served(trial, "http", 0)
+    if (took := time.monotonic() - began) < 2.5:
+        raise Differs(f"three polls of a second took {took:.2f} s")
+
+
+def ask_long(place, seconds):
+    """Clients of a process of its own that ask long questions without a pause. The answer is how many replies they read."""
+    asked, chosen, here, read = b"members busy\n" * 64, select.poll(), {}, 0
+    for _ in range(PLACES - 4):
+        client = Client(place)
+        client.send(asked)
+        here[client.socket.fileno()] = [client, 0]
+        chosen.register(client.socket, select.POLLIN)
+    until = time.monotonic() + seconds
+    while time.monotonic() < until:
+        for number, _ in chosen.poll(50):
+            count = here[number][0].socket.recv(1 << 20).count(b"\n")
+            read, here[number][1] = read + count, here[number][1] + count
+            if here[number][1] >= 64:
+                here[number][1] -= 64
+                here[number][0].send(asked)
+    return read
+
+
+def check_busy(trial):
+    """A session is answered while all others ask long questions without a pause. It waits for its turn."""
+    place, took = trial.places["sessions"], []
+    same("a group", Client(place).told(b"create busy chang\n"), b"ok\n")
+    same("members", Client(place).told(b"".join(b"join busy %d/9\n" % it for it in range(1, 257))), b"ok\n" * 256)
+    client, worker = Client(place), Worker(ask_long, place, 2)
+    try:
+        until = time.monotonic() + 2
+        while time.monotonic() < until:
+            began = time.monotonic()
+            same("a reply", client.ask(b"who kept 1\n"), b"leader 1 1\n")
+            took.append(time.monotonic() - began)
+            time.sleep(0.01)
+        read = worker.result()
+    finally:
+        worker.kill()
+    client.close()
+    if not read:
+        raise Differs("nobody was busy")
+    took.sort()
+    trial.said.append(f"beside {read} long replies a session waited {1000 * took[len(took) // 2]:.1f} ms, 99% within"
+                      f" {1000 * took[int(0.99 * len(took))]:.0f} ms")
 
 
 def check_limits(trial):
