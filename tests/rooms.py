@@ -1,8 +1,9 @@
 """A room: a copy of this machine's file system, in which a check installs and removes packages.
 
-All that is written in a room is kept in memory, over the files of the machine, which stay as they are. A room has
-processes of its own, which end with it, and can have a network of its own. A room needs root, unshare and pivot_root
-of util-linux, and a kernel with overlayfs. In a room systemd can be started, as on a machine of its own.
+All that is written in a room is kept in memory, over the files of the machine, which stay as they are. If the kernel
+refuses such a mount, /etc, /usr and /var are copied to the disk of temporary files. The rest, also /usr/local, can only
+be read then. A room has processes of its own, which end with it, and can have a network of its own. It needs root, unshare and
+pivot_root of util-linux, and the right to mount. In a room systemd can be started, as on a machine of its own.
 """
 
 import contextlib
@@ -19,24 +20,58 @@ import time
 from serving import PATIENCE, Differs
 
 APART = ["unshare", "--mount", "--pid", "--fork", "--kill-child", "--ipc", "--uts"]
+# What a room needs at least.
+PROBE = "mount --make-rprivate / && mount -t tmpfs tmpfs /mnt"
 TRIES = 3
 # Where a room shows what was written there.
 CHANGES = "/run/changes"
 NEW_NETWORK, SET_FLAGS, UP = 0x40000000, 0x8914, 1
 SYSTEMD = "/lib/systemd/systemd"
-# Makes the room in the folder $1, with the repository $2 to be read, and runs the other words there. No index of manual
-# pages is written there, as that takes seconds for each package.
+# Makes the room in the folder $1, with the repository $2 to be read, and runs the other words from $4 on there. If $3 is
+# `copy`, or no overlay can be mounted, it is a copy. No index of manual pages is written there, as that takes seconds for
+# each package.
 MAKE = """
 mount --make-rprivate /
-mount -t tmpfs -o mode=755 tmpfs "$1"
-mkdir "$1/upper" "$1/work" "$1/root"
-mount -t overlay -o "lowerdir=/,upperdir=$1/upper,workdir=$1/work" overlay "$1/root"
+changes=$1/upper
+lay() {
+    mount -t tmpfs -o mode=755 tmpfs "$1"
+    mkdir "$1/upper" "$1/work" "$1/root"
+    mount -t overlay -o "lowerdir=/,upperdir=$1/upper,workdir=$1/work" overlay "$1/root" && return
+    umount "$1"
+    echo "no overlay can be mounted here, so the room is a copy on the disk" >&2
+    return 1
+}
+copy() {
+    changes=$1/root
+    mkdir "$1/root"
+    mount --bind "$1/root" "$1/root"
+    tar -c -C / --one-file-system --exclude=var/lib/docker --exclude=var/lib/containerd --exclude=var/cache/apt/archives \
+        --exclude=usr/local etc usr var | tar -xp -C "$1/root"
+    mkdir -p "$1/root/var/cache/apt/archives/partial" "$1/root/usr/local"
+    for it in /* /usr/local; do
+        case $it in
+        /etc | /usr | /var) ;;
+        /proc | /sys | /dev | /run | /tmp) mkdir "$1/root$it" ;;
+        *)  if [ -L "$it" ]; then
+                cp -a "$it" "$1/root"
+            elif [ -d "$it" ]; then
+                mkdir -p "$1/root$it"
+                mount --bind "$it" "$1/root$it"
+                mount -o remount,bind,ro "$1/root$it"
+            fi ;;
+        esac
+    done
+    [ -d /usr/local/bin ] || return 0
+    mount -t tmpfs -o mode=755 tmpfs "$1/root/usr/local/bin"
+    cp -a /usr/local/bin/. "$1/root/usr/local/bin"
+}
+if [ "$3" = copy ] || ! lay "$1"; then copy "$1"; fi
 cp --remove-destination /etc/resolv.conf "$1/root/etc/resolv.conf" 2> /dev/null || true
 cd "$1/root"
 for it in run tmp dev; do mount -t tmpfs -o mode=755 tmpfs $it; done
 chmod 1777 tmp
 mkdir run/changes
-mount --bind "$1/upper" run/changes
+mount --bind "$changes" run/changes
 mount -t proc proc proc
 mount --bind proc/sys proc/sys
 mount -o remount,bind,ro proc/sys
@@ -56,7 +91,7 @@ pivot_root . .
 umount -l .
 cd /
 rm -f /var/lib/man-db/auto-update
-shift 2
+shift 3
 exec "$@"
 """
 # Starts systemd in the group $1, with none of the capabilities that reach the machine below the room.
@@ -79,13 +114,20 @@ class NoSystemd(Exception):
     """systemd can't be started in this room."""
 
 
-def enter(top, words):
+def enter(top, words, is_copy=False):
     """Runs these words in a new room, which can read the repository. Returns their status."""
     if os.geteuid():
         raise Differs("a room needs root")
+    probe = subprocess.run([*APART, "sh", "-c", PROBE], capture_output=True, text=True, check=False)
+    if probe.returncode:
+        raise Differs(f"a room needs the right to mount (docker run --privileged): {probe.stderr.strip()}")
     with tempfile.TemporaryDirectory() as folder:
-        words = [*APART, "sh", "-euc", MAKE, "room", folder, os.fspath(top), *words]
-        return subprocess.run(words, stdin=subprocess.DEVNULL, check=False).returncode
+        how = "copy" if is_copy else "overlay"
+        words = [*APART, "sh", "-euc", MAKE, "room", folder, os.fspath(top), how, *words]
+        try:
+            return subprocess.run(words, stdin=subprocess.DEVNULL, check=False).returncode
+        finally:
+            subprocess.run(["rm", "-rf", "--one-file-system", f"{folder}/root"], check=False)
 
 
 def is_installed(package):
@@ -121,17 +163,27 @@ def cut_off():
 @contextlib.contextmanager
 def group():
     """A control group below that of this process. It is removed at the end, with those in it."""
-    own = next(it for it in pathlib.Path("/proc/self/cgroup").read_text().splitlines() if it.startswith("0::"))
+    lines = pathlib.Path("/proc/self/cgroup").read_text(encoding="utf-8").splitlines()
+    own = [it.removeprefix("0::/") for it in lines if it.startswith("0::/")]
     root = pathlib.Path("/run/groups")
     root.mkdir(exist_ok=True)
-    subprocess.run(["mount", "-t", "cgroup2", "cgroup2", root], check=True)
-    made = root / own[len("0::/"):] / f"ringd-room-{time.monotonic_ns()}"
+    if not own or subprocess.run(["mount", "-t", "cgroup2", "cgroup2", root], check=False).returncode:
+        raise NoSystemd("there are no control groups of version 2")
+    made = root / own[0] / f"ringd-room-{time.monotonic_ns()}"
     try:
-        made.mkdir()
+        make_group(made)
         yield made
     finally:
         remove_groups(made)
         subprocess.run(["umount", "-l", root], check=False)
+
+
+def make_group(made):
+    """Makes a control group."""
+    try:
+        made.mkdir()
+    except OSError as error:
+        raise NoSystemd(f"no control group can be made: {error}") from error
 
 
 def remove_groups(made):
