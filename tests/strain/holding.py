@@ -155,7 +155,7 @@ def check_unread(trial):
 
 
 def check_polls(trial):
-    """Long polls of a client that has gone hold its place until their waits are over, one after another, and no longer."""
+    """A long poll of a client that has gone holds its place until its wait is over. Of many that were sent together two do."""
     client = Client(trial.places["sessions"])
     same("a group", client.told(b"create polled chang\n"), b"ok\n")
     poll, wait, began = b"GET /v1/groups/polled?after=1&wait=%d HTTP/1.1\r\nHost: localhost\r\n\r\n", 2, time.monotonic()
@@ -170,12 +170,12 @@ def check_polls(trial):
         raise Differs(f"polls of clients that had gone took {took:.2f} s, and not {wait}")
     trial.said.append(f"polls of gone clients over after {took:.1f} s")
     began, client = time.monotonic(), Client(trial.places["http"])
-    client.send(poll % 1 * 3)
+    client.send(poll % wait * 10)
     client.close()
     wait_served(trial, "http", 1, 1)
     wait_served(trial, "http", 0)
-    if (took := time.monotonic() - began) < 2.5:
-        raise Differs(f"three polls of a second took {took:.2f} s")
+    if (took := time.monotonic() - began) > 2 * wait + 5:
+        raise Differs(f"ten polls of {wait} s, sent together by a client that left, took {took:.2f} s")
 
 
 def ask_long(place, seconds):

@@ -12,6 +12,7 @@ mod crowd;
 mod directory;
 mod handshake;
 mod hosting;
+mod lines;
 mod listening;
 mod metering;
 mod noting;

@@ -10,6 +10,7 @@ ghost use Rattle.std.specs.Option.{option_map};
 ghost use Rattle.ring_server.specs.Viewing.{GainsQuestions, HasViewed, IfSeated, IsTold};
 
 use crate::base::Base;
+use crate::lines::Lines;
 use crate::sessions::{Front, Seat};
 use crate::watching::{Port, Watch};
 use bytes::Bytes;
@@ -108,7 +109,7 @@ impl<T: Tabled<Any> + Drop> Serving for Viewer<'_, T> {
             last: 0,
             watch: self.watch,
         };
-        let (mut reader, mut writer) = (stream, stream);
+        let (mut reader, mut writer) = (Lines::new(stream), stream);
         self.watch.enter(Port::Http);
         self.seated = Some(view(site, self.keys, &mut reader, &mut writer));
         self.watch.leave(Port::Http);
