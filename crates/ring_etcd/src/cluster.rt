@@ -1,0 +1,139 @@
+//! The members of a cluster, which are asked in turn until one of them answers.
+ghost use Rattle.std.specs.Prelude.{IfOk};
+ghost use Rattle.serde_json.specs.Data.{Data};
+
+use crate::gateway::{Gateway, NoReply};
+use crate::replies::Answer;
+use serde_json::Value;
+use std::alloc::Global;
+use std::io;
+use std::net::{Net, SocketAddr, TcpStream, ToSocketAddrs};
+use std::thread;
+use std::time::{Clock, Duration};
+
+/// How often a request is sent at most.
+const ATTEMPTS: u64 = 64;
+
+/// How many milliseconds each attempt waits for a connection, and how many for each read or write.
+const CONNECT_MILLIS: u64 = 1000;
+const REPLY_MILLIS: u64 = 2500;
+
+/// How many milliseconds pass between two attempts, once each member was asked.
+const PAUSE_MILLIS: u64 = 200;
+
+/// A request got no answer, however often it was sent. It may have been carried out or not.
+#[derive(Clone, Copy, Debug, PartialEq, Eq)]
+pub(crate) struct NoAnswer;
+
+/// The members of a cluster, one of which may be connected.
+#[derive(Drop)]
+pub(crate) struct Cluster<R> {
+    rt: R,
+    members: Vec<String>,
+    // the member that is asked next
+    at: usize,
+    gateway: Option<Gateway<TcpStream>>,
+}
+
+impl<R: Net<Stream = TcpStream> + Clock + AllocGlobal + Drop> Cluster<R> {
+    /// Returns a cluster of these members, none of them connected. Each is HOST:PORT.
+    pub(crate) fn new(rt: R, members: Vec<String>) -> Cluster<R> {
+        Cluster {
+            rt,
+            members,
+            at: 0,
+            gateway: None,
+        }
+    }
+
+    /// Returns the allocator.
+    pub(crate) fn alloc(&self) -> Global {
+        self.rt.alloc()
+    }
+
+    /// Sends a request until a member answers it by a value of JSON that answers it, `ATTEMPTS` times at most.
+    ///
+    /// A request may be carried out more than once, so it has to be one of which that makes no
+    /// difference.
+    pub(crate) fn ask<T: Answer>(&mut self, path: &str, body: &str) -> Result<T, NoAnswer>
+        ensures { IfOk result (λ answer. (reply : Data) × T.says reply answer) }
+    {
+        let members = self.members.len() as u64;
+        for attempt in 0..ATTEMPTS {
+            if attempt > members {
+                thread::sleep(&self.rt, Duration::from_millis(PAUSE_MILLIS));
+            }
+            if let Ok(answer) = self.ask_once(path, body) {
+                return Ok(answer);
+            }
+            self.move_on();
+        }
+        Err(NoAnswer)
+    }
+
+    // Sends a request to the member that is next. A connection that failed is closed.
+    fn ask_once<T: Answer>(&mut self, path: &str, body: &str) -> Result<T, NoReply>
+        ensures { IfOk result (λ answer. (reply : Data) × T.says reply answer) }
+    {
+        let alloc = self.alloc();
+        let mut gateway = match self.gateway.take() {
+            Some(gateway) => gateway,
+            None => self.connect()?,
+        };
+        let reply = gateway.ask(alloc, path, body)?;
+        if gateway.is_idle() {
+            self.gateway = Some(gateway);
+        }
+        answer_of(alloc, &reply)
+    }
+
+    // The next member is asked next.
+    fn move_on(&mut self) {
+        self.gateway = None;
+        self.at = self.at.saturating_add(1);
+        if self.at >= self.members.len() {
+            self.at = 0;
+        }
+    }
+
+    // Connects to the member that is next.
+    fn connect(&self) -> Result<Gateway<TcpStream>, NoReply> {
+        let Some(member) = self.members.get(self.at) else {
+            return Err(NoReply);
+        };
+        let addresses = member
+            .as_str()
+            .to_socket_addrs(&self.rt)
+            .map_err(|_| NoReply)?;
+        for address in addresses {
+            if let Ok(stream) = connected(&self.rt, &address) {
+                return Ok(Gateway::new(self.alloc(), stream));
+            }
+        }
+        Err(NoReply)
+    }
+}
+
+// Connects to an address, with limits on how long each call waits.
+fn connected<R: Net<Stream = TcpStream>>(rt: &R, address: &SocketAddr) -> io::Result<TcpStream> {
+    let stream =
+        TcpStream::connect_timeout(rt, address, Duration::from_millis(CONNECT_MILLIS))?;
+    let limit = Some(Duration::from_millis(REPLY_MILLIS));
+    stream.set_nodelay(true)?;
+    stream.set_read_timeout(limit)?;
+    stream.set_write_timeout(limit)?;
+    Ok(stream)
+}
+
+// What a text of JSON says.
+fn answer_of<T: Answer>(alloc: Global, text: &[u8]) -> Result<T, NoReply>
+    ensures { IfOk result (λ answer. (reply : Data) × T.says reply answer) }
+{
+    let Ok(reply) = Value::from_slice(alloc, text) else {
+        return Err(NoReply);
+    };
+    match T::read(alloc, &reply) {
+        Ok(answer) => Ok(answer),
+        Err(_) => Err(NoReply),
+    }
+}

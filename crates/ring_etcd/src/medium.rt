@@ -1,0 +1,138 @@
+//! The medium on an engine.
+ghost use Rattle.std.specs.Prelude.{◌≡◌, ◌++◌, length, false, None};
+ghost use Rattle.ring_etcd.specs.Holding.{joined, moment_of, text_in};
+
+use crate::engine::{Engine, EngineFault};
+use ring_journal::{Batch, Fault, Medium};
+use std::alloc::Global;
+use std::snapshot::Snapshot;
+use std::sync::Arc;
+use std::sync::atomic::{AtomicBool, Ordering};
+
+/// Whether another process has taken a journal over, for the thread that says so.
+#[derive(Drop)]
+pub struct Standing {
+    is_taken_over: AtomicBool,
+}
+
+impl Standing {
+    /// Returns that none has. Does not allocate.
+    pub fn new() -> Standing {
+        Standing {
+            is_taken_over: AtomicBool::new(false),
+        }
+    }
+
+    /// Returns whether the engine said that another process has taken over.
+    pub fn is_taken_over(&self) -> bool {
+        self.is_taken_over.load(Ordering::SeqCst)
+    }
+
+    // Notes why the engine did not do what it was asked.
+    fn note(&self, fault: EngineFault) {
+        if fault == EngineFault::TakenOver {
+            self.is_taken_over.store(true, Ordering::SeqCst);
+        }
+    }
+}
+
+/// The text of a journal on an engine: what the engine holds, and bytes that `append` gathered and
+/// `sync` puts as one entry.
+///
+/// After a put without an answer nothing is asked of the engine any more.
+#[derive(Drop)]
+pub struct EtcdMedium<E: Engine + Drop> {
+    pub(crate) engine: E,
+    // the bytes that were appended and not synced
+    pub(crate) pending: Vec<u8>,
+    // the text that may have taken the place of these, when the engine failed
+    pub(crate) other: Option<Snapshot<Batch>>,
+    // whether the engine failed
+    pub(crate) is_broken: bool,
+    pub(crate) standing: Arc<Standing>,
+}
+
+impl<E: Engine + Drop> EtcdMedium<E> {
+    /// Returns the medium of what an engine holds. Does not allocate.
+    pub fn new(alloc: Global, engine: E, standing: Arc<Standing>) -> EtcdMedium<E>
+        ensures { moment_of (E.held result.engine) result.pending.items
+            (text_in (λ text. text.value.bytes) result.other)
+            ≡ record { text = joined (E.held engine); kept = length (joined (E.held engine)); other = None } }
+    {
+        EtcdMedium {
+            engine,
+            pending: Vec::new(alloc),
+            other: None,
+            is_broken: false,
+            standing,
+        }
+    }
+
+    // Notes that the engine failed.
+    fn fail(&mut self, fault: EngineFault)
+        ensures engine { self.new.engine ≡ self.old.engine }
+        ensures pending { self.new.pending ≡ self.old.pending }
+        ensures other { self.new.other ≡ self.old.other }
+    {
+        self.standing.note(fault);
+        self.is_broken = true;
+    }
+}
+
+impl<E: Engine + Drop> Medium for EtcdMedium<E> {
+    ghost moment = { λ a. moment_of (E.held a.engine) a.pending.items (text_in (λ text. text.value.bytes) a.other) };
+
+    /// Gathers the bytes of the batch, and asks nothing of the engine.
+    fn append(&mut self, batch: &Batch) -> Result<(), Fault> {
+        let Ok(()) = self.pending.extend_from_slice(batch.bytes()) else {
+            return Err(Fault::NoMemory);
+        };
+        if self.is_broken {
+            return Err(Fault::Failed);
+        }
+        Ok(())
+    }
+
+    /// Puts the bytes that were gathered as one entry. If there are none, nothing is asked.
+    fn sync(&mut self) -> Result<(), Fault> {
+        if self.is_broken {
+            return Err(Fault::Failed);
+        }
+        if self.pending.is_empty() {
+            return Ok(());
+        }
+        match self.engine.put(&self.pending) {
+            Ok(()) => {
+                self.pending.clear();
+                Ok(())
+            }
+            Err(EngineFault::NoMemory) => Err(Fault::NoMemory),
+            Err(fault) => {
+                self.fail(fault);
+                Err(Fault::Failed)
+            }
+        }
+    }
+
+    /// Makes `text` count in the place of what the engine holds. Bytes that were gathered and not
+    /// synced are dropped.
+    fn replace(&mut self, text: &Batch) -> Result<(), Fault> {
+        if self.is_broken {
+            self.other = Some(Snapshot::of(text));
+            return Err(Fault::Failed);
+        }
+        match self.engine.begin(text) {
+            Ok(()) => {
+                self.pending.clear();
+                self.other = None;
+                Ok(())
+            }
+            Err(EngineFault::NoMemory) => Err(Fault::NoMemory),
+            Err(fault) => {
+                self.fail(fault);
+                self.other = Some(Snapshot::of(text));
+                Err(Fault::Failed)
+            }
+        }
+    }
+}
