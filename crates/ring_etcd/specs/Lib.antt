@@ -1,6 +1,8 @@
+pub mod Bases
 pub mod Entries
 pub mod Holding
 pub mod Putting
 pub mod Replies
 pub mod Requests
 pub mod Saying
+pub mod Told

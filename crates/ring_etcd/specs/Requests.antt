@@ -1,10 +1,39 @@
 -- The bodies of the requests. All keys and values are in base 64.
 use Rattle.std.specs.Prelude.{ℕ, List, ◌++◌, codes}
 
--- The text that counts is the one that `base` names, and nothing is at the key.
-abbrev pub conditions : List ℕ → List ℕ → List ℕ → List ℕ
-conditions base_key base key =
-    codes "{\"compare\":[{\"key\":\"" ++ base_key
+-- puts a value at a key
+abbrev pub put_text : List ℕ → List ℕ → List ℕ
+put_text key value =
+    codes "{\"key\":\"" ++ key ++ codes "\",\"value\":\"" ++ value ++ codes "\"}"
+
+-- The base has this value, and nothing is at the key.
+abbrev pub compare_text : List ℕ → List ℕ → List ℕ → List ℕ
+compare_text base_key base key =
+    codes "\"compare\":[{\"key\":\"" ++ base_key
     ++ codes "\",\"target\":\"VALUE\",\"result\":\"EQUAL\",\"value\":\"" ++ base
     ++ codes "\"},{\"key\":\"" ++ key
     ++ codes "\",\"target\":\"CREATE\",\"result\":\"EQUAL\",\"create_revision\":\"0\"}]"
+
+-- If a condition does not hold, the key and the base are read.
+abbrev pub failure_text : List ℕ → List ℕ → List ℕ
+failure_text base_key key =
+    codes "\"failure\":[{\"request_range\":{\"key\":\"" ++ key
+    ++ codes "\"}},{\"request_range\":{\"key\":\"" ++ base_key ++ codes "\"}}]"
+
+-- puts an entry on these conditions
+abbrev pub entry_text : List ℕ → List ℕ → List ℕ → List ℕ → List ℕ
+entry_text base_key base key value =
+    codes "{" ++ compare_text base_key base key
+    ++ codes ",\"success\":[{\"request_put\":{\"key\":\"" ++ key
+    ++ codes "\",\"value\":\"" ++ value ++ codes "\"}}],"
+    ++ failure_text base_key key ++ codes "}"
+
+-- Makes another base count on these conditions, and deletes keys.
+abbrev pub switch_text : List ℕ → List ℕ → List ℕ → List ℕ → List ℕ → List ℕ → List ℕ
+switch_text base_key base key new from to =
+    codes "{" ++ compare_text base_key base key
+    ++ codes ",\"success\":[{\"request_put\":{\"key\":\"" ++ base_key
+    ++ codes "\",\"value\":\"" ++ new
+    ++ codes "\"}},{\"request_delete_range\":{\"key\":\"" ++ from
+    ++ codes "\",\"range_end\":\"" ++ to ++ codes "\"}}],"
+    ++ failure_text base_key key ++ codes "}"

@@ -8,12 +8,17 @@
 //! ```
 //!
 //! TEXT, K and N have 20 digits, so that the order of the keys is that of the numbers.
+ghost use Rattle.std.specs.Prelude.{◌≡◌, IfOk, string_bytes};
+ghost use Rattle.base64.specs.Engines.{standard};
+ghost use Rattle.base64.specs.GeneralPurpose.{encode_of};
 
 use base64::engine::general_purpose::STANDARD;
 use std::alloc::{AllocError, Global};
 
 /// Bytes in base 64, as the gateway takes a key or a value.
-pub(crate) fn encoded(alloc: Global, bytes: &[u8]) -> Result<String, AllocError> {
+pub(crate) fn encoded(alloc: Global, bytes: &[u8]) -> Result<String, AllocError>
+    ensures { IfOk result (λ text. string_bytes text ≡ encode_of standard bytes.now) }
+{
     STANDARD.encode(alloc, bytes)
 }
 

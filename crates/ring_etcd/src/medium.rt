@@ -1,10 +1,11 @@
 //! The medium on an engine.
-ghost use Rattle.std.specs.Prelude.{◌≡◌, ◌++◌, length, false, None};
-ghost use Rattle.ring_etcd.specs.Holding.{joined, moment_of, text_in};
+ghost use Rattle.std.specs.Prelude.{◌≡◌, [], None};
+ghost use Rattle.ring_etcd.specs.Holding.{moment_of};
 
 use crate::engine::{Engine, EngineFault};
 use ring_journal::{Batch, Fault, Medium};
 use std::alloc::Global;
+use std::marker::Model;
 use std::snapshot::Snapshot;
 use std::sync::Arc;
 use std::sync::atomic::{AtomicBool, Ordering};
@@ -40,24 +41,34 @@ impl Standing {
 /// `sync` puts as one entry.
 ///
 /// After a put without an answer nothing is asked of the engine any more.
+///
+/// Contracts see the moment: the text is what the engine holds and then the bytes that were
+/// gathered, of which those that the engine holds are kept.
 #[derive(Drop)]
 pub struct EtcdMedium<E: Engine + Drop> {
-    pub(crate) engine: E,
+    engine: E,
     // the bytes that were appended and not synced
-    pub(crate) pending: Vec<u8>,
+    pending: Vec<u8>,
     // the text that may have taken the place of these, when the engine failed
-    pub(crate) other: Option<Snapshot<Batch>>,
+    other: Option<Snapshot<Batch>>,
     // whether the engine failed
-    pub(crate) is_broken: bool,
-    pub(crate) standing: Arc<Standing>,
+    is_broken: bool,
+    standing: Arc<Standing>,
+}
+
+impl<E: Engine + Drop> Model for EtcdMedium<E> {
+    ghost use Rattle.ring_journal.specs.Moments.{Moment};
+    ghost use Rattle.ring_etcd.specs.Holding.{moment_of, text_in};
+
+    ghost Value = { Moment };
+
+    ghost view = { λ a. moment_of (E.held a.engine) a.pending.items (text_in (λ text. text.value.bytes) a.other) };
 }
 
 impl<E: Engine + Drop> EtcdMedium<E> {
     /// Returns the medium of what an engine holds. Does not allocate.
     pub fn new(alloc: Global, engine: E, standing: Arc<Standing>) -> EtcdMedium<E>
-        ensures { moment_of (E.held result.engine) result.pending.items
-            (text_in (λ text. text.value.bytes) result.other)
-            ≡ record { text = joined (E.held engine); kept = length (joined (E.held engine)); other = None } }
+        ensures { result ≡ moment_of (E.held engine) [] None }
     {
         EtcdMedium {
             engine,
@@ -67,20 +78,10 @@ impl<E: Engine + Drop> EtcdMedium<E> {
             standing,
         }
     }
-
-    // Notes that the engine failed.
-    fn fail(&mut self, fault: EngineFault)
-        ensures engine { self.new.engine ≡ self.old.engine }
-        ensures pending { self.new.pending ≡ self.old.pending }
-        ensures other { self.new.other ≡ self.old.other }
-    {
-        self.standing.note(fault);
-        self.is_broken = true;
-    }
 }
 
 impl<E: Engine + Drop> Medium for EtcdMedium<E> {
-    ghost moment = { λ a. moment_of (E.held a.engine) a.pending.items (text_in (λ text. text.value.bytes) a.other) };
+    ghost moment = { λ a. a };
 
     /// Gathers the bytes of the batch, and asks nothing of the engine.
     fn append(&mut self, batch: &Batch) -> Result<(), Fault> {
@@ -108,7 +109,8 @@ impl<E: Engine + Drop> Medium for EtcdMedium<E> {
             }
             Err(EngineFault::NoMemory) => Err(Fault::NoMemory),
             Err(fault) => {
-                self.fail(fault);
+                self.standing.note(fault);
+                self.is_broken = true;
                 Err(Fault::Failed)
             }
         }
@@ -129,7 +131,8 @@ impl<E: Engine + Drop> Medium for EtcdMedium<E> {
             }
             Err(EngineFault::NoMemory) => Err(Fault::NoMemory),
             Err(fault) => {
-                self.fail(fault);
+                self.standing.note(fault);
+                self.is_broken = true;
                 self.other = Some(Snapshot::of(text));
                 Err(Fault::Failed)
             }

@@ -1,5 +1,6 @@
 //! The place of a journal in etcd: taking it over, and reading it.
 ghost use Rattle.std.specs.Prelude.{◌≡◌, length, IfOk, None};
+ghost use Rattle.ring_etcd.specs.Bases.{base_text};
 
 use crate::base::Base;
 use crate::cluster::Cluster;
@@ -10,7 +11,7 @@ use crate::medium::{EtcdMedium, Standing};
 use crate::reading::ReadFault;
 use crate::store::{AskFault, Store};
 use ring_journal::Batch;
-use std::alloc::AllocError;
+use std::alloc::{AllocError, Global};
 use std::net::{Net, TcpStream};
 use std::sync::Arc;
 use std::time::Clock;
@@ -117,7 +118,10 @@ impl<R: Net<Stream = TcpStream> + Clock + AllocGlobal + Copy + Drop> EtcdPlace<R
         self,
         text: &Batch,
         standing: Arc<Standing>,
-    ) -> Result<EtcdMedium<Etcd<R>>, EtcdFault> {
+    ) -> Result<EtcdMedium<Etcd<R>>, EtcdFault>
+        ensures { IfOk result (λ medium. medium
+            ≡ record { text = text.now.bytes; kept = length text.now.bytes; other = None }) }
+    {
         let EtcdPlace {
             store,
             base,
@@ -138,21 +142,23 @@ where
     R: Net<Stream = TcpStream> + Clock + AllocGlobal + Drop,
 {
     if let Some(value) = store.base()? {
-        return base_of(&value);
+        return base_of(store.alloc(), &value);
     }
     store.put_base(Base {
         text: identity,
         pieces: 0,
     })?;
     match store.base()? {
-        Some(value) => base_of(&value),
+        Some(value) => base_of(store.alloc(), &value),
         None => Err(EtcdFault::Damaged),
     }
 }
 
 // The base with this value.
-fn base_of(value: &[u8]) -> Result<Base, EtcdFault> {
-    match Base::of(value) {
+fn base_of(alloc: Global, value: &[u8]) -> Result<Base, EtcdFault>
+    ensures { IfOk result (λ base. value.now ≡ base_text base.text base.pieces) }
+{
+    match Base::of(alloc, value)? {
         Some(base) => Ok(base),
         None => Err(EtcdFault::Damaged),
     }

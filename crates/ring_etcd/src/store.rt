@@ -1,6 +1,9 @@
 //! What is asked of etcd, and what it said.
-ghost use Rattle.std.specs.Prelude.{◌≡◌, ◌↔◌, Some, IsTrue, option_map};
+ghost use Rattle.std.specs.Prelude.{◌≡◌, ◌↔◌, Some, IfOk, IsTrue, option_map};
+ghost use Rattle.serde_json.specs.Data.{Data};
+ghost use Rattle.ring_etcd.specs.Bases.{base_text};
 ghost use Rattle.ring_etcd.specs.Putting.{IsPut, IsPutOver, IsSwitched};
+ghost use Rattle.ring_etcd.specs.Told.{IsToldPut, IsToldSwitched};
 
 use crate::base::Base;
 use crate::cluster::{Cluster, NoAnswer};
@@ -97,7 +100,12 @@ impl<R: Net<Stream = TcpStream> + Clock + AllocGlobal + Drop> Store<R> {
     }
 
     /// Puts an entry after the text of a base, if nothing is at its number and the base counts.
-    pub(crate) fn put_entry(&mut self, base: Base, number: u64, entry: &[u8]) -> Result<Put, AskFault> {
+    ///
+    /// A reply says what became of it.
+    pub(crate) fn put_entry(&mut self, base: Base, number: u64, entry: &[u8]) -> Result<Put, AskFault>
+        ensures { IfOk result (λ put. (reply : Data)
+            × IsToldPut reply entry.now (base_text base.text base.pieces) put) }
+    {
         let alloc = self.alloc();
         let base_key = self.keys.base()?;
         let counts = base.value(alloc)?;
@@ -117,8 +125,11 @@ impl<R: Net<Stream = TcpStream> + Clock + AllocGlobal + Drop> Store<R> {
     /// Makes another base count, if the old one does and nothing is at this number after its text.
     /// The texts before the new one are deleted at the same instant.
     ///
-    /// Returns whether this process did that.
-    pub(crate) fn switch(&mut self, old: Base, number: u64, new: Base) -> Result<bool, AskFault> {
+    /// Returns whether this process did that, as a reply says.
+    pub(crate) fn switch(&mut self, old: Base, number: u64, new: Base) -> Result<bool, AskFault>
+        ensures { IfOk result (λ is_done. (reply : Data)
+            × (IsTrue is_done ↔ IsToldSwitched reply (base_text new.text new.pieces))) }
+    {
         let alloc = self.alloc();
         let base_key = self.keys.base()?;
         let counts = old.value(alloc)?;
