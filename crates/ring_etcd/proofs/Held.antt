@@ -16,3 +16,7 @@ put_all new old entry left text put none whole =
 
 pub put_len : (new old : List (List ℕ)) (entry text : List ℕ) → new ≡ old ++ entry ∷ [] → joined old ++ entry ≡ text → length (joined new) ≡ length text
 put_len new old entry text put whole = ap length (ap joined put ∙ joined-push old entry ∙ whole)
+
+pub held_push : {A : Type 0} (f : A → List ℕ) (first : List ℕ) (old mid new : List A) (x : A) (entry : List ℕ) (held : List (List ℕ)) → mid ≡ old → new ≡ mid ++ x ∷ [] → f x ≡ entry → first ∷ map f old ≡ held → first ∷ map f new ≡ held ++ entry ∷ []
+held_push f first old mid new x entry held same pushed is whole =
+    ap (λ l. first ∷ map f l) (pushed ∙ ap (λ l. l ++ x ∷ []) same) ∙ ap (λ l. first ∷ l) (map-push f old x) ∙ (λ i. whole i ++ is i ∷ [])

@@ -1,11 +1,12 @@
 //! The members of a cluster, which are asked in turn until one of them answers.
 ghost use Rattle.std.specs.Prelude.{IfOk};
 ghost use Rattle.serde_json.specs.Data.{Data};
+ghost use Rattle.serde_json.specs.View.{view};
 
 use crate::gateway::{Gateway, NoReply};
 use crate::replies::Answer;
 use serde_json::Value;
-use std::alloc::Global;
+use std::alloc::{AllocError, Global};
 use std::io;
 use std::net::{Net, SocketAddr, TcpStream, ToSocketAddrs};
 use std::thread;
@@ -25,7 +26,8 @@ const PAUSE_MILLIS: u64 = 200;
 #[derive(Clone, Copy, Debug, PartialEq, Eq)]
 pub(crate) struct NoAnswer;
 
-/// The members of a cluster, one of which may be connected.
+/// The members of a cluster, one of which may be connected. Replies of another cluster are not
+/// believed.
 #[derive(Drop)]
 pub(crate) struct Cluster<R> {
     rt: R,
@@ -33,17 +35,25 @@ pub(crate) struct Cluster<R> {
     // the member that is asked next
     at: usize,
     gateway: Option<Gateway<TcpStream>>,
+    // the identity of the cluster that answered first; no other one is believed
+    identity: Option<u64>,
 }
 
 impl<R: Net<Stream = TcpStream> + Clock + AllocGlobal + Drop> Cluster<R> {
-    /// Returns a cluster of these members, none of them connected. Each is HOST:PORT.
-    pub(crate) fn new(rt: R, members: Vec<String>) -> Cluster<R> {
-        Cluster {
+    /// Returns a cluster of these members, none of them connected. They are HOST:PORT,HOST:PORT and
+    /// so on.
+    pub(crate) fn new(rt: R, members: &str) -> Result<Cluster<R>, AllocError> {
+        let mut each = Vec::new(rt.alloc());
+        for member in members.split(',') {
+            each.push(String::from_str(rt.alloc(), member)?)?;
+        }
+        Ok(Cluster {
             rt,
-            members,
+            members: each,
             at: 0,
             gateway: None,
-        }
+            identity: None,
+        })
     }
 
     /// Returns the allocator.
@@ -80,11 +90,26 @@ impl<R: Net<Stream = TcpStream> + Clock + AllocGlobal + Drop> Cluster<R> {
             Some(gateway) => gateway,
             None => self.connect()?,
         };
-        let reply = gateway.ask(alloc, path, body)?;
+        let text = gateway.ask(alloc, path, body)?;
         if gateway.is_idle() {
             self.gateway = Some(gateway);
         }
+        let Ok(reply) = Value::from_slice(alloc, text.as_slice()) else {
+            return Err(NoReply);
+        };
+        if !self.is_of_cluster(&reply) {
+            return Err(NoReply);
+        }
         answer_of(alloc, &reply)
+    }
+
+    // Whether a reply is from the cluster that answered first.
+    fn is_of_cluster(&mut self, reply: &Value) -> bool {
+        let identity = identity_in(reply);
+        if self.identity.is_none() {
+            self.identity = identity;
+        }
+        identity.is_some() && identity == self.identity
     }
 
     // The next member is asked next.
@@ -125,14 +150,19 @@ fn connected<R: Net<Stream = TcpStream>>(rt: &R, address: &SocketAddr) -> io::Re
     Ok(stream)
 }
 
-// What a text of JSON says.
-fn answer_of<T: Answer>(alloc: Global, text: &[u8]) -> Result<T, NoReply>
-    ensures { IfOk result (λ answer. (reply : Data) × T.says reply answer) }
+// The identity of the cluster that a reply is from.
+fn identity_in(reply: &Value) -> Option<u64> {
+    let text = reply
+        .pointer("/header/cluster_id")
+        .and_then(Value::as_str)?;
+    text.parse().ok()
+}
+
+// What a reply says.
+fn answer_of<T: Answer>(alloc: Global, reply: &Value) -> Result<T, NoReply>
+    ensures { IfOk result (λ answer. T.says (view reply.now) answer) }
 {
-    let Ok(reply) = Value::from_slice(alloc, text) else {
-        return Err(NoReply);
-    };
-    match T::read(alloc, &reply) {
+    match T::read(alloc, reply) {
         Ok(answer) => Ok(answer),
         Err(_) => Err(NoReply),
     }

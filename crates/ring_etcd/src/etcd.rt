@@ -1,5 +1,5 @@
 //! The engine on etcd.
-ghost use Rattle.std.specs.Prelude.{◌≡◌, ◌++◌, ◌∷◌, [], OnErr, OnOk};
+ghost use Rattle.std.specs.Prelude.{◌≡◌, ◌∷◌, [], IfOk};
 
 use crate::base::Base;
 use crate::engine::{Engine, EngineFault};

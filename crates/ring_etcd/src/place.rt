@@ -82,14 +82,14 @@ pub struct EtcdPlace<R> {
 }
 
 impl<R: Net<Stream = TcpStream> + Clock + AllocGlobal + Copy + Drop> EtcdPlace<R> {
-    /// Takes over the journal of this name from whichever process has it, and reads it. Each member
-    /// is HOST:PORT.
+    /// Takes over the journal of this name from whichever process has it, and reads it. The members
+    /// of etcd are HOST:PORT,HOST:PORT and so on.
     ///
     /// Puts an entry under the next number. From then on no other process puts one there, so the
     /// process that had the journal is told so at its next put.
-    pub fn take(rt: &R, members: Vec<String>, name: &str) -> Result<EtcdPlace<R>, EtcdFault> {
+    pub fn take(rt: &R, members: &str, name: &str) -> Result<EtcdPlace<R>, EtcdFault> {
         let keys = Keys::new(rt.alloc(), name)?;
-        let mut store = Store::new(Cluster::new(*rt, members), keys);
+        let mut store = Store::new(Cluster::new(*rt, members)?, keys);
         let identity = store.identity()?;
         for _ in 0..READINGS {
             let base = current(&mut store, identity)?;

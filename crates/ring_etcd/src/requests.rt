@@ -1,6 +1,4 @@
 //! The bodies of the requests to the gateway. Keys and values are in base 64.
-ghost use Rattle.std.specs.Prelude.{◌≡◌, IfOk, string_bytes};
-ghost use Rattle.ring_etcd.specs.Requests.{compare_text, entry_text, failure_text, put_text, switch_text};
 
 use std::alloc::{AllocError, Global};
 
@@ -18,9 +16,7 @@ pub(crate) struct Slot<'a> {
 }
 
 /// Puts a value at a key.
-pub(crate) fn put(alloc: Global, key: &str, value: &str) -> Result<String, AllocError>
-    ensures { IfOk result (λ text. string_bytes text ≡ put_text key.now value.now) }
-{
+pub(crate) fn put(alloc: Global, key: &str, value: &str) -> Result<String, AllocError> {
     format!(in alloc; "{{\"key\":\"{key}\",\"value\":\"{value}\"}}")
 }
 
@@ -43,10 +39,7 @@ pub(crate) fn put_first(alloc: Global, key: &str, value: &str) -> Result<String,
 
 /// Puts a value at the key of the slot, if nothing is there and its base counts. Otherwise reads
 /// that key and the base.
-pub(crate) fn put_entry(alloc: Global, slot: Slot<'_>, value: &str) -> Result<String, AllocError>
-    ensures { IfOk result (λ text. string_bytes text
-        ≡ entry_text slot.entry.base_key.now slot.entry.base.now slot.entry.key.now value.now) }
-{
+pub(crate) fn put_entry(alloc: Global, slot: Slot<'_>, value: &str) -> Result<String, AllocError> {
     let Slot { key, .. } = slot;
     let compare = compare(alloc, slot)?;
     let failure = failure(alloc, slot)?;
@@ -63,11 +56,7 @@ pub(crate) fn switch(
     base: &str,
     from: &str,
     to: &str,
-) -> Result<String, AllocError>
-    ensures { IfOk result (λ text. string_bytes text
-        ≡ switch_text slot.entry.base_key.now slot.entry.base.now slot.entry.key.now
-            base.now from.now to.now) }
-{
+) -> Result<String, AllocError> {
     let Slot { base_key, .. } = slot;
     let compare = compare(alloc, slot)?;
     let failure = failure(alloc, slot)?;
@@ -76,20 +65,14 @@ pub(crate) fn switch(
 }
 
 // The condition that the base of the slot counts and that nothing is at its key.
-fn compare(alloc: Global, slot: Slot<'_>) -> Result<String, AllocError>
-    ensures { IfOk result (λ text. string_bytes text
-        ≡ compare_text slot.entry.base_key.now slot.entry.base.now slot.entry.key.now) }
-{
+fn compare(alloc: Global, slot: Slot<'_>) -> Result<String, AllocError> {
     let Slot { base_key, base, key } = slot;
     format!(in alloc;
         "\"compare\":[{{\"key\":\"{base_key}\",\"target\":\"VALUE\",\"result\":\"EQUAL\",\"value\":\"{base}\"}},{{\"key\":\"{key}\",\"target\":\"CREATE\",\"result\":\"EQUAL\",\"create_revision\":\"0\"}}]")
 }
 
 // What is read if the condition does not hold: the key of the slot, then the base.
-fn failure(alloc: Global, slot: Slot<'_>) -> Result<String, AllocError>
-    ensures { IfOk result (λ text. string_bytes text
-        ≡ failure_text slot.entry.base_key.now slot.entry.key.now) }
-{
+fn failure(alloc: Global, slot: Slot<'_>) -> Result<String, AllocError> {
     let Slot { base_key, key, .. } = slot;
     format!(in alloc;
         "\"failure\":[{{\"request_range\":{{\"key\":\"{key}\"}}}},{{\"request_range\":{{\"key\":\"{base_key}\"}}}}]")

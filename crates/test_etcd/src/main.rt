@@ -18,15 +18,6 @@ use std::rt::Env;
 use std::sync::Arc;
 use std::time::Clock;
 
-/// The members of a text like `HOST:PORT,HOST:PORT`.
-fn members_of(alloc: Global, text: &str) -> Result<Vec<String>> {
-    let mut members = Vec::new(alloc);
-    for member in text.split(',') {
-        members.push(String::from_str(alloc, member)?)?;
-    }
-    Ok(members)
-}
-
 /// Settles a line. Returns whether the journal is still this process's.
 fn settle<E: Engine + Drop>(
     alloc: Global,
@@ -74,8 +65,7 @@ where
     let (Some(order), Some(members), Some(name)) = (words.get(1), words.get(2), words.get(3)) else {
         bail!("words are missing");
     };
-    let members = members_of(alloc, members.as_str())?;
-    let mut place = match EtcdPlace::take(rt, members, name.as_str()) {
+    let mut place = match EtcdPlace::take(rt, members.as_str(), name.as_str()) {
         Ok(place) => place,
         Err(fault) => bail!("taking: {fault:?}"),
     };
