@@ -111,6 +111,7 @@ impl<R: Net<Stream = TcpStream> + Clock + AllocGlobal + Drop> Etcd<R> {
 impl<R: Net<Stream = TcpStream> + Clock + AllocGlobal + Drop> Engine for Etcd<R> {
     ghost held = { λ a. a };
 
+    #[tactic(auto, using(crate::proofs::Held::map_push))]
     fn put(&mut self, entry: &Vec<u8>) -> Result<(), EngineFault> {
         let number = self.next();
         let value = self.entry_of(entry)?;

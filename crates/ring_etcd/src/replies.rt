@@ -1,5 +1,6 @@
 //! What a reply of the gateway says.
-ghost use Rattle.std.specs.Prelude.{◌≡◌, ◌↔◌, Some, IfOk, IfSome, IsTrue, codes, option_map};
+ghost use Rattle.std.specs.Prelude.{◌≡◌, ◌↔◌, Some, IfOk, IfSome, IsTrue, codes, option_and_then, option_map};
+ghost use Rattle.serde_json.specs.Find.{as_str, pointer};
 ghost use Rattle.serde_json.specs.View.{view};
 ghost use Rattle.ring_etcd.specs.Replies.{IsDone, base_in, bytes_at, entry_in};
 ghost use Rattle.ring_etcd.specs.Saying.{Says};
@@ -64,12 +65,20 @@ fn is_done(reply: &Value) -> bool
     reply.pointer("/succeeded").and_then(Value::as_bool) == Some(true)
 }
 
+// The text at a place of a reply; `None` if none is there.
+fn text_at<'v>(reply: &'v Value, path: &str) -> Option<&'v str>
+    ensures { option_map (λ text. text.now) result
+        ≡ option_and_then as_str (pointer path.now (view reply.now)) }
+{
+    reply.pointer(path).and_then(Value::as_str)
+}
+
 // The bytes that are in base 64 at a place of a reply; `None` if no text is there.
 fn value_at(alloc: Global, reply: &Value, path: &str) -> Result<Option<Vec<u8>>, Unread>
     ensures { IfOk result (λ found.
         option_map (λ bytes. bytes.items) found ≡ bytes_at path.now (view reply.now)) }
 {
-    let Some(text) = reply.pointer(path).and_then(Value::as_str) else {
+    let Some(text) = text_at(reply, path) else {
         return Ok(None);
     };
     match STANDARD.decode(alloc, text.as_bytes()) {

@@ -128,7 +128,7 @@ impl<R: Net<Stream = TcpStream> + Clock + AllocGlobal + Drop> Store<R> {
     /// Returns whether this process did that, as a reply says.
     pub(crate) fn switch(&mut self, old: Base, number: u64, new: Base) -> Result<bool, AskFault>
         ensures { IfOk result (λ is_done. (reply : Data)
-            × (IsTrue is_done ↔ IsToldSwitched reply (base_text new.text new.pieces))) }
+            × (IsTrue is_done → IsToldSwitched reply (base_text new.text new.pieces))) }
     {
         let alloc = self.alloc();
         let base_key = self.keys.base()?;
