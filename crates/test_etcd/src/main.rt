@@ -18,11 +18,6 @@ use std::rt::Env;
 use std::sync::Arc;
 use std::time::Clock;
 
-/// Returns a value that another thread may take and share, as a service does with its medium.
-fn shared<T: Send + Sync + Drop>(value: T) -> T {
-    value
-}
-
 /// Settles a line. Returns whether the journal is still this process's.
 fn settle<E: Engine + Drop>(
     alloc: Global,
@@ -87,7 +82,7 @@ where
     let theirs = Arc::try_clone(&standing)?;
     let text = Batch::from(found);
     let mut medium = match place.begin(&text, theirs) {
-        Ok(medium) => shared(medium),
+        Ok(medium) => medium,
         Err(fault) => bail!("beginning: {fault:?}"),
     };
     let rewrite = order.as_str() == "rewrite";
