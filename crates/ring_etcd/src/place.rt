@@ -92,7 +92,7 @@ impl<R: Net<Stream = TcpStream> + Clock + AllocGlobal + Copy + Drop> EtcdPlace<R
         let mut store = Store::new(Cluster::new(*rt, members)?, keys);
         let identity = store.identity()?;
         for _ in 0..READINGS {
-            let base = current(&mut store, identity)?;
+            let base = current(&mut store)?;
             let mut found = Vec::new(rt.alloc());
             if let Some(next) = taken(&mut store, base, identity, &mut found)? {
                 return Ok(EtcdPlace {
@@ -136,8 +136,9 @@ impl<R: Net<Stream = TcpStream> + Clock + AllocGlobal + Copy + Drop> EtcdPlace<R
     }
 }
 
-// The base that counts. If the journal was never begun, it is begun by an empty text.
-fn current<R>(store: &mut Store<R>, identity: u64) -> Result<Base, EtcdFault>
+// The base that counts. If the journal was never begun, it is begun by an empty text. No process
+// has the identity 0, so this is no process's text.
+fn current<R>(store: &mut Store<R>) -> Result<Base, EtcdFault>
 where
     R: Net<Stream = TcpStream> + Clock + AllocGlobal + Drop,
 {
@@ -145,7 +146,7 @@ where
         return base_of(store.alloc(), &value);
     }
     store.put_base(Base {
-        text: identity,
+        text: 0,
         pieces: 0,
     })?;
     match store.base()? {
@@ -178,7 +179,7 @@ where
     let mark = format!(in store.alloc(); "t{identity}")?;
     match store.read(base, found) {
         Ok(next) => Ok(store.take_over(base, next, mark.as_str().as_bytes(), found)?),
-        Err(ReadFault::Damaged) if current(store, identity)? != base => Ok(None),
+        Err(ReadFault::Damaged) if current(store)? != base => Ok(None),
         Err(fault) => Err(fault.into()),
     }
 }
