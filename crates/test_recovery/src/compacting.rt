@@ -6,7 +6,8 @@ use ring_recovery::{RecoverFault, Recovered, recover};
 use std::alloc::Global;
 use std::process::Abort;
 
-// Changes, and the fewer ones that lead to the same groups. What was undone before a start is left out.
+// Changes, and the fewer ones that lead to the same groups. Changes that were undone before a start
+// are left out.
 const SHORT: [(&[&[u8]], &[&[u8]]); 6] = [
     // members that joined and left
     (
@@ -179,8 +180,9 @@ const KEPT: [&[&[u8]]; 3] = [
     ],
 ];
 
-// The bytes of a journal with this first line and these changes. Fails only if an allocation fails.
-fn try_journal(alloc: Global, heading: &[u8], changes: &[&[u8]]) -> Option<Vec<u8>> {
+// Returns the bytes of a journal with this first line and these changes. Fails only if an
+// allocation fails.
+fn journal(alloc: Global, heading: &[u8], changes: &[&[u8]]) -> Option<Vec<u8>> {
     let mut file = Vec::new(alloc);
     file.extend_from_slice(heading).ok()?;
     file.push(b'\n').ok()?;
@@ -194,17 +196,9 @@ fn try_journal(alloc: Global, heading: &[u8], changes: &[&[u8]]) -> Option<Vec<u
     Some(file)
 }
 
-// The bytes of a journal with this first line and these changes.
-fn journal(rt: &impl Abort, alloc: Global, heading: &[u8], changes: &[&[u8]]) -> Vec<u8> {
-    match try_journal(alloc, heading, changes) {
-        Some(file) => file,
-        None => try_journal(alloc, heading, changes).expect(rt, TWICE),
-    }
-}
-
-// The table of a journal, compacted. Fails only if an allocation fails.
-fn try_compacted(rt: &impl Abort, alloc: Global, changes: &[&[u8]]) -> Option<Recovered> {
-    match recover(alloc, journal(rt, alloc, HEADING, changes)) {
+// Returns the table of a journal of these changes, compacted. Fails only if an allocation fails.
+fn compacted(rt: &impl Abort, alloc: Global, changes: &[&[u8]]) -> Option<Recovered> {
+    match recover(alloc, journal(alloc, HEADING, changes)?) {
         Ok(recovered) => recovered.compacted(alloc).ok(),
         Err(fault) => {
             assert_eq!(rt; fault, RecoverFault::NoMemory);
@@ -213,17 +207,23 @@ fn try_compacted(rt: &impl Abort, alloc: Global, changes: &[&[u8]]) -> Option<Re
     }
 }
 
-// Whether a journal of the first changes is compacted to one of the others, in its second life.
-fn becomes(rt: &impl Abort, alloc: Global, found: &[&[u8]], left: &[&[u8]]) {
-    let compacted = match try_compacted(rt, alloc, found) {
-        Some(compacted) => compacted,
-        None => try_compacted(rt, alloc, found).expect(rt, TWICE),
-    };
-    let text = journal(rt, alloc, SECOND, left);
+// Stops the test if a journal of the first changes is not compacted to one of the others, in its
+// second life. Returns `None` if an allocation fails.
+fn try_becomes(rt: &impl Abort, alloc: Global, found: &[&[u8]], left: &[&[u8]]) -> Option<()> {
+    let text = journal(alloc, SECOND, left)?;
+    let compacted = compacted(rt, alloc, found)?;
     assert_eq!(rt; compacted.text().bytes(), text.as_slice());
     assert_eq!(rt; compacted.count(), left.len());
     drop(text);
     drop(compacted);
+    Some(())
+}
+
+// The same. If an allocation fails, it is repeated once.
+fn becomes(rt: &impl Abort, alloc: Global, found: &[&[u8]], left: &[&[u8]]) {
+    if try_becomes(rt, alloc, found, left).is_none() {
+        try_becomes(rt, alloc, found, left).expect(rt, TWICE);
+    }
 }
 
 #[test]

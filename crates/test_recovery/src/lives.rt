@@ -5,9 +5,10 @@ use crate::files::{AGAIN, STARTED, TWICE, file, recovered};
 use ring_any::Any;
 use ring_events::{Command, Reply};
 use ring_grammar::{parse_command, print_reply};
+use ring_id::Refusal;
 use ring_journal::{Batch, Fault, Medium, MemoryMedium};
 use ring_recovery::{Alarm, Ending, Written};
-use ring_table::{Recorded, Tabled, is_starved};
+use ring_table::{Recorded, Tabled};
 use std::alloc::{AllocFailed, Global};
 use std::process::Abort;
 use std::sync::{Arc, Wait};
@@ -64,19 +65,13 @@ fn command(rt: &impl Abort, line: &[u8]) -> Command<Any> {
     parse_command(line).expect(rt, "no command")
 }
 
-// The reply to the command of a line. A call that ran out of memory is repeated once.
-fn call<T: Tabled<Any>>(rt: &impl Abort, table: &mut T, line: &[u8]) -> Reply {
-    let reply = table.call(7, command(rt, line));
-    if !is_starved(&reply) {
-        return reply;
-    }
-    drop(reply);
-    table.call(7, command(rt, line))
-}
-
-// The reply to a command as a line.
+// Returns the reply to the command of a line, as a line. A call that ran out of memory is repeated
+// once.
 fn answer<T: Tabled<Any>>(rt: &impl Abort, alloc: Global, table: &mut T, line: &[u8]) -> Vec<u8> {
-    let reply = call(rt, table, line);
+    let reply = match table.call(7, command(rt, line)) {
+        Reply::Refused(Refusal::NoMemory) => table.call(7, command(rt, line)),
+        reply => reply,
+    };
     let mut text = Vec::new(alloc);
     if print_reply(&reply, &mut text).is_err() {
         text.clear();

@@ -1,10 +1,10 @@
 //! A journal that is rewritten while its table is used, and what a crash leaves of it.
 
-use crate::files::{AGAIN, TWICE, file};
+use crate::files::{AGAIN, file, recovered};
 use crate::lives::{copy, new_alarm, reopened, tells};
 use ring_any::Any;
 use ring_journal::{Medium, MemoryMedium};
-use ring_recovery::{RecoverFault, Recovered, Written, recover};
+use ring_recovery::{Recovered, Written};
 use ring_table::Recorded;
 use std::alloc::Global;
 use std::process::Abort;
@@ -37,18 +37,12 @@ fn text_of(rt: &impl Abort, alloc: Global, table: Table) -> (Table, Vec<u8>) {
     (Recorded::resume(alloc, book, written), text)
 }
 
-// The table that a text leads to.
+// Returns what is recovered from a text.
 fn found(rt: &impl Abort, alloc: Global, text: &[u8]) -> Recovered {
-    match recover(alloc, copy(rt, alloc, text)) {
-        Ok(found) => found,
-        Err(fault) => {
-            assert_eq!(rt; fault, RecoverFault::NoMemory);
-            recover(alloc, copy(rt, alloc, text)).expect(rt, TWICE)
-        }
-    }
+    recovered(rt, alloc, &[], text).expect(rt, "no journal")
 }
 
-// Whether a restart that finds this text shows these members, in the third life.
+// Stops the test if a restart that finds this text does not show these members, in the third life.
 fn shows(rt: &impl Abort, alloc: Global, text: &[u8], members: &[u8]) {
     let found = found(rt, alloc, text);
     assert_eq!(rt; found.life().get(), 3);
