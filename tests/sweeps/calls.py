@@ -27,7 +27,7 @@ ASK_AGAIN = {
         "node_rows::", "note_rows::", "scan_rows::", "schedules::", "settle_rows::", "work_rows::",
         "workers::starved_worker::", "world_rows::",
     ),
-    "test_table_tests": ("closing_rows::", "seat_rows::", "table_rows::", *SHARED),
+    "test_table_tests": ("closing_rows::", "table_rows::", *SHARED),
     "test_winner_tests": ("",),
     "test_chart_tests": ("",),
 }

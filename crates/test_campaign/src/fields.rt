@@ -1,4 +1,4 @@
-//! A table that campaigns and a caller share, and what the rows ask of it.
+//! A table that campaigns and a caller share, and the steps of test cases.
 use ring_any::Any;
 use ring_campaign::{campaign, clear};
 use ring_events::Reply;
@@ -11,7 +11,7 @@ use std::process::Abort;
 use std::sync::{Arc, Wait};
 use std::time::Clock;
 
-/// What a test says that stops where memory was refused twice.
+/// The panic message of a test that ran out of memory twice.
 const TWICE: &str = "memory was refused twice";
 
 /// A locked table, the seat of its campaigns and the seat of a caller.
@@ -22,6 +22,18 @@ pub struct Field {
     other: LockedSeat<Any>,
 }
 
+/// A step of a test case.
+pub enum Step {
+    /// A caller's line gets this reply.
+    Says(&'static [u8], &'static [u8]),
+    /// A campaign of these lines is told this.
+    Tells(&'static [u8], &'static [u8]),
+    /// A term of the group `a` starts, and its one member learns that it leads.
+    Elects,
+    /// All members are taken out of all groups.
+    Clears,
+}
+
 // A table that had no groups, with two seats.
 fn made(rt: &impl Abort, alloc: Global) -> (LockedTable<Any>, Vec<LockedSeat<Any>>) {
     match LockedTable::new(alloc, Table::new(alloc), 2) {
@@ -30,7 +42,7 @@ fn made(rt: &impl Abort, alloc: Global) -> (LockedTable<Any>, Vec<LockedSeat<Any
     }
 }
 
-// A writer with room for so many bytes that fails at this call.
+// Returns a writer with room for 200 bytes that fails at this call.
 fn writer(rt: &impl Abort, alloc: Global, fault_at: u64) -> DripOut {
     match DripOut::new(alloc, 200, fault_at) {
         Ok(writer) => writer,
@@ -58,7 +70,8 @@ impl Field {
         self.table.call(rt, &mut self.other, 9, command)
     }
 
-    /// Stops the test if the reply to a line is not `wanted`. A call that ran out of memory is repeated once.
+    /// Stops the test if the reply to a line is not `wanted`. A call that ran out of memory is
+    /// repeated once.
     pub fn says<R: Abort + Wait>(&mut self, rt: &R, alloc: Global, line: &[u8], wanted: &[u8]) {
         let reply = match self.answer(rt, line).into_reply() {
             Reply::Refused(Refusal::NoMemory) => self.answer(rt, line).into_reply(),
@@ -70,7 +83,8 @@ impl Field {
         drop(text);
     }
 
-    /// Runs a campaign of these lines, whose read call and write call with these numbers fail. Returns its writer.
+    /// Runs a campaign of these lines, whose read call and write call with these numbers fail.
+    /// Returns its writer.
     pub fn serve<R: Abort + Wait + Clock>(
         &mut self,
         rt: &R,
@@ -92,26 +106,29 @@ impl Field {
         out
     }
 
-    /// Stops the test if a campaign of these lines is not told `told`.
-    pub fn tells<R: Abort + Wait + Clock>(
-        &mut self,
-        rt: &R,
-        alloc: Global,
-        lines: &[u8],
-        told: &[u8],
-    ) {
+    // Stops the test if a campaign of these lines is not told `told`.
+    fn tells<R: Abort + Wait + Clock>(&mut self, rt: &R, alloc: Global, lines: &[u8], told: &[u8]) {
         let out = self.serve(rt, alloc, lines, [0, 0]);
         assert_eq!(rt; out.taken(), told);
         drop(out);
     }
 
-    /// Takes all members out of all groups.
-    pub fn clear<R: Abort + Wait + Clock>(&mut self, rt: &R) {
-        clear(rt, &self.table, &mut self.seat, 0);
+    /// Takes these steps with a table in which these lines were answered `ok`.
+    pub fn run<R: Abort + Wait + Clock>(rt: &R, alloc: Global, made: &[&[u8]], steps: &[Step]) {
+        let mut field = Field::new(rt, alloc, made);
+        for step in steps {
+            match step {
+                Step::Says(line, wanted) => field.says(rt, alloc, line, wanted),
+                Step::Tells(lines, told) => field.tells(rt, alloc, lines, told),
+                Step::Elects => field.elect(rt, alloc),
+                Step::Clears => clear(rt, &field.table, &mut field.seat, 0),
+            }
+        }
+        drop(field);
     }
 
-    /// Starts a term of the group `a`, whose one member learns that it leads.
-    pub fn elect<R: Abort + Wait>(&mut self, rt: &R, alloc: Global) {
+    // Starts a term of the group `a`, whose one member learns that it leads.
+    fn elect<R: Abort + Wait>(&mut self, rt: &R, alloc: Global) {
         let name = GroupName::from_bytes(b"a").expect(rt, "no name");
         let (answer, charters) = self.table.begin(rt, &mut self.other, 9, name, 1);
         drop(answer);

@@ -1,6 +1,6 @@
-//! Worked rows of campaigns, over a reader and a writer of one byte for each call and a locked table: what a client is
-//! told, what it leaves, and that nobody stays behind at whichever call the reader or the writer fails. What is refused
-//! memory is asked for once more.
+//! Test cases of campaigns, over a reader and a writer of one byte per call and a locked table: what a
+//! client is told and what it leaves. Nobody is left behind, whichever call of the reader or the
+//! writer fails. A call that ran out of memory is repeated once.
 #![tactic(auto)]
 
 #[cfg(test)]

@@ -14,15 +14,15 @@ use std::thread;
 use std::thread::Threads;
 use std::time::{Clock, Duration};
 
-// How many workers the service has, and how many items each of their inboxes holds.
+// The number of workers of the service, and of the items that each of their inboxes holds.
 const WORKERS: usize = 4;
 
 const INBOX: usize = 64;
 
-// How often the last session is answered at most, a few milliseconds apart.
+// At most this often the last session is answered, a few milliseconds apart.
 const LOOKS: u32 = 2000;
 
-/// What a crowd leaves: the lines of the history, and the replies of each session, in order.
+/// The lines of a history, and the replies of each session, in order.
 #[derive(Drop)]
 pub struct Crowd {
     pub history: Vec<u8>,
@@ -37,8 +37,8 @@ struct Guest<'a, S> {
     lines: &'a [u8],
 }
 
-/// Runs a session for each of these scripts, all at once, and then the last one until no reply in it is
-/// undecided.
+/// Runs a session for each of these scripts, all at once. Then runs the last one until no reply in
+/// it is undecided.
 pub fn gather<R>(rt: &R, alloc: Global, scripts: &[Vec<u8>], last: &[u8]) -> Result<Crowd>
 where
     R: Threads + Wait + Clock + Copy + Send + Sync + Drop + 'static,
@@ -76,8 +76,8 @@ where
     run(rt, alloc, lock, seats, scripts, last)
 }
 
-// The replies of all sessions over a service by this access. Its last seats are the sessions', and the others the
-// workers'.
+// The replies of all sessions over a service by this access. Its last seats are the sessions', and
+// the others the workers'.
 fn run<R, A>(
     rt: &R,
     alloc: Global,
@@ -151,7 +151,8 @@ fn seated<'a, A: Access<Any> + Drop>(
     seats: Vec<A::Seat>,
 ) -> Result<Vec<Guest<'a, A::Seat>>>
     requires seats { All (A.has_seat front.now) seats.items }
-    ensures seats { IfOk result (λ guests. All (λ guest. A.has_seat front.now guest.seat) guests.items) }
+    ensures seats { IfOk result (λ guests.
+        All (λ guest. A.has_seat front.now guest.seat) guests.items) }
 {
     let _ = front;
     let mut rest = seats;
@@ -174,7 +175,7 @@ fn seated<'a, A: Access<Any> + Drop>(
     Ok(guests)
 }
 
-// The replies to a session's lines; none where reading, writing or memory failed.
+// The replies to a session's lines; `None` if reading or writing failed or an allocation failed.
 fn serve<R: Wait, A: Access<Any> + Drop>(
     rt: &R,
     alloc: Global,

@@ -4,7 +4,6 @@ ghost use Rattle.ring_table.specs.Accesses.{filing};
 ghost use Rattle.ring_table.specs.declared.entry.Entry.TheVariants as entry;
 
 use crate::telling::{tell_call, tell_filing};
-use anyhow::Result;
 use ring_any::Any;
 use ring_events::{Command, Reply};
 use ring_id::NoMemory;
@@ -19,7 +18,8 @@ pub type Lines = Mutex<Vec<u8>>;
 
 /// A recorder that adds a line to a text for each entry, and keeps nothing else.
 ///
-/// Contracts see the entries. The lines are tested, not proved: one that runs out of memory is cut or missing.
+/// Contracts see the entries. The lines are tested, not proved: a line that runs out of memory is
+/// incomplete.
 #[derive(Drop)]
 pub struct Diary {
     alloc: Global,
@@ -40,13 +40,11 @@ impl Diary {
     }
 
     // Adds a line. Nobody holds the lock, since the calls of a table are made in turn.
-    fn add(&self, line: Result<Vec<u8>>) {
-        let Ok(line) = line else {
-            return;
-        };
+    fn add(&self, line: Vec<u8>) {
         if let Some(mut lines) = self.lines.try_lock() {
             let _ = lines.extend_from_slice(&line);
         }
+        drop(line);
     }
 }
 
@@ -71,7 +69,8 @@ impl Recorder<Any> for Diary {
 
     fn record_call(&mut self, session: u32, command: Command<Any>, reply: &Reply)
         requires { 0 < self.old.unkept.room }
-        ensures added { self.new.unkept.items ≡ self.old.unkept.items ++ entry.Call session command reply.now ∷ [] }
+        ensures added { self.new.unkept.items
+            ≡ self.old.unkept.items ++ entry.Call session command reply.now ∷ [] }
         ensures sure { length self.old.unkept.items ≤ length self.new.unkept.items }
     {
         self.unkept.record_call(session, command, reply);
@@ -80,7 +79,8 @@ impl Recorder<Any> for Diary {
 
     fn record_filing(&mut self, report: &Report<Any>, noting: Noting)
         requires { 0 < self.old.unkept.room }
-        ensures added { self.new.unkept.items ≡ self.old.unkept.items ++ filing report.now noting ∷ [] }
+        ensures added { self.new.unkept.items
+            ≡ self.old.unkept.items ++ filing report.now noting ∷ [] }
         ensures sure { length self.old.unkept.items ≤ length self.new.unkept.items }
     {
         self.unkept.record_filing(report, noting);

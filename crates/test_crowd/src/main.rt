@@ -1,13 +1,14 @@
 //! The program `test_crowd`: many sessions at once over one service, in one process and over memory.
 //!
-//! Standard input has scripts of lines, which an empty line parts. All but the last are sessions, numbered
-//! from 1. They run at once, each in a thread of its own, over one service with four workers. Then the last
-//! script is answered again and again, as a session with the number 0, until no reply in it is `undecided`.
-//! Sessions and workers share the table by a turn lock, as those of `ringd` do.
+//! Standard input has scripts of lines, separated by an empty line. All except the last are sessions,
+//! numbered from 1. They run at once, each in a thread of its own, over one service with four
+//! workers. Then the last script is answered again and again, as a session with the number 0, until
+//! no reply in it is `undecided`. Sessions and workers share the table by a turn lock, as those of
+//! `ringd` do.
 //!
-//! When the service is closed, standard output gets the history, one entry a line, and then the replies of
-//! each session, each after an empty line. The program ends with status 1 where any of this fails.
-//! `tests/check-crowd` writes the scripts and checks the output.
+//! When the service is closed, standard output gets the history, one entry a line. Then it gets the
+//! replies of each session, each after an empty line. The program ends with status 1 if any of this
+//! fails. `tests/check-crowd` writes the scripts and checks the output.
 #![tactic(auto)]
 
 mod crowd;

@@ -1,4 +1,5 @@
-//! Rows of elections that the workers of a service decide. Where memory is refused, the test ends.
+//! Test cases of elections that the workers of a service decide. A test that runs out of memory
+//! stops.
 ghost use Rattle.std.specs.Prelude.{◌≤◌};
 
 use crate::grounds::{Ended, Ground};
@@ -13,15 +14,16 @@ use ring_node::{Charter, Node};
 use ring_service::Waiting;
 use ring_table::{Entry, Table};
 use ring_terms::Noting;
-use ring_workers::OpenGate;
+use ring_workers::{Handed, OpenGate};
 use std::alloc::Global;
 use std::collections::VecDeque;
+use std::fmt::Write;
 use std::process::Abort;
 use std::sync::{Arc, Wait};
 use std::thread::Threads;
 use std::time::Clock;
 
-// How many reports that were known already stand in a history.
+// Returns the number of reports in a history that were known already.
 fn known<E: RingElection>(table: &Table<E>) -> usize {
     let mut known = 0usize;
     for entry in table.history() {
@@ -36,7 +38,7 @@ fn known<E: RingElection>(table: &Table<E>) -> usize {
     known
 }
 
-// The reports of four settled nodes are all filed anew, and known already.
+// Files the reports of four settled nodes once more. Stops the test if one was not known.
 fn finish_known<E: RingElection>(rt: &impl Abort, table: &mut Table<E>, nodes: &[Node<E>]) {
     let (before, told) = (table.history().len(), known(table));
     assert!(rt; table.finish(nodes).is_ok());
@@ -44,8 +46,24 @@ fn finish_known<E: RingElection>(rt: &impl Abort, table: &mut Table<E>, nodes: &
     assert_eq!(rt; table.history().len(), before.saturating_add(4));
 }
 
-// Two workers that must both run decide the term of four members that they were told of: all come to rest, and the table
-// knows what they know, also if the nodes are filed once more when all is done.
+// Stops the test if these are not the nodes of a term of four members that was decided, or the table
+// does not know what they know.
+fn is_decided<E: RingElection>(
+    rt: &impl Abort,
+    alloc: Global,
+    table: Table<E>,
+    handed: Vec<Handed<E>>,
+) {
+    let mut table = table;
+    let nodes = nodes_of(rt, alloc, handed);
+    all_know_two(rt, &nodes);
+    finish_known(rt, &mut table, &nodes);
+    drop(nodes);
+    drop(table);
+}
+
+// Two workers that must both run decide a term of four members. All nodes come to rest, and the
+// table knows what they know, also if the nodes are filed once more at the end.
 fn end_decided<R: Abort + Threads + Wait + Clock + Drop>(
     rt: &R,
     alloc: Global,
@@ -57,16 +75,12 @@ fn end_decided<R: Abort + Threads + Wait + Clock + Drop>(
     ground.tells(rt, alloc, 1, b"terms a\n", b"terms 1:2\n");
     drop(gate);
     let Ended {
-        mut table,
+        table,
         handed,
         waiting,
     } = ground.end(rt);
     drop(waiting);
-    let nodes = nodes_of(rt, alloc, handed);
-    all_know_two(rt, &nodes);
-    finish_known(rt, &mut table, &nodes);
-    drop(nodes);
-    drop(table);
+    is_decided(rt, alloc, table, handed);
 }
 
 // Two workers decide a term of four members that a session starts, with inboxes of this capacity.
@@ -92,7 +106,7 @@ fn two_workers_decide_a_term_by_a_lock(rt: HostRuntime) {
     }
 }
 
-// The lines by which the group of the term of four members is made.
+// The lines by which a group of four members is made.
 const FOUR_MADE: [&[u8]; 5] = [
     b"create a peterson",
     b"join a 4",
@@ -101,7 +115,7 @@ const FOUR_MADE: [&[u8]; 5] = [
     b"join a 2",
 ];
 
-// A table in which the term of four members was started, with its charter.
+// A table in which a term of four members was started, and its charter.
 fn started<E: Spelled>(rt: &impl Abort, alloc: Global) -> (Table<E>, Vec<Arc<Charter<E>>>) {
     let mut table = Table::new(alloc);
     for line in FOUR_MADE {
@@ -115,7 +129,6 @@ fn started<E: Spelled>(rt: &impl Abort, alloc: Global) -> (Table<E>, Vec<Arc<Cha
     (table, charters)
 }
 
-// Two workers decide a term that was running when its table was given to their service.
 #[test]
 fn two_workers_decide_a_term_that_was_running(rt: HostRuntime) {
     let alloc = rt.alloc();
@@ -127,22 +140,21 @@ fn two_workers_decide_a_term_that_was_running(rt: HostRuntime) {
     end_decided(&rt, alloc, ground, gate);
 }
 
-// The lines by which twenty groups of the members 1 and 2 are made, and each is started once.
-fn twenty_groups(rt: &impl Abort, alloc: Global) -> Vec<u8> {
-    let mut lines = Vec::new(alloc);
+// Returns the lines by which twenty groups of the members 1 and 2 are made, and each is started
+// once.
+fn twenty_groups(rt: &impl Abort, alloc: Global) -> String {
+    let mut lines = String::new(alloc);
     for number in 0..20 {
-        let line = format!(in alloc;
-            "create g{number} chang\njoin g{number} 1\njoin g{number} 2\nstart g{number}\n"
-        ).expect(rt, "no memory");
-        lines
-            .extend_from_slice(line.as_bytes())
-            .expect(rt, "no memory");
-        drop(line);
+        let made = writeln!(
+            lines,
+            "create g{number} chang\njoin g{number} 1\njoin g{number} 2\nstart g{number}"
+        );
+        assert!(rt; made.is_ok());
     }
     lines
 }
 
-// Whether a node is that of a group's member whose worker, of two, has this number.
+// Returns whether a node is that of a group's member whose worker, of two, has this number.
 fn is_node_of<E: RingElection>(node: &Node<E>, group: GroupName, worker: u32) -> bool {
     let charter = node.charter();
     match charter.roster().at(node.position()) {
@@ -151,7 +163,7 @@ fn is_node_of<E: RingElection>(node: &Node<E>, group: GroupName, worker: u32) ->
     }
 }
 
-// Whether a worker of two has the node of its member of this group.
+// Returns whether a worker, of two, has the node of its member of this group.
 fn has_node<E: RingElection>(nodes: &[Node<E>], group: GroupName, worker: u32) -> bool {
     for node in nodes {
         if is_node_of(node, group, worker) {
@@ -161,7 +173,7 @@ fn has_node<E: RingElection>(nodes: &[Node<E>], group: GroupName, worker: u32) -
     false
 }
 
-// Whether the begin of this group waits for a worker.
+// Returns whether the begin of this group waits for a worker.
 fn waits(waiting: &VecDeque<Waiting>, group: GroupName, worker: u32) -> bool {
     for begin in waiting {
         if begin.worker == worker as usize && begin.charter.group() == group {
@@ -171,7 +183,7 @@ fn waits(waiting: &VecDeque<Waiting>, group: GroupName, worker: u32) -> bool {
     false
 }
 
-// The group with this number of the twenty.
+// Returns the group with this number.
 fn group_of(rt: &impl Abort, alloc: Global, number: u32) -> GroupName {
     let name = format!(in alloc; "g{number}").expect(rt, "no memory");
     let group = GroupName::from_bytes(name.as_bytes()).expect(rt, "no name");
@@ -179,24 +191,27 @@ fn group_of(rt: &impl Abort, alloc: Global, number: u32) -> GroupName {
     group
 }
 
-// Both workers have begun each of the twenty groups, or its begin waits.
+// Stops the test if a worker has not begun one of the twenty groups, and no begin of it waits.
 fn all_begun<E: RingElection>(
     rt: &impl Abort,
     alloc: Global,
-    nodes: &[Node<E>],
-    waiting: &VecDeque<Waiting>,
+    handed: Vec<Handed<E>>,
+    waiting: VecDeque<Waiting>,
 ) {
+    let nodes = nodes_of(rt, alloc, handed);
     for number in 0..20 {
         let group = group_of(rt, alloc, number);
         for worker in [0, 1] {
-            let is_begun = has_node(nodes, group, worker) || waits(waiting, group, worker);
+            let is_begun = has_node(&nodes, group, worker) || waits(&waiting, group, worker);
             assert!(rt; is_begun, "group {number}, worker {worker}");
         }
     }
+    drop(nodes);
+    drop(waiting);
 }
 
-// Twenty groups are started while each inbox holds one item: no begin is lost, and nobody shares the table any more when
-// the service is ended.
+// Twenty groups are started while each inbox holds one item. When the service is ended, nobody
+// shares the table any more.
 #[test]
 fn no_begin_is_lost(rt: HostRuntime) {
     let alloc = rt.alloc();
@@ -204,7 +219,7 @@ fn no_begin_is_lost(rt: HostRuntime) {
     let told = repeated(&rt, alloc, b"ok\nok\nok\nterm 1\n", 20);
     let gate = shared(&rt, alloc, OpenGate);
     let mut ground = Ground::open(&rt, alloc, 2, 1, gate).expect(&rt, "no service");
-    ground.tells(&rt, alloc, 1, &lines, &told);
+    ground.tells(&rt, alloc, 1, lines.as_bytes(), &told);
     drop(lines);
     drop(told);
     let Ended {
@@ -213,8 +228,5 @@ fn no_begin_is_lost(rt: HostRuntime) {
         waiting,
     } = ground.end(&rt);
     drop(table);
-    let nodes = nodes_of(&rt, alloc, handed);
-    all_begun(&rt, alloc, &nodes, &waiting);
-    drop(nodes);
-    drop(waiting);
+    all_begun(&rt, alloc, handed, waiting);
 }

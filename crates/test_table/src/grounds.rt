@@ -1,11 +1,11 @@
-//! A service over an access, with the seats of its callers, and the ground of the rows by a locked table.
+//! Services over an access, with the seats of their callers. A `Ground` is one over a locked table.
 ghost use Rattle.std.specs.Prelude.{◌≤◌, All};
 
 use crate::memory::shared;
 use ring_any::Any;
 use ring_lines::{FromRead, Intake, LineFault, Outlet, ToWrite};
 use ring_service::{Closing, Service, StartFault, Waiting};
-use ring_table::{Access, LockedSeat, LockedTable, Table};
+use ring_table::{Access, LockedTable, Table};
 use ring_workers::{Gate, Handed};
 use std::alloc::Global;
 use std::collections::VecDeque;
@@ -15,7 +15,7 @@ use std::sync::{Arc, Wait};
 use std::thread::Threads;
 use std::time::Clock;
 
-/// A service at a table that had no groups, and the seats of two callers.
+/// A service, and the seats of two callers.
 #[derive(Drop)]
 pub struct Opened<A: Access<Any> + Drop> {
     /// The service.
@@ -31,10 +31,12 @@ impl<A: Access<Any> + Drop> Model for Opened<A> {
 
     ghost view = { λ opened. opened.service };
 
-    ghost invariant = { λ opened. A.has_seat opened.service opened.one × A.has_seat opened.service opened.other };
+    ghost invariant = { λ opened.
+        A.has_seat opened.service opened.one × A.has_seat opened.service opened.other };
 }
 
-/// The service at an access, the last two of whose seats are the callers' and the others the workers'.
+/// Starts the service at an access. Its last two seats are the callers', and the others the
+/// workers'.
 pub fn open<A, G, R>(
     rt: &R,
     alloc: Global,
@@ -67,28 +69,22 @@ where
     }
 }
 
-/// A service at a locked table that had no groups, and a seat by which all its sessions are served.
-#[derive(Drop)]
-pub struct Ground {
-    /// The service.
-    pub service: Service<LockedTable<Any>>,
-    /// The seat.
-    pub seat: LockedSeat<Any>,
-}
+/// A service at a locked table. Its sessions are served by the first caller's seat.
+pub type Ground = Opened<LockedTable<Any>>;
 
-/// What a service leaves that was ended.
+/// The parts of a ground that was ended.
 #[derive(Drop)]
 pub struct Ended {
     /// The table, which nobody shares any more.
     pub table: Table<Any>,
-    /// What the workers handed over.
+    /// The results of the workers.
     pub handed: Vec<Handed<Any>>,
     /// The begins that no inbox stored.
     pub waiting: VecDeque<Waiting>,
 }
 
-impl Ground {
-    /// A service with `workers` workers over a table without groups.
+impl Opened<LockedTable<Any>> {
+    /// Starts a service with `workers` workers over a table without groups.
     pub fn open<G, R>(
         rt: &R,
         alloc: Global,
@@ -105,7 +101,7 @@ impl Ground {
         Ground::over(rt, alloc, Table::new(alloc), workers, inbox, gate)
     }
 
-    /// The same over this table.
+    /// Starts a service with `workers` workers over this table.
     pub fn over<G, R>(
         rt: &R,
         alloc: Global,
@@ -123,22 +119,10 @@ impl Ground {
         let Ok((table, seats)) = LockedTable::new(alloc, table, workers + 2) else {
             return Err(StartFault::NoMemory);
         };
-        match open(rt, alloc, table, seats, inbox, gate) {
-            Ok(
-                Opened {
-                    service,
-                    one: seat,
-                    other,
-                },
-            ) => {
-                drop(other);
-                Ok(Ground { service, seat })
-            }
-            Err(fault) => Err(fault),
-        }
+        open(rt, alloc, table, seats, inbox, gate)
     }
 
-    /// What a session over these ends comes to, with so many read calls.
+    /// Serves a session over these ends, with at most `reads` read calls.
     pub fn serves<R: Wait, I: Intake, O: Outlet>(
         &mut self,
         rt: &R,
@@ -148,10 +132,10 @@ impl Ground {
         reads: u32,
     ) -> Result<u64, LineFault> {
         let front = self.service.front();
-        front.serve(rt, &mut self.seat, session, reader, writer, reads)
+        front.serve(rt, &mut self.one, session, reader, writer, reads)
     }
 
-    /// A session over memory comes to its end and is told this.
+    /// Stops the test if a session over memory is told something else.
     pub fn tells<R: Abort + Wait>(
         &mut self,
         rt: &R,
@@ -167,10 +151,15 @@ impl Ground {
         drop(writer);
     }
 
-    /// Ends the service: what it leaves. Nobody shares the table then.
+    /// Ends the service. Stops the test if somebody shares the table then.
     pub fn end<R: Abort + Threads + Wait>(self, rt: &R) -> Ended {
-        let Ground { service, seat } = self;
-        drop(seat);
+        let Opened {
+            service,
+            one,
+            other,
+        } = self;
+        drop(one);
+        drop(other);
         let Closing {
             access,
             handed,

@@ -1,4 +1,4 @@
-//! Rows of histories: their entries in order, also where they take several chunks.
+//! A test case of a history whose entries are in several chunks.
 
 use ring_any::Any;
 use ring_election::RingElection;
@@ -9,7 +9,7 @@ use std::alloc::Global;
 use std::ops::Range;
 use std::process::Abort;
 
-// Whether a call was refused since there are no groups.
+// Returns whether a call was refused since there are no groups.
 fn is_refused(reply: &Reply) -> bool {
     match reply {
         Reply::Refused(refusal) => *refusal == Refusal::NoGroup,
@@ -17,7 +17,7 @@ fn is_refused(reply: &Reply) -> bool {
     }
 }
 
-// Makes a call of each of these sessions, which is refused since there are no groups.
+// Makes a call in each of these sessions, which is refused since there are no groups.
 fn ask<E: RingElection>(
     rt: &impl Abort,
     table: &mut Table<E>,
@@ -31,7 +31,7 @@ fn ask<E: RingElection>(
     }
 }
 
-// Whether an entry is a call of this session.
+// Returns whether an entry is a call of this session.
 fn is_call<E>(entry: Option<&Entry<E>>, number: u32) -> bool {
     match entry {
         Some(Entry::Call { session, .. }) => *session == number,
@@ -39,7 +39,8 @@ fn is_call<E>(entry: Option<&Entry<E>>, number: u32) -> bool {
     }
 }
 
-// Whether a history has one call each of the sessions from 1 to this one, in order, and no others.
+// Returns whether a history has one call of each session from 1 to `count`, in order, and no
+// others.
 fn has_calls<E: RingElection>(history: &History<E>, count: u32) -> bool {
     let mut session = 0u32;
     for entry in history {
@@ -52,7 +53,7 @@ fn has_calls<E: RingElection>(history: &History<E>, count: u32) -> bool {
     session == count && history.len() == count as usize
 }
 
-// Calls of ten thousand sessions stand in order, over several chunks.
+// Makes calls in ten thousand sessions, whose entries are in order, over several chunks.
 fn stand_in_order<E: RingElection>(rt: &impl Abort, alloc: Global) {
     let group = GroupName::from_bytes(b"a").expect(rt, "no name");
     let mut table = Table::<E>::new(alloc);

@@ -9,20 +9,21 @@ use std::sync::atomic::{AtomicU64, Ordering};
 use std::thread;
 use std::time::{Clock, Duration};
 
-// How often a gate looks for what it waits for, a millisecond apart.
+// At most this often a number is looked at, a millisecond apart.
 const LOOKS: u32 = 10000;
 
-/// Holds each of two workers' first item until the other has entered its first, and counts the items.
+/// Holds the first item of each of two workers until the other has its first item. Counts the
+/// items.
 #[derive(Drop)]
 pub struct Meeting<R> {
     rt: R,
-    /// How many first items were entered.
+    /// The number of first items that were entered.
     pub entered: AtomicU64,
-    /// How many items were left.
+    /// The number of items that were left.
     pub left: AtomicU64,
 }
 
-/// Whether a number is reached within so many looks.
+/// Returns whether a number comes to `goal` within ten seconds or so.
 pub fn reaches<R: Clock>(rt: &R, number: &AtomicU64, goal: u64) -> bool {
     for _ in 0..LOOKS {
         if goal <= number.load(Ordering::SeqCst) {
@@ -51,7 +52,7 @@ impl<R: Clock> Gate for Meeting<R> {
     }
 }
 
-/// A gate that nobody has entered.
+/// Returns a gate that nobody has entered.
 pub fn new_meeting<R: Abort + Copy>(rt: &R, alloc: Global) -> Arc<Meeting<R>> {
     let gate = Meeting {
         rt: *rt,

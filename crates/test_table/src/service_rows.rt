@@ -1,4 +1,5 @@
-//! Rows of services: what they answer, and what they leave that end. Where memory is refused, the test ends.
+//! Test cases of services: what they answer, and what they leave at the end. A test that runs out
+//! of memory stops.
 
 use crate::grounds::{Ended, Ground};
 use crate::memory::shared;
@@ -11,7 +12,7 @@ use ring_workers::OpenGate;
 use std::process::Abort;
 use std::sync::Arc;
 
-// How many calls stand in a history.
+// Returns the number of calls in a history.
 fn calls<E: RingElection>(table: &Table<E>) -> usize {
     let mut calls = 0usize;
     for entry in table.history() {
@@ -22,8 +23,8 @@ fn calls<E: RingElection>(table: &Table<E>) -> usize {
     calls
 }
 
-// A service with one worker answers two sessions, one after the other, and is ended: each line got its reply, each
-// command its entry, the worker handed over, and no begin waits.
+// A service with one worker serves two sessions, one after the other, and is ended. Each line has
+// its reply, and each command its entry. No begin waits.
 #[test]
 fn a_service_answers_each_line_and_hands_over(rt: HostRuntime) {
     let alloc = rt.alloc();
@@ -38,7 +39,6 @@ fn a_service_answers_each_line_and_hands_over(rt: HostRuntime) {
     drop(ended);
 }
 
-// Starts a service and closes it: nothing of it is left to share the table.
 #[test]
 fn a_service_that_ends_leaves_nothing(rt: HostRuntime) {
     let alloc = rt.alloc();

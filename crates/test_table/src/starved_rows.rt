@@ -1,8 +1,9 @@
-//! A row of a service in which an allocation may fail, wherever it is made. Sessions get their replies, and the worker is
-//! starved with its item in hand, or keeps the report that the table refused. A service that can't be started says so.
+//! A test case of a service in which any one allocation may fail. Sessions get their replies. The
+//! worker is starved with its item in hand, or keeps the report that the table refused. A service
+//! that cannot be started says so.
 //!
-//! A session that is refused memory is served once more. So the row comes to its end whichever allocation fails, if it is
-//! one alone: a sweep fails each in turn.
+//! A session that ran out of memory is repeated once. So the test passes if one allocation fails,
+//! whichever that is. A sweep fails each in turn.
 
 use crate::grounds::{Ended, Ground};
 use crate::memory::{TWICE, shared, with_room};
@@ -18,10 +19,10 @@ use std::thread;
 use std::thread::Threads;
 use std::time::{Clock, Duration};
 
-// How often is asked whether the member knows its leader, a millisecond apart.
+// At most this often a session asks whether the member knows its leader, a millisecond apart.
 const LOOKS: u32 = 1000;
 
-// What a session of one line is told. None where it was refused memory.
+// Returns what a session of one line is told; `None` if it ran out of memory.
 fn told_once<R: Abort + Wait>(
     rt: &R,
     alloc: Global,
@@ -39,7 +40,7 @@ fn told_once<R: Abort + Wait>(
     Some(told)
 }
 
-// What a session of one line is told, though it may be refused memory once.
+// Returns what a session of one line is told.
 fn told<R: Abort + Wait>(rt: &R, alloc: Global, ground: &mut Ground, line: &[u8]) -> Vec<u8> {
     match told_once(rt, alloc, ground, line) {
         Some(told) => told,
@@ -47,7 +48,7 @@ fn told<R: Abort + Wait>(rt: &R, alloc: Global, ground: &mut Ground, line: &[u8]
     }
 }
 
-// Whether the one member comes to know that it leads.
+// Returns whether the one member comes to know that it leads.
 fn comes_to_know<R: Abort + Wait + Clock>(rt: &R, alloc: Global, ground: &mut Ground) -> bool {
     for _ in 0..LOOKS {
         let reply = told(rt, alloc, ground, b"who a 5\n");
@@ -61,7 +62,7 @@ fn comes_to_know<R: Abort + Wait + Clock>(rt: &R, alloc: Global, ground: &mut Gr
     false
 }
 
-// How many reports a table has filed.
+// Returns the number of reports in a table's history.
 fn filed(table: &Table<Any>) -> usize {
     let mut filed = 0usize;
     for entry in table.history() {
@@ -72,7 +73,8 @@ fn filed(table: &Table<Any>) -> usize {
     filed
 }
 
-// Whether a worker hands over what it must: its item, if it is starved, and the one report, if the table has not filed it.
+// Returns whether a worker hands over what it must: its item, if it is starved, and the one report,
+// if the table has not filed it.
 fn is_whole(handed: &Handed<Any>, filed: usize) -> bool {
     let is_starved = handed.why == Why::Starved && handed.held.is_some();
     let is_stopped = handed.why == Why::Stopped && handed.held.is_none();
@@ -80,7 +82,7 @@ fn is_whole(handed: &Handed<Any>, filed: usize) -> bool {
     handed.dropped == 0 && (is_stopped && reports == 1 || is_starved && reports <= 1)
 }
 
-// The lines by which a term of one member is started, and what each is told.
+// The lines by which a term of one member is started, with their replies.
 const STARTED: [(&[u8], &[u8]); 4] = [
     (b"create a chang\n", b"ok\n"),
     (b"join a 5\n", b"ok\n"),
@@ -88,7 +90,7 @@ const STARTED: [(&[u8], &[u8]); 4] = [
     (b"members a\n", b"members 5\n"),
 ];
 
-// Elects the one member of a group by a service with one worker, and ends the service.
+// Elects the one member of a group by a service with one worker. Then ends the service.
 fn elect<R>(rt: &R, alloc: Global, ground: Ground)
 where
     R: Abort + Threads + Wait + Clock,

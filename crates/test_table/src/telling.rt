@@ -1,6 +1,5 @@
-//! What the rows of both accesses share: what a session is told, and the nodes that workers hand over. Where memory is
-//! refused, the test ends.
-
+//! Sessions over memory, their lines, and the nodes that workers hand over. A test that runs out of
+//! memory stops.
 ghost use Rattle.std.specs.Prelude.{◌≤◌, ◌^◌};
 
 use ring_any::Any;
@@ -16,7 +15,7 @@ use std::alloc::Global;
 use std::process::Abort;
 use std::sync::Wait;
 
-/// A session over memory, by a seat, comes to its end and is told this.
+/// Stops the test if a session over memory, by this seat, is told something else.
 pub fn tells<R: Abort + Wait, A: Access<Any> + Drop>(
     rt: &R,
     alloc: Global,
@@ -36,7 +35,7 @@ pub fn tells<R: Abort + Wait, A: Access<Any> + Drop>(
     drop(writer);
 }
 
-/// The same, where each reply is told with its place.
+/// Stops the test if a session over memory is told something else, with the places of its replies.
 pub fn tells_placed<R: Abort + Wait, A: Access<Any> + Drop>(
     rt: &R,
     alloc: Global,
@@ -65,19 +64,19 @@ pub fn tells_placed<R: Abort + Wait, A: Access<Any> + Drop>(
     drop(writer);
 }
 
-/// The lines of a first session, of which a session doesn't know the last one.
+/// The lines of a first session. The last one is no command of a client.
 pub const FIRST: &[u8] = b"create a chang\njoin a 5\nstart a\nmembers a\ndrain a 1\n";
 
-/// What they are told.
+/// Their replies.
 pub const FIRST_TOLD: &[u8] = b"ok\nok\nterm 1\nmembers 5\nno bad-line\n";
 
 /// The lines of a second session.
 pub const SECOND: &[u8] = b"join a 5\ncut a 5 left\ngroups";
 
-/// What they are told.
+/// Their replies.
 pub const SECOND_TOLD: &[u8] = b"no member\nno bad-line\ngroups a\n";
 
-/// A text so many times.
+/// Returns a text `times` times.
 pub fn repeated(rt: &impl Abort, alloc: Global, text: &[u8], times: u32) -> Vec<u8> {
     let mut all = Vec::new(alloc);
     for _ in 0..times {
@@ -86,7 +85,7 @@ pub fn repeated(rt: &impl Abort, alloc: Global, text: &[u8], times: u32) -> Vec<
     all
 }
 
-/// The nodes that all workers handed over, each of which was told to stop.
+/// Returns the nodes that the workers handed over. Stops the test if a worker was not told to stop.
 pub fn nodes_of<E: RingElection>(
     rt: &impl Abort,
     alloc: Global,
@@ -106,13 +105,14 @@ pub fn nodes_of<E: RingElection>(
 /// The lines by which a term of four members is started.
 pub const FOUR: &[u8] = b"create a peterson\njoin a 4\njoin a 1\njoin a 3\njoin a 2\nstart a\n";
 
-/// What they are told.
+/// Their replies.
 pub const FOUR_TOLD: &[u8] = b"ok\nok\nok\nok\nok\nterm 1\n";
 
-/// How many items two workers handle in that term: a begin each, 24 messages and 4 announcements.
+/// The number of items that two workers handle in that term: a begin each, 24 messages and 4
+/// announcements.
 pub const FOUR_ITEMS: u64 = 30;
 
-/// These are the four nodes of that term, settled, which all know 2.
+/// Stops the test if these are not the four nodes of that term, settled, which all know 2.
 pub fn all_know_two<E: RingElection>(rt: &impl Abort, nodes: &[Node<E>]) {
     let first = nodes.first().expect(rt, "no node");
     assert_eq!(rt; nodes.len(), 4);

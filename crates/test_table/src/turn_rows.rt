@@ -1,5 +1,5 @@
-//! Rows of a service over a turn lock: what two sessions are told, when a seat is spent, and that two workers decide a term in
-//! turn. Where memory is refused, the test ends.
+//! Test cases of a service over a turn lock: what two sessions are told, when a seat is spent, and
+//! that two workers decide a term in turn. A test that runs out of memory stops.
 ghost use Rattle.std.specs.Prelude.{◌<◌, ◌≤◌, ◌^◌, All};
 
 use crate::grounds::{Opened, open};
@@ -25,17 +25,24 @@ use std::time::Clock;
 /// What is done with a service over an access.
 #[derive(Drop)]
 pub enum Deed<'a, R> {
-    /// Two sessions, one after the other, by one seat.
-    TellTwo,
-    /// Sessions by two seats with two turns each.
-    Spend,
+    /// Two sessions, one after the other.
+    Talk(&'a Talk),
     /// Two sessions in two threads.
     Share,
     /// Two workers that meet at this gate decide a term.
     Decide(&'a Meeting<R>),
 }
 
-// Does it with the service at an access, of which the last two seats are the callers' and the others the workers'.
+/// The lines of two sessions, and what they are told. The second session is by the seat of the
+/// first one, or by another seat and is told the places of its replies.
+pub struct Talk {
+    lines: [&'static [u8]; 2],
+    told: [&'static [u8]; 2],
+    by_other: bool,
+}
+
+// Does it with the service at an access. The last two seats are the callers', and the others the
+// workers'.
 fn run<A, G, R>(
     rt: &R,
     alloc: Global,
@@ -56,14 +63,13 @@ where
 {
     let opened = open(rt, alloc, access, seats, inbox, gate).expect(rt, "no service");
     match deed {
-        Deed::TellTwo => tell_two(rt, alloc, opened),
-        Deed::Spend => spend(rt, alloc, opened),
+        Deed::Talk(two) => converse(rt, alloc, opened, two),
         Deed::Share => drop(share(rt, alloc, opened)),
         Deed::Decide(gate) => decide(rt, alloc, opened, gate),
     }
 }
 
-/// Does it with a service with two workers at a turn lock, each of whose seats has so many turns.
+/// Does it with a service with two workers at a turn lock, each of whose seats has `turns` turns.
 pub fn run_in_turn<G, R>(
     rt: &R,
     alloc: Global,
@@ -84,43 +90,8 @@ where
     run(rt, alloc, lock, seats, inbox, gate, deed);
 }
 
-// Two sessions, one after the other, by one seat.
-fn tell_two<R, A>(rt: &R, alloc: Global, opened: Opened<A>)
-where
-    R: Abort + Threads + Wait,
-    A: Access<Any> + Send + Sync + Drop + 'static,
-    A::Seat: Send + 'static,
-{
-    let Opened {
-        service,
-        mut one,
-        other,
-    } = opened;
-    drop(other);
-    let front = service.front();
-    tells(rt, alloc, front, &mut one, 1, FIRST, FIRST_TOLD);
-    tells(rt, alloc, front, &mut one, 2, SECOND, SECOND_TOLD);
-    drop(one);
-    drop(service.close(rt));
-}
-
-#[test]
-fn a_second_session_finds_what_the_first_one_left(rt: HostRuntime) {
-    let alloc = rt.alloc();
-    let gate = shared(&rt, alloc, ShutGate);
-    run_in_turn(&rt, alloc, 100, 64, gate, Deed::TellTwo);
-}
-
-const SPENDING: &[u8] = b"create a chang\njoin a 5\nmembers a\nstart a\n";
-
-const SPENT_TOLD: &[u8] = b"ok\nok\nno seat-spent\nno seat-spent\n";
-
-const LAST: &[u8] = b"members a\ngroups\nstart a\n";
-
-const LAST_TOLD: &[u8] = b"3 members 5\n4 groups a\n- no seat-spent\n";
-
-// Sessions by two seats with two turns each: each further line is told that the seat is spent, and adds no entry.
-fn spend<R, A>(rt: &R, alloc: Global, opened: Opened<A>)
+// Two sessions, one after the other.
+fn converse<R, A>(rt: &R, alloc: Global, opened: Opened<A>, two: &Talk)
 where
     R: Abort + Threads + Wait,
     A: Access<Any> + Send + Sync + Drop + 'static,
@@ -133,21 +104,49 @@ where
         mut other,
     } = opened;
     let front = service.front();
-    tells(rt, alloc, front, &mut one, 1, SPENDING, SPENT_TOLD);
-    tells_placed(rt, alloc, front, &mut other, 2, LAST, LAST_TOLD);
+    tells(rt, alloc, front, &mut one, 1, two.lines[0], two.told[0]);
+    if two.by_other {
+        tells_placed(rt, alloc, front, &mut other, 2, two.lines[1], two.told[1]);
+    } else {
+        tells(rt, alloc, front, &mut one, 2, two.lines[1], two.told[1]);
+    }
     drop(one);
     drop(other);
     drop(service.close(rt));
 }
 
 #[test]
+fn a_second_session_finds_what_the_first_one_left(rt: HostRuntime) {
+    let alloc = rt.alloc();
+    let gate = shared(&rt, alloc, ShutGate);
+    let two = Talk {
+        lines: [FIRST, SECOND],
+        told: [FIRST_TOLD, SECOND_TOLD],
+        by_other: false,
+    };
+    run_in_turn(&rt, alloc, 100, 64, gate, Deed::Talk(&two));
+}
+
+// Each line after the two turns of a seat is told that the seat is spent, and adds no entry.
+#[test]
 fn a_spent_seat_is_told_so(rt: HostRuntime) {
     let alloc = rt.alloc();
     let gate = shared(&rt, alloc, ShutGate);
-    run_in_turn(&rt, alloc, 2, 64, gate, Deed::Spend);
+    let two = Talk {
+        lines: [
+            b"create a chang\njoin a 5\nmembers a\nstart a\n",
+            b"members a\ngroups\nstart a\n",
+        ],
+        told: [
+            b"ok\nok\nno seat-spent\nno seat-spent\n",
+            b"3 members 5\n4 groups a\n- no seat-spent\n",
+        ],
+        by_other: true,
+    };
+    run_in_turn(&rt, alloc, 2, 64, gate, Deed::Talk(&two));
 }
 
-// The reports of all nodes are known already.
+// Stops the test if a report of one of these nodes was not known.
 fn are_known<R: Abort + Wait, A: Access<Any> + Drop>(
     rt: &R,
     access: &A,
@@ -166,8 +165,8 @@ fn are_known<R: Abort + Wait, A: Access<Any> + Drop>(
     drop(seat);
 }
 
-// Two workers that must both run decide a term of four members: all come to rest, and the table knows what they know, by
-// a seat that was kept.
+// Two workers that must both run decide a term of four members. All nodes come to rest, and the
+// table knows what they know, by a seat that is left.
 fn decide<R, A>(rt: &R, alloc: Global, opened: Opened<A>, gate: &Meeting<R>)
 where
     R: Abort + Threads + Wait + Clock,
@@ -197,7 +196,7 @@ where
     drop(access);
 }
 
-// The same by a turn lock, with inboxes of this capacity.
+// Two workers decide a term by a turn lock, with inboxes of this capacity.
 fn decide_in_turn<R: Abort + Threads + Wait + Clock + Copy + Send + Sync + Drop + 'static>(
     rt: &R,
     alloc: Global,

@@ -1,4 +1,5 @@
-//! Rows of begins that an inbox could not store: when they are tried again. Where memory is refused, the test ends.
+//! Test cases of begins that an inbox could not store: when they are tried again. A test that runs
+//! out of memory stops.
 
 use crate::grounds::{Ended, Ground};
 use crate::meetings::{Meeting, new_meeting, reaches};
@@ -18,20 +19,9 @@ const BEHIND: &[u8] = b"create b chang\njoin b 1\nstart b\ncreate c chang\njoin 
 
 const BEHIND_TOLD: &[u8] = b"ok\nok\nterm 1\nok\nok\nterm 1\n";
 
-// A service with one worker over an inbox of one item, by this gate. The gate waits for a second worker, which there is
-// not: the caller lets the worker go on.
-fn held<R: Abort + Threads + Wait + Clock + Copy + Send + Sync + Drop + 'static>(
-    rt: &R,
-    alloc: Global,
-    gate: &Arc<Meeting<R>>,
-) -> Ground {
-    let copy = Arc::try_clone(gate).expect(rt, "no copy");
-    Ground::open(rt, alloc, 1, 1, copy).expect(rt, "no service")
-}
-
-// Starts three terms of one member each: the worker is held at the begin of the first, while its inbox holds the begin
-// of the second, and that of the third waits. Then the worker may go on: the first two terms take their begin, a
-// message and an announcement each.
+// Starts three terms of one member each. The gate holds the worker at the begin of the first term.
+// The inbox holds the begin of the second term, and the begin of the third term waits. Then the
+// worker may go on: it handles a begin, a message and an announcement of each of the first two.
 fn fall_behind<R: Abort + Wait + Clock>(
     rt: &R,
     alloc: Global,
@@ -45,7 +35,7 @@ fn fall_behind<R: Abort + Wait + Clock>(
     assert!(rt; reaches(rt, &gate.left, 6));
 }
 
-// Ends a service with one worker: no begin waits any more, and the worker hands over three nodes.
+// Ends a service with one worker. No begin waits any more, and the worker hands over three nodes.
 fn end_whole<R: Abort + Threads + Wait>(rt: &R, alloc: Global, ground: Ground) {
     let Ended {
         table,
@@ -60,26 +50,28 @@ fn end_whole<R: Abort + Threads + Wait>(rt: &R, alloc: Global, ground: Ground) {
     drop(nodes);
 }
 
-// The begin that waits is tried again before the command of another session.
-#[test]
-fn a_begin_that_waits_is_tried_before_a_command(rt: HostRuntime) {
-    let alloc = rt.alloc();
-    let gate = new_meeting(&rt, alloc);
-    let mut ground = held(&rt, alloc, &gate);
-    fall_behind(&rt, alloc, &mut ground, &gate);
-    ground.tells(&rt, alloc, 2, b"groups\n", b"groups a b c\n");
-    assert!(rt; reaches(&rt, &gate.left, 9));
-    end_whole(&rt, alloc, ground);
+// Has the begin of a third term wait, and ends the service, whose one worker has an inbox of one
+// item. The gate waits for a second worker, which there is not: the caller lets the worker go on.
+// If another session gives a command before the end, the begin is tried before that command.
+fn wait<R>(rt: &R, alloc: Global, is_asked: bool)
+where
+    R: Abort + Threads + Wait + Clock + Copy + Send + Sync + Drop + 'static,
+{
+    let gate = new_meeting(rt, alloc);
+    let copy = Arc::try_clone(&gate).expect(rt, "no copy");
+    let mut ground = Ground::open(rt, alloc, 1, 1, copy).expect(rt, "no service");
+    fall_behind(rt, alloc, &mut ground, &gate);
+    if is_asked {
+        ground.tells(rt, alloc, 2, b"groups\n", b"groups a b c\n");
+        assert!(rt; reaches(rt, &gate.left, 9));
+    }
     drop(gate);
+    end_whole(rt, alloc, ground);
 }
 
-// The begin that waits is tried once more where the service ends.
 #[test]
-fn a_begin_that_waits_is_tried_at_the_end(rt: HostRuntime) {
-    let alloc = rt.alloc();
-    let gate = new_meeting(&rt, alloc);
-    let mut ground = held(&rt, alloc, &gate);
-    fall_behind(&rt, alloc, &mut ground, &gate);
-    end_whole(&rt, alloc, ground);
-    drop(gate);
+fn a_begin_that_waits_is_tried_before_a_command_and_at_the_end(rt: HostRuntime) {
+    for is_asked in [true, false] {
+        wait(&rt, rt.alloc(), is_asked);
+    }
 }

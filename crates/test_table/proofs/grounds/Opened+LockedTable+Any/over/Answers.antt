@@ -1,6 +1,6 @@
 use denote.Param.Send.{sendable}
 use Rattle.test_table.proofs.Crossing.{locked_seat_send}
-use Rattle.test_table.proofs.grounds.Ground.over.Goals as goal
+use Rattle.test_table.proofs.grounds.Opened+LockedTable+Any.over.Goals as goal
 
 -- its seats may go to threads
 pub open-requires-send-A-Seat : goal.open-requires-send-A-Seat
