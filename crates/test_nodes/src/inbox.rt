@@ -1,4 +1,5 @@
-//! What no clause of inboxes says: that calls succeed where they can, in one thread and across threads, for items that own memory.
+//! What no clause of inboxes says: calls succeed if they can, in one thread and across threads, for
+//! items that own memory.
 ghost use Rattle.std.specs.Prelude.{◌≡◌};
 
 mod one_thread;
@@ -13,7 +14,7 @@ fn alone<T: Drop>(rt: &impl Abort, alloc: Global) -> (ReceiverPass<T>, SenderPas
     ensures { result.1.inbox ≡ result.0.inbox }
 {
     let (receiver, mut senders) = inbox::<T>(alloc, 2, 1).expect(rt, "no memory");
-    assert_eq!(rt; senders.len(), 1);
+    assert!(rt; senders.len() == 1);
     let sender = senders.remove(0);
     drop(senders);
     (receiver, sender)

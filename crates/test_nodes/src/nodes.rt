@@ -1,10 +1,9 @@
-//! Nodes of the rows by themselves, on the election of Chang and Roberts.
+//! Nodes of the test cases by themselves, on the election of Chang and Roberts.
 
-use crate::equal::equal;
 use crate::memory::TWICE;
 use ring_chang::Chang;
 use ring_id::{NoMemory, Side};
-use ring_node::{Charter, Envelope, Node, Packet, Report, TakeFault};
+use ring_node::{Charter, Envelope, Node, Packet, TakeFault};
 use std::alloc::Global;
 use std::process::Abort;
 use std::sync::Arc;
@@ -17,14 +16,11 @@ fn seated_once(
     position: usize,
 ) -> Result<Node<Chang>, NoMemory> {
     assert!(rt; position < charter.roster().len());
-    Node::seat(
-        alloc,
-        Arc::try_clone(charter).expect(rt, "no copy"),
-        position,
-    )
+    let copy = Arc::try_clone(charter).expect(rt, "no copy");
+    Node::seat(alloc, copy, position)
 }
 
-/// The same, asked for once more where memory was refused.
+/// The same. If an allocation fails, the call is made once more, as in `offer`.
 pub fn seated(
     rt: &impl Abort,
     alloc: Global,
@@ -37,18 +33,18 @@ pub fn seated(
     }
 }
 
+/// The number of an envelope's message, and its index; zeros for an announcement.
+pub fn shown(envelope: &Envelope<Chang>) -> (u32, usize) {
+    match envelope.packet() {
+        Packet::Algo(id) => (id.get(), envelope.index()),
+        Packet::Leader(_) => (0, 0),
+    }
+}
+
 /// The envelope of what a node has sent to the right at this place, if it has sent anything there.
 pub fn envelope(rt: &impl Abort, node: &Node<Chang>, place: usize) -> Option<Envelope<Chang>> {
     let copy = Arc::try_clone(node.charter()).expect(rt, "no copy");
     node.envelope(copy, Side::Right, place)
-}
-
-/// The number of an envelope's message, and its index.
-pub fn shown(envelope: &Envelope<Chang>) -> Option<(u32, usize)> {
-    match envelope.packet() {
-        Packet::Algo(id) => Some((id.get(), envelope.index())),
-        Packet::Leader(_) => None,
-    }
 }
 
 /// How many packets a node has taken from the left, and sent to the right.
@@ -56,24 +52,34 @@ pub fn counts(node: &Node<Chang>) -> (usize, usize) {
     (node.taken(Side::Left), node.sent(Side::Right))
 }
 
-/// What becomes of an envelope: the report, if there is one, or the fault and the envelope.
-pub type Taken = Result<Option<Report<Chang>>, (TakeFault, Envelope<Chang>)>;
-
-/// Offers an envelope. Where it is not taken it comes back, and the node stays as it was.
-fn offer_once(rt: &impl Abort, node: &mut Node<Chang>, envelope: Envelope<Chang>) -> Taken {
+/// Offers an envelope. If it is not taken, it comes back with the fault, and the node stays as it
+/// was.
+fn offer_once(
+    rt: &impl Abort,
+    node: &mut Node<Chang>,
+    envelope: Envelope<Chang>,
+) -> Option<(TakeFault, Envelope<Chang>)> {
     let (before, offered) = (counts(node), shown(&envelope));
-    let taken = node.take(envelope);
-    if let Err((_, back)) = &taken {
-        let now = (counts(node), shown(back));
-        equal(rt, "what was not taken", now, (before, offered));
-    }
-    taken
+    let Err((fault, back)) = node.take(envelope) else {
+        return None;
+    };
+    let (after, returned) = (counts(node), shown(&back));
+    assert!(rt; before.0 == after.0 && before.1 == after.1);
+    assert!(rt; offered.0 == returned.0 && offered.1 == returned.1);
+    Some((fault, back))
 }
 
-/// The same, and once more where memory was refused.
-pub fn offer(rt: &impl Abort, node: &mut Node<Chang>, envelope: Envelope<Chang>) -> Taken {
-    match offer_once(rt, node, envelope) {
-        Err((TakeFault::NoMemory, back)) => offer_once(rt, node, back),
-        taken => taken,
-    }
+/// Offers an envelope, and returns the fault, if any, for which it is not taken.
+pub fn offer(
+    rt: &impl Abort,
+    node: &mut Node<Chang>,
+    envelope: Envelope<Chang>,
+) -> Option<TakeFault> {
+    let (fault, back) = match offer_once(rt, node, envelope) {
+        Some((TakeFault::NoMemory, back)) => offer_once(rt, node, back)?,
+        Some(refused) => refused,
+        None => return None,
+    };
+    drop(back);
+    Some(fault)
 }

@@ -1,6 +1,5 @@
-//! Rings: which lists are one, and what one shows.
+//! Rings: which lists of identities are rings, and what a ring shows.
 
-use crate::equal::equal;
 use crate::rings::{identities, identity, ring, rising, weighted};
 use ring_id::{NodeId, Refusal, Side};
 use ring_roster::Roster;
@@ -10,28 +9,24 @@ use std::process::Abort;
 /// The identities with these numbers are no ring, for this reason.
 fn is_refused(rt: &impl Abort, alloc: Global, numbers: &[u32], refusal: Refusal) {
     let members = identities(rt, alloc, numbers);
-    let answer = Roster::from_members(alloc, &members).err();
+    assert!(rt; Roster::from_members(alloc, &members).err() == Some(refusal));
     drop(members);
-    equal(rt, "a list", answer, Some(refusal));
 }
 
 #[test]
 fn a_list_is_refused_for_the_first_that_holds(rt: HostRuntime) {
     let alloc = rt.alloc();
-    let many = rising(&rt, alloc, 257);
-    let mut repeating = rising(&rt, alloc, 256);
-    let most = ring(&rt, alloc, &repeating).len();
-    equal(&rt, "the longest", most, Roster::MOST);
-    repeating.push(1).expect(&rt, "no memory");
     is_refused(&rt, alloc, &[], Refusal::Empty);
     is_refused(&rt, alloc, &[3, 1, 3], Refusal::Member);
-    is_refused(&rt, alloc, &many, Refusal::RingFull);
+    is_refused(&rt, alloc, &rising(&rt, alloc, 257), Refusal::RingFull);
+    let mut repeating = rising(&rt, alloc, 256);
+    repeating.push(1).expect(&rt, "no memory");
     is_refused(&rt, alloc, &repeating, Refusal::RingFull);
-    drop(many);
     drop(repeating);
 }
 
-/// The ring of these numbers, made of what is known to be one: it is the same as where it is looked at.
+/// The ring of these numbers, made without a look at what is known to be a ring. It is the same as
+/// the ring that is looked at.
 fn known_ring(rt: &impl Abort, alloc: Global, numbers: &[u32]) -> Roster {
     let members = identities(rt, alloc, numbers);
     let looked_at = Roster::from_members(alloc, &members).expect(rt, "a ring");
@@ -43,23 +38,27 @@ fn known_ring(rt: &impl Abort, alloc: Global, numbers: &[u32]) -> Roster {
     known
 }
 
+/// The member of a ring at this position is the one with this number, or there is none, for 0.
+fn has_at(rt: &impl Abort, ring: &Roster, position: usize, number: u32) {
+    assert!(rt; ring.at(position) == NodeId::new(number), "at {position}");
+}
+
 #[test]
 fn a_ring_is_made_of_what_is_known_to_be_one(rt: HostRuntime) {
-    let alloc = rt.alloc();
-    let three = known_ring(&rt, alloc, &[3, 1, 2]);
-    let most = known_ring(&rt, alloc, &rising(&rt, alloc, 256));
-    let lengths = [three.len(), most.len()];
-    equal(&rt, "lengths", lengths, [3, Roster::MOST]);
-    let members = [three.at(0), three.at(1), three.at(2), most.at(255)];
+    let three = known_ring(&rt, rt.alloc(), &[3, 1, 2]);
+    assert!(rt; three.len() == 3);
+    has_at(&rt, &three, 0, 3);
+    has_at(&rt, &three, 1, 1);
+    has_at(&rt, &three, 2, 2);
     drop(three);
+}
+
+#[test]
+fn the_longest_ring_is_made_of_what_is_known_to_be_one(rt: HostRuntime) {
+    let most = known_ring(&rt, rt.alloc(), &rising(&rt, rt.alloc(), 256));
+    assert!(rt; most.len() == Roster::MOST);
+    has_at(&rt, &most, 255, 256);
     drop(most);
-    let wanted = [
-        NodeId::new(3),
-        NodeId::new(1),
-        NodeId::new(2),
-        NodeId::new(256),
-    ];
-    equal(&rt, "members", members, wanted);
 }
 
 /// Whether this is the ring of these numbers.
@@ -73,40 +72,29 @@ fn is_ring(rt: &impl Abort, alloc: Global, roster: &Roster, numbers: &[u32]) -> 
 #[test]
 fn members_differ_in_their_numbers_whatever_they_weigh(rt: HostRuntime) {
     let alloc = rt.alloc();
-    let three = identity(&rt, 3);
-    let heavy_one = weighted(&rt, 1, 9);
-    let heavy_three = weighted(&rt, 3, 9);
-    let twice = Roster::from_members(alloc, &[three, heavy_one, heavy_three]).err();
-    equal(&rt, "a member twice", twice, Some(Refusal::Member));
+    let (three, heavy_one) = (identity(&rt, 3), weighted(&rt, 1, 9));
+    let twice = Roster::from_members(alloc, &[three, heavy_one, weighted(&rt, 3, 9)]);
+    assert!(rt; twice.err() == Some(Refusal::Member));
     let both = Roster::from_members(alloc, &[three, heavy_one]).expect(&rt, "a ring");
-    let is_light = is_ring(&rt, alloc, &both, &[3, 1]);
-    let found = (both.position(heavy_one.number()), both.at(1), is_light);
+    assert!(rt; both.position(heavy_one.number()) == Some(1));
+    assert!(rt; both.at(1) == Some(heavy_one));
+    assert!(rt; !is_ring(&rt, alloc, &both, &[3, 1]));
     drop(both);
-    equal(&rt, "the other", found, (Some(1), Some(heavy_one), false));
 }
 
 #[test]
 fn a_ring_shows_its_members_and_neighbours(rt: HostRuntime) {
-    let alloc = rt.alloc();
-    let three = ring(&rt, alloc, &[3, 1, 2]);
-    let one = identity(&rt, 1).number();
-    let four = identity(&rt, 4).number();
-    assert_eq!(rt; three.len(), 3);
-    let members = [three.at(2), three.at(3)];
-    equal(&rt, "members", members, [NodeId::new(2), None]);
-    let positions = [three.position(one), three.position(four)];
-    equal(&rt, "positions", positions, [Some(1), None]);
-    let neighbours = [
-        three.neighbour(2, Side::Right),
-        three.neighbour(0, Side::Left),
-    ];
-    equal(&rt, "neighbours", neighbours, [0, 2]);
-    let same = [
-        is_ring(&rt, alloc, &three, &[3, 1, 2]),
-        is_ring(&rt, alloc, &three, &[1, 2, 3]),
-    ];
+    let three = ring(&rt, rt.alloc(), &[3, 1, 2]);
+    assert!(rt; three.len() == 3);
+    has_at(&rt, &three, 2, 2);
+    has_at(&rt, &three, 3, 0);
+    assert!(rt; three.position(identity(&rt, 1).number()) == Some(1));
+    assert!(rt; three.position(identity(&rt, 4).number()).is_none());
+    assert!(rt; three.neighbour(2, Side::Right) == 0);
+    assert!(rt; three.neighbour(0, Side::Left) == 2);
+    assert!(rt; is_ring(&rt, rt.alloc(), &three, &[3, 1, 2]));
+    assert!(rt; !is_ring(&rt, rt.alloc(), &three, &[1, 2, 3]));
     drop(three);
-    equal(&rt, "the same", same, [true, false]);
 }
 
 /// Whether a ring is that of the identities with these numbers.
@@ -122,14 +110,10 @@ fn a_ring_may_have_several_owners(rt: HostRuntime) {
     let alloc = rt.alloc();
     let three = ring(&rt, alloc, &[3, 1, 2]);
     let again = three.shared().expect(&rt, "no memory");
-    let is_same = again.same(&three);
+    assert!(rt; again.same(&three));
     drop(three);
-    let found = [
-        is_same,
-        is_of(&rt, alloc, &again, &[3, 1, 2]),
-        is_of(&rt, alloc, &again, &[1, 2, 3]),
-        is_of(&rt, alloc, &again, &[3, 1]),
-    ];
+    assert!(rt; is_of(&rt, alloc, &again, &[3, 1, 2]));
+    assert!(rt; !is_of(&rt, alloc, &again, &[1, 2, 3]));
+    assert!(rt; !is_of(&rt, alloc, &again, &[3, 1]));
     drop(again);
-    equal(&rt, "the same", found, [true, true, false, false]);
 }

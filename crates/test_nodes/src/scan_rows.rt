@@ -1,4 +1,5 @@
-//! The plain scans that a world's count and bits stand in for: before every delivery both say the same.
+//! Plain scans of the links of a world. Before every delivery they agree with the world's own count
+//! and bits.
 
 use crate::equal::equal;
 use crate::worlds::{begun, deliver};
@@ -9,7 +10,7 @@ use ring_world::World;
 use std::alloc::Global;
 use std::process::Abort;
 
-/// How many packets are in flight on the link into this position, by the lists of its two nodes.
+/// How many packets are in flight on the link into this position, by the lists of its nodes.
 fn waiting<E: RingElection>(world: &World<E>, position: usize, side: Side) -> usize {
     let (ring, nodes) = (world.charter().roster(), world.nodes());
     if position >= ring.len() {
@@ -26,7 +27,7 @@ fn waiting<E: RingElection>(world: &World<E>, position: usize, side: Side) -> us
         .saturating_sub(receiver.taken(side))
 }
 
-/// What looks at each link of a world have seen.
+/// What a look at each link of a world has seen.
 #[derive(Clone, Copy)]
 struct Scan {
     /// The first link with something in flight, if there is one.
@@ -37,7 +38,7 @@ struct Scan {
     pending: u128,
 }
 
-/// Looks at the link into this position from a side, behind the others.
+/// Looks at the link into this position from a side, after the others.
 fn look<E: RingElection>(scan: &mut Scan, world: &World<E>, position: usize, side: Side) {
     let waiting = waiting(world, position, side) as u128;
     scan.pending = scan.pending.saturating_add(waiting);
@@ -62,13 +63,13 @@ fn scanned<E: RingElection>(world: &World<E>) -> Scan {
     scan
 }
 
-/// Delivers at the first link and at the last by turns until nothing is in flight, and looks before
-/// each delivery whether the scans agree with the world: how many deliveries there were.
+/// Delivers at the first link and at the last by turns until nothing is in flight. Before each
+/// delivery the scans agree with the world. Returns the number of deliveries.
 fn compared<E: RingElection>(rt: &impl Abort, world: &mut World<E>, most: u32) -> u32 {
     for done in 0..most {
         let scan = scanned(world);
-        let told = (world.ready(), world.pending());
-        equal(rt, "what scans see", told, (scan.first, scan.pending));
+        assert!(rt; world.ready() == scan.first);
+        equal(rt, "in flight", world.pending(), scan.pending);
         let next = if done % 2 == 0 { scan.first } else { scan.last };
         let Some((position, side)) = next else {
             return done;
@@ -78,7 +79,7 @@ fn compared<E: RingElection>(rt: &impl Abort, world: &mut World<E>, most: u32) -
     panic!(rt; "the world has not come to rest")
 }
 
-/// The ring of these numbers takes so many deliveries by this election, the scans agreeing all the way.
+/// The ring of these numbers takes `deliveries` deliveries, and the scans agree all the way.
 fn scans_agree(
     rt: &impl Abort,
     alloc: Global,
@@ -91,7 +92,7 @@ fn scans_agree(
     drop(world);
 }
 
-/// The same by each of these kinds.
+/// The scans agree for each kind, which takes its number of deliveries.
 fn all_scans_agree(rt: &impl Abort, alloc: Global, numbers: &[u32], kinds: &[(Any, u32)]) {
     for (kind, deliveries) in kinds {
         scans_agree(rt, alloc, numbers, *kind, *deliveries);

@@ -1,10 +1,7 @@
 //! Two worked schedules on 3, 1, 2: what is in flight after each delivery.
-//!
-//! Numbers such as `[23, 0, 4]` have what is in flight into each position from its left, a digit each, front
-//! first; 4 is the announcement.
 
 use crate::equal::equal;
-use crate::worlds::{Did, begun, deliver};
+use crate::worlds::{IDLE, MOVED, begun, deliver, ready_left};
 use ring_any::{Any, AnyMsg};
 use ring_election::RingElection;
 use ring_id::{NodeId, Side};
@@ -12,9 +9,6 @@ use ring_node::{Node, Packet};
 use ring_world::World;
 use std::alloc::Global;
 use std::process::Abort;
-
-/// What is in flight into each of three positions from its left, front first, a digit each.
-type Links = [u32; 3];
 
 /// The digit of an identity of 3, 1, 2, and 9 for another.
 fn digit_of(id: NodeId) -> u32 {
@@ -39,7 +33,7 @@ impl Digits for Any {
     }
 }
 
-/// The digit of what a node has sent to the right at this place.
+/// The digit of what a node has sent to the right at this place; 4 is the announcement.
 fn sent_digit<E: Digits>(sender: &Node<E>, place: usize) -> u32 {
     match sender.packet(Side::Right, place) {
         Some(Packet::Algo(message)) => E::digit(message),
@@ -48,60 +42,48 @@ fn sent_digit<E: Digits>(sender: &Node<E>, place: usize) -> u32 {
     }
 }
 
-/// What a sender has sent to the right that its receiver has not taken.
-fn between<E: Digits>(sender: &Node<E>, receiver: &Node<E>) -> u32 {
-    let mut digits = 0u32;
+/// Puts a zero after some digits, and then the digits of what a sender has sent to the right and
+/// its receiver has not taken.
+fn add_link<E: Digits>(digits: &mut u32, sender: &Node<E>, receiver: &Node<E>) {
+    *digits = digits.saturating_mul(10);
     for place in receiver.taken(Side::Left)..sender.sent(Side::Right) {
         let digit = sent_digit(sender, place);
-        digits = digits.saturating_mul(10).saturating_add(digit);
+        *digits = digits.saturating_mul(10).saturating_add(digit);
     }
+}
+
+/// What is in flight in a world of three, by the links into its positions from the left: a zero
+/// before each link, and a digit for each packet, the first packet first.
+fn in_flight<E: Digits>(rt: &impl Abort, world: &World<E>) -> u32 {
+    let [first, second, third] = world.nodes() else {
+        panic!(rt; "not three nodes");
+    };
+    let mut digits = 0;
+    add_link(&mut digits, third, first);
+    add_link(&mut digits, first, second);
+    add_link(&mut digits, second, third);
     digits
 }
 
-/// What is in flight in a world of three.
-fn in_flight<E: Digits>(world: &World<E>) -> Option<Links> {
-    let [first, second, third] = world.nodes() else {
-        return None;
-    };
-    Some([
-        between(third, first),
-        between(first, second),
-        between(second, third),
-    ])
-}
+/// A delivery from the left of a position, what it comes to, and what it leaves in flight. Zeros at
+/// the front are left out: 10033 has 1 on the way into position 0, and two 3 into position 2.
+type Leg = (usize, u128, u32);
 
-/// A delivery from the left of a position, what it does, and what it leaves in flight.
-type Leg = (usize, Did, Links);
-
-/// Whether a drain would deliver from the left of this position next.
-fn is_ready<E: RingElection>(world: &World<E>, position: usize) -> bool {
-    match world.ready() {
-        Some((ready, Side::Left)) => ready == position,
-        _ => false,
-    }
-}
-
-/// A world takes a leg, and comes to what that says.
-fn takes<E: Digits>(rt: &impl Abort, world: &mut World<E>, leg: &Leg) {
-    let (position, did, links) = *leg;
-    let done = deliver(rt, world, position, Side::Left);
-    let found = (done, in_flight(world));
-    equal(rt, "a delivery, and in flight", found, (did, Some(links)));
-}
-
-/// The legs on 3, 1, 2, one after another, and nothing is in flight then: how many are on the link on which a drain would
-/// deliver, the first with something in flight.
+/// The legs on 3, 1, 2, one after another. Nothing is in flight then. Returns how many legs are on
+/// the link on which a drain would deliver next.
 fn goes<E: Digits>(rt: &impl Abort, alloc: Global, kind: E, legs: &[Leg]) -> usize {
     let mut world = begun(rt, alloc, kind, &[3, 1, 2]);
-    equal(rt, "in flight", in_flight(&world), Some([2, 3, 1]));
+    equal(rt, "in flight", in_flight(rt, &world), 2_03_01);
     let mut first = 0usize;
     for leg in legs {
-        if is_ready(&world, leg.0) {
+        if ready_left(&world) == leg.0 as u128 {
             first = first.saturating_add(1);
         }
-        takes(rt, &mut world, leg);
+        let done = deliver(rt, &mut world, leg.0, Side::Left);
+        equal(rt, "a delivery", done, leg.1);
+        equal(rt, "in flight", in_flight(rt, &world), leg.2);
     }
-    equal(rt, "the ready link", world.ready(), None);
+    equal(rt, "the ready link", ready_left(&world), IDLE);
     drop(world);
     first
 }
@@ -109,17 +91,17 @@ fn goes<E: Digits>(rt: &impl Abort, alloc: Global, kind: E, legs: &[Leg]) -> usi
 #[test]
 fn the_worked_schedule(rt: HostRuntime) {
     let legs: [Leg; 9] = [
-        (1, Did::Moved, [2, 0, 13]),
-        (2, Did::Moved, [2, 0, 3]),
-        (2, Did::Moved, [23, 0, 0]),
-        (0, Did::Moved, [3, 0, 0]),
-        (0, Did::Told(3), [0, 4, 0]),
-        (1, Did::Told(3), [0, 0, 4]),
-        (2, Did::Told(3), [4, 0, 0]),
-        (0, Did::Moved, [0, 0, 0]),
-        (0, Did::Idle, [0, 0, 0]),
+        (1, MOVED, 2_0_013),
+        (2, MOVED, 2_0_03),
+        (2, MOVED, 23_0_0),
+        (0, MOVED, 3_0_0),
+        (0, 3, 4_0),
+        (1, 3, 4),
+        (2, 3, 4_0_0),
+        (0, MOVED, 0),
+        (0, IDLE, 0),
     ];
-    // the first three are on other links, and the last is where nothing is in flight
+    // the first three are on other links, and the last finds nothing in flight
     let first = goes(&rt, rt.alloc(), Any::Chang, &legs);
     equal(&rt, "legs of a drain", first, 5);
 }
@@ -127,21 +109,21 @@ fn the_worked_schedule(rt: HostRuntime) {
 #[test]
 fn the_worked_order_of_a_drain(rt: HostRuntime) {
     let legs: [Leg; 15] = [
-        (0, Did::Moved, [0, 32, 1]),
-        (1, Did::Moved, [0, 2, 13]),
-        (1, Did::Moved, [0, 0, 133]),
-        (2, Did::Moved, [1, 0, 33]),
-        (0, Did::Moved, [0, 0, 33]),
-        (2, Did::Moved, [0, 0, 3]),
-        (2, Did::Moved, [3, 0, 0]),
-        (0, Did::Moved, [0, 3, 0]),
-        (1, Did::Told(1), [0, 0, 34]),
-        (2, Did::Moved, [3, 0, 4]),
-        (0, Did::Moved, [0, 3, 4]),
-        (1, Did::Moved, [0, 0, 4]),
-        (2, Did::Told(1), [4, 0, 0]),
-        (0, Did::Told(1), [0, 4, 0]),
-        (1, Did::Moved, [0, 0, 0]),
+        (0, MOVED, 32_01),
+        (1, MOVED, 2_013),
+        (1, MOVED, 133),
+        (2, MOVED, 1_0_033),
+        (0, MOVED, 33),
+        (2, MOVED, 3),
+        (2, MOVED, 3_0_0),
+        (0, MOVED, 3_0),
+        (1, 1, 34),
+        (2, MOVED, 3_0_04),
+        (0, MOVED, 3_04),
+        (1, MOVED, 4),
+        (2, 1, 4_0_0),
+        (0, 1, 4_0),
+        (1, MOVED, 0),
     ];
     let first = goes(&rt, rt.alloc(), Any::Peterson, &legs);
     equal(&rt, "legs of a drain", first, 15);

@@ -1,5 +1,5 @@
-//! How much work a ring takes: every ring becomes quiet, with a leader that all know, within the
-//! bound on messages of its algorithm and one announcement for each position.
+//! How much work a ring takes. Every ring becomes quiet, with a leader that all know, within the
+//! algorithm's bound on messages and one announcement for each position.
 
 use crate::equal::equal;
 use crate::memory::add;
@@ -11,7 +11,7 @@ use ring_world::World;
 use std::alloc::Global;
 use std::process::Abort;
 
-/// The first numbers of a row in which those from 1 to 256 stand once each, without order.
+/// The first `size` numbers of a list without order that has each number from 1 to 256 once.
 fn scattered(rt: &impl Abort, alloc: Global, size: u16) -> Vec<u32> {
     let mut numbers = Vec::new(alloc);
     for place in 0..size {
@@ -36,8 +36,8 @@ fn all_know<E: RingElection>(rt: &impl Abort, world: &World<E>, leader: Option<N
     }
 }
 
-/// Drains a ring of this size, until nothing is in flight and all know this leader; how many messages it
-/// took besides the announcements.
+/// Drains a ring of this size: nothing is in flight then, and all know this leader. Returns the
+/// number of messages, without the announcements.
 fn messages<E: RingElection>(
     rt: &impl Abort,
     alloc: Global,
@@ -54,7 +54,7 @@ fn messages<E: RingElection>(
     delivered.saturating_sub(u128::from(size))
 }
 
-/// A ring of each kind and size takes at most so many messages until all know this leader.
+/// Each kind and size: all come to know this leader, with at most `bound` messages.
 fn take_at_most(rt: &impl Abort, alloc: Global, rings: &[(Any, u16, u32, u128)]) {
     for (kind, size, leader, bound) in rings {
         let taken = messages(rt, alloc, *kind, *size, *leader);
@@ -62,8 +62,8 @@ fn take_at_most(rt: &impl Abort, alloc: Global, rings: &[(Any, u16, u32, u128)])
     }
 }
 
-/// The bounds are n squared for LeLann and for Chang and Roberts, what the phases take for Hirschberg and Sinclair,
-/// and what the rounds take for Peterson.
+/// The bound is n squared for LeLann and for Chang and Roberts. For Hirschberg and Sinclair it is
+/// that of the phases, and for Peterson that of the rounds.
 #[test]
 fn each_kind_takes_at_most_its_bound(rt: HostRuntime) {
     let rings = [

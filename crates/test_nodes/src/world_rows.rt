@@ -1,56 +1,38 @@
-//! A world of the election of Chang and Roberts on 3, 1, 2, by its calls alone, and a link that is cut. More deliveries
-//! and cuts are in the schedules of `test_replays`.
+//! A world of the election of Chang and Roberts on 3, 1, 2 by its calls alone, and a link that is
+//! cut. More deliveries and cuts are in the schedules of `test_replays`.
 
 use crate::equal::equal;
-use crate::worlds::{Did, begun, counts, cut, deliver, drained, pass, passages};
+use crate::worlds::{
+    IDLE, MOVED, ONE_WAY, begun, cut, deliver, drained, pass, passages, ready_left,
+};
 use ring_chang::Chang;
 use ring_election::RingElection;
-use ring_id::{Refusal, Side};
+use ring_id::Side;
 use ring_world::World;
 use std::alloc::Global;
 use std::process::Abort;
 
-/// A call of a world, and what it comes to.
-#[derive(Clone, Copy)]
-enum Step {
-    /// A delivery on the link into this position from a side does this.
-    Deliver(usize, Side, Did),
-    /// A passage there does this.
-    Pass(usize, Side, Did),
-    /// Of at most so many passages on the ready links there are so many, and the last tells, at this position, this leader,
-    /// if it tells one.
-    Passages(u32, u32, Option<(usize, u32)>),
-    /// A cut of the link into this position from a side is answered so, and the link is cut then, or not.
-    Cut(usize, Side, Result<(), Refusal>),
-    /// A drain of so many deliveries makes so many.
-    Drain(u32, u32),
-    /// So many packets are in flight or stuck, and so many were delivered.
-    Counts(u128, u128),
-    /// This link is the first with something in flight, if there is one.
-    Ready(Option<(usize, Side)>),
-}
+/// A call, its argument, and the number that it comes to.
+///
+/// Calls at a position: `d` delivers from the left, and `D` from the right; `p` and `P` pass; `x`
+/// and `X` cut. Calls with a limit: `s` makes passages, and `n` drains. Calls without an argument,
+/// here 0: `f` counts the packets in flight or stuck, `t` those taken; `r` is the ready link.
+type Step = (u8, u32, u128);
 
-/// A call comes to what its step says.
-fn goes<E: RingElection>(rt: &impl Abort, world: &mut World<E>, step: &Step) {
-    match step {
-        Step::Deliver(position, side, did) => {
-            equal(rt, "a delivery", deliver(rt, world, *position, *side), *did);
-        }
-        Step::Pass(position, side, did) => {
-            equal(rt, "a passage", pass(rt, world, *position, *side), *did);
-        }
-        Step::Passages(most, made, told) => {
-            equal(rt, "passages", passages(world, *most), (*made, *told));
-        }
-        Step::Cut(position, side, answer) => {
-            let done = cut(rt, world, *position, *side);
-            equal(rt, "a cut", done, (*answer, answer.is_ok()));
-        }
-        Step::Drain(most, made) => equal(rt, "deliveries", drained(rt, world, *most), *made),
-        Step::Counts(pending, delivered) => {
-            equal(rt, "counts", counts(world), (*pending, *delivered));
-        }
-        Step::Ready(link) => equal(rt, "the ready link", world.ready(), *link),
+/// Calls a world, and returns what the call comes to.
+fn called<E: RingElection>(rt: &impl Abort, world: &mut World<E>, call: u8, at: u32) -> u128 {
+    match call {
+        b'd' => deliver(rt, world, at as usize, Side::Left),
+        b'D' => deliver(rt, world, at as usize, Side::Right),
+        b'p' => pass(rt, world, at as usize, Side::Left),
+        b'P' => pass(rt, world, at as usize, Side::Right),
+        b'x' => cut(rt, world, at as usize, Side::Left),
+        b'X' => cut(rt, world, at as usize, Side::Right),
+        b's' => passages(world, at),
+        b'n' => drained(rt, world, at) as u128,
+        b'f' => world.pending(),
+        b't' => world.delivered(),
+        _ => ready_left(world),
     }
 }
 
@@ -58,73 +40,82 @@ fn goes<E: RingElection>(rt: &impl Abort, world: &mut World<E>, step: &Step) {
 fn all_go<E: RingElection>(rt: &impl Abort, alloc: Global, algorithm: E, steps: &[Step]) {
     let mut world = begun(rt, alloc, algorithm, &[3, 1, 2]);
     for step in steps {
-        goes(rt, &mut world, step);
+        equal(rt, "a call", called(rt, &mut world, step.0, step.1), step.2);
     }
     drop(world);
 }
 
 #[test]
 fn a_link_gives_one_packet_and_is_idle_then(rt: HostRuntime) {
-    let steps = [
-        Step::Counts(3, 0),
-        Step::Ready(Some((0, Side::Left))),
-        Step::Deliver(0, Side::Left, Did::Moved),
-        Step::Deliver(0, Side::Left, Did::Idle),
-        Step::Deliver(2, Side::Right, Did::Refused(Refusal::OneWay)),
-        Step::Counts(2, 1),
-        Step::Drain(6, 6),
-        Step::Counts(1, 7),
-        Step::Drain(100, 1),
-        Step::Counts(0, 8),
-        Step::Ready(None),
+    let steps: [Step; 15] = [
+        (b'f', 0, 3),
+        (b't', 0, 0),
+        (b'r', 0, 0),
+        (b'd', 0, MOVED),
+        (b'd', 0, IDLE),
+        (b'D', 2, ONE_WAY),
+        (b'f', 0, 2),
+        (b't', 0, 1),
+        (b'n', 6, 6),
+        (b'f', 0, 1),
+        (b't', 0, 7),
+        (b'n', 100, 1),
+        (b'f', 0, 0),
+        (b't', 0, 8),
+        (b'r', 0, IDLE),
     ];
     all_go(&rt, rt.alloc(), Chang, &steps);
 }
 
 #[test]
 fn a_passage_tells_the_leader_alone(rt: HostRuntime) {
-    let steps = [
-        Step::Pass(0, Side::Left, Did::Moved),
-        Step::Pass(0, Side::Left, Did::Idle),
-        Step::Pass(2, Side::Right, Did::Refused(Refusal::OneWay)),
-        Step::Pass(1, Side::Left, Did::Moved),
-        Step::Pass(2, Side::Left, Did::Moved),
-        Step::Pass(2, Side::Left, Did::Moved),
-        Step::Pass(0, Side::Left, Did::Told(3)),
-        Step::Pass(1, Side::Left, Did::Told(3)),
-        Step::Counts(1, 6),
+    let steps: [Step; 10] = [
+        (b'p', 0, MOVED),
+        (b'p', 0, IDLE),
+        (b'P', 2, ONE_WAY),
+        (b'p', 1, MOVED),
+        (b'p', 2, MOVED),
+        (b'p', 2, MOVED),
+        (b'p', 0, 3),
+        (b'p', 1, 3),
+        (b'f', 0, 1),
+        (b't', 0, 6),
     ];
     all_go(&rt, rt.alloc(), Chang, &steps);
 }
 
 #[test]
 fn passages_end_where_a_leader_is_told(rt: HostRuntime) {
-    let steps = [
-        Step::Passages(4, 4, None),
-        Step::Passages(100, 1, Some((0, 3))),
-        Step::Passages(100, 1, Some((1, 3))),
-        Step::Passages(100, 1, Some((2, 3))),
-        Step::Passages(100, 1, None),
-        Step::Counts(0, 8),
+    let steps: [Step; 7] = [
+        (b's', 4, 400),
+        (b's', 100, 103),
+        (b's', 100, 113),
+        (b's', 100, 123),
+        (b's', 100, 100),
+        (b'f', 0, 0),
+        (b't', 0, 8),
     ];
     all_go(&rt, rt.alloc(), Chang, &steps);
 }
 
 #[test]
 fn a_cut_link_keeps_what_stands_there(rt: HostRuntime) {
-    let steps = [
-        Step::Cut(1, Side::Right, Err(Refusal::OneWay)),
-        Step::Cut(2, Side::Left, Ok(())),
-        Step::Cut(2, Side::Left, Ok(())),
-        Step::Deliver(2, Side::Left, Did::Idle),
-        Step::Counts(3, 0),
-        Step::Drain(100, 2),
-        Step::Counts(2, 2),
-        Step::Ready(None),
-        Step::Cut(1, Side::Right, Err(Refusal::OneWay)),
-        Step::Cut(2, Side::Left, Ok(())),
-        Step::Cut(2, Side::Left, Ok(())),
-        Step::Counts(2, 2),
+    let steps: [Step; 15] = [
+        (b'X', 1, ONE_WAY),
+        (b'x', 2, 1),
+        (b'x', 2, 1),
+        (b'd', 2, IDLE),
+        (b'f', 0, 3),
+        (b't', 0, 0),
+        (b'n', 100, 2),
+        (b'f', 0, 2),
+        (b't', 0, 2),
+        (b'r', 0, IDLE),
+        (b'X', 1, ONE_WAY),
+        (b'x', 2, 1),
+        (b'x', 2, 1),
+        (b'f', 0, 2),
+        (b't', 0, 2),
     ];
     all_go(&rt, rt.alloc(), Chang, &steps);
 }

@@ -1,4 +1,4 @@
-//! Worlds of the rows, and deliveries in them.
+//! Worlds of the test cases, and calls of them. If an allocation fails, the call is made once more.
 ghost use Rattle.std.specs.Prelude.{◌<◌, length};
 
 use crate::drain;
@@ -13,37 +13,39 @@ use std::alloc::Global;
 use std::process::Abort;
 use std::sync::Arc;
 
-/// What a delivery did.
-#[derive(Clone, Copy, Debug, PartialEq, Eq)]
-pub enum Did {
-    /// A packet was taken, and its receiver told nothing.
-    Moved,
-    /// A packet was taken, and its receiver told that this is the leader.
-    Told(u32),
-    /// Nothing was in flight.
-    Idle,
-    /// It was refused.
-    Refused(Refusal),
+/// A packet was taken, and its receiver reports no leader. If it reports one, the call comes to the
+/// leader's number.
+pub const MOVED: u128 = 0;
+
+/// Nothing is in flight.
+pub const IDLE: u128 = 98;
+
+/// The call was refused as `OneWay`.
+pub const ONE_WAY: u128 = 99;
+
+/// The call was refused for another reason.
+pub const REFUSED: u128 = 100;
+
+/// The number of a refusal.
+fn refused(refusal: Refusal) -> u128 {
+    match refusal {
+        Refusal::OneWay => ONE_WAY,
+        _ => REFUSED,
+    }
 }
 
 /// The world of a charter, in which nothing was delivered.
-fn begun_once<E: RingElection>(
-    rt: &impl Abort,
-    alloc: Global,
-    charter: &Arc<Charter<E>>,
-) -> Result<World<E>, NoMemory> {
-    World::begin(alloc, Arc::try_clone(charter).expect(rt, "no copy"))
-}
-
-/// The same, asked for once more where memory was refused.
 pub fn begun_on<E: RingElection>(
     rt: &impl Abort,
     alloc: Global,
     charter: &Arc<Charter<E>>,
 ) -> World<E> {
-    match begun_once(rt, alloc, charter) {
+    match World::begin(alloc, Arc::try_clone(charter).expect(rt, "no copy")) {
         Ok(world) => world,
-        Err(NoMemory) => begun_once(rt, alloc, charter).expect(rt, TWICE),
+        Err(NoMemory) => {
+            let copy = Arc::try_clone(charter).expect(rt, "no copy");
+            World::begin(alloc, copy).expect(rt, TWICE)
+        }
     }
 }
 
@@ -57,19 +59,14 @@ pub fn begun<E: RingElection>(
     begun_on(rt, alloc, &charter(rt, alloc, 1, algorithm, numbers))
 }
 
-/// How many packets a world has in flight or stuck, and how many it has delivered.
-pub fn counts<E: RingElection>(world: &World<E>) -> (u128, u128) {
-    (world.pending(), world.delivered())
-}
-
-/// Stops the test where a world has no such position.
+/// Stops the test if a world has no such position.
 fn assert_has<E: RingElection>(rt: &impl Abort, world: &World<E>, position: usize)
     ensures { position < length world.now.charter.roster }
 {
     assert!(rt; position < world.charter().roster().len());
 }
 
-/// Delivers on the link into this position from a side. What is refused changes nothing.
+/// Delivers on the link into this position from a side. A refusal changes nothing.
 fn deliver_once<E: RingElection>(
     rt: &impl Abort,
     world: &mut World<E>,
@@ -77,15 +74,16 @@ fn deliver_once<E: RingElection>(
     side: Side,
 ) -> Delivery<E> {
     assert_has(rt, world, position);
-    let before = counts(world);
+    let (pending, delivered) = (world.pending(), world.delivered());
     let delivery = world.deliver(position, side);
     if matches!(delivery, Delivery::Refused(_)) {
-        equal(rt, "counts", counts(world), before);
+        equal(rt, "in flight", world.pending(), pending);
+        equal(rt, "delivered", world.delivered(), delivered);
     }
     delivery
 }
 
-/// The same, and once more where memory was refused.
+/// Delivers on the link into this position from a side.
 pub fn delivery<E: RingElection>(
     rt: &impl Abort,
     world: &mut World<E>,
@@ -98,18 +96,18 @@ pub fn delivery<E: RingElection>(
     }
 }
 
-/// What a delivery on the link into this position from a side did.
+/// The number of what a delivery on the link into this position from a side comes to.
 pub fn deliver<E: RingElection>(
     rt: &impl Abort,
     world: &mut World<E>,
     position: usize,
     side: Side,
-) -> Did {
+) -> u128 {
     match delivery(rt, world, position, side) {
-        Delivery::Moved(None) => Did::Moved,
-        Delivery::Moved(Some(report)) => Did::Told(report.leader().get()),
-        Delivery::Idle => Did::Idle,
-        Delivery::Refused(refusal) => Did::Refused(refusal),
+        Delivery::Moved(None) => MOVED,
+        Delivery::Moved(Some(report)) => report.leader().get() as u128,
+        Delivery::Idle => IDLE,
+        Delivery::Refused(refusal) => refused(refusal),
     }
 }
 
@@ -124,28 +122,28 @@ fn pass_once<E: RingElection>(
     world.pass(position, side)
 }
 
-/// What a passage on the link into this position from a side did, made once more where memory was refused.
+/// The number of what a passage on the link into this position from a side comes to.
 pub fn pass<E: RingElection>(
     rt: &impl Abort,
     world: &mut World<E>,
     position: usize,
     side: Side,
-) -> Did {
+) -> u128 {
     let passage = match pass_once(rt, world, position, side) {
         Passage::Refused(Refusal::NoMemory) => pass_once(rt, world, position, side),
         passage => passage,
     };
     match passage {
-        Passage::Moved(None) => Did::Moved,
-        Passage::Moved(Some(leader)) => Did::Told(leader.get()),
-        Passage::Idle => Did::Idle,
-        Passage::Refused(refusal) => Did::Refused(refusal),
+        Passage::Moved(None) => MOVED,
+        Passage::Moved(Some(leader)) => leader.get() as u128,
+        Passage::Idle => IDLE,
+        Passage::Refused(refusal) => refused(refusal),
     }
 }
 
-/// Passes on the links that are ready, and goes on where memory was refused: how many passages there were in all,
-/// and at which position the last told which leader, if it told one.
-pub fn passages<E: RingElection>(world: &mut World<E>, most: u32) -> (u32, Option<(usize, u32)>) {
+/// Passes on ready links, at most `most` times. Returns three digits: how many passages were made,
+/// the position at which the last one reports a leader, and the leader; two zeros for none.
+pub fn passages<E: RingElection>(world: &mut World<E>, most: u32) -> u128 {
     let first = world.pass_ready(most);
     let (before, last) = match first.end {
         PassagesEnd::Starved => {
@@ -156,13 +154,16 @@ pub fn passages<E: RingElection>(world: &mut World<E>, most: u32) -> (u32, Optio
     };
     let end = last.end;
     let told = match end {
-        PassagesEnd::Told(position, leader) => Some((position, leader.get())),
-        _ => None,
+        PassagesEnd::Told(position, leader) => (position as u128, leader.get() as u128),
+        _ => (0, 0),
     };
-    (last.done.saturating_add(before), told)
+    let made = last.done.saturating_add(before) as u128;
+    made.saturating_mul(100)
+        .saturating_add(told.0.saturating_mul(10))
+        .saturating_add(told.1)
 }
 
-/// Drains a world, and goes on where memory was refused: how many deliveries there were in all.
+/// Drains a world, and returns the number of deliveries.
 pub fn drained<E: RingElection>(rt: &impl Abort, world: &mut World<E>, most: u32) -> u32 {
     let before = world.delivered();
     if let Ok(done) = drain(world, most) {
@@ -174,15 +175,29 @@ pub fn drained<E: RingElection>(rt: &impl Abort, world: &mut World<E>, most: u32
     made.saturating_add(rest)
 }
 
-/// Cuts the link into this position from a side, and whether it is cut then.
+/// Cuts the link into this position from a side: 1 if it is cut then, or the number of a refusal,
+/// after which it is not cut.
 pub fn cut<E: RingElection>(
     rt: &impl Abort,
     world: &mut World<E>,
     position: usize,
     side: Side,
-) -> (Result<(), Refusal>, bool) {
+) -> u128 {
     assert_has(rt, world, position);
     let done = world.cut(position, side);
     assert_has(rt, world, position);
-    (done, world.is_cut(position, side))
+    assert!(rt; world.is_cut(position, side) == done.is_ok());
+    match done {
+        Ok(()) => 1,
+        Err(refusal) => refused(refusal),
+    }
+}
+
+/// The position of the ready link from the left; `IDLE` if no link is ready.
+pub fn ready_left<E: RingElection>(world: &World<E>) -> u128 {
+    match world.ready() {
+        Some((position, Side::Left)) => position as u128,
+        Some((_, Side::Right)) => REFUSED,
+        None => IDLE,
+    }
 }

@@ -1,6 +1,5 @@
 ghost use Rattle.std.specs.Prelude.{◌<◌};
 
-use crate::equal::equal;
 use crate::inbox::alone;
 use ring_inbox::{Put, ReceiverPass, SenderPass, Take, TryTake, inbox};
 use std::alloc::Global;
@@ -24,22 +23,22 @@ fn opened(
 
 // A sender stores an item.
 fn stores<R: Abort + Wait>(rt: &R, sender: &mut SenderPass<u64>, item: u64) {
-    equal(rt, "room", sender.put(rt, item), Put::Stored);
+    assert!(rt; matches!(sender.put(rt, item), Put::Stored));
 }
 
 // A sender gets an item back, since the inbox is full.
 fn gets_back<R: Abort + Wait>(rt: &R, sender: &mut SenderPass<u64>, item: u64) {
-    equal(rt, "no room", sender.put(rt, item), Put::Full(item));
+    assert!(rt; sender.put(rt, item) == Put::Full(item));
 }
 
 // The receiver takes this item of the sender with this number.
 fn takes<R: Abort + Wait>(rt: &R, receiver: &mut ReceiverPass<u64>, sender: usize, item: u64) {
-    equal(rt, "an item", receiver.take(rt), Take::Taken(sender, item));
+    assert!(rt; receiver.take(rt) == Take::Taken(sender, item));
 }
 
-// The receiver, where it doesn't wait, takes this.
+// A take that does not wait comes to this.
 fn tries<R: Abort + Wait>(rt: &R, receiver: &mut ReceiverPass<u64>, wanted: TryTake<u64>) {
-    equal(rt, "what there is", receiver.try_take(rt), wanted);
+    assert!(rt; receiver.try_take(rt) == wanted);
 }
 
 #[test]
@@ -78,12 +77,12 @@ fn a_call_says_that_the_other_end_is_gone(rt: HostRuntime) {
     stores(&rt, &mut sender, 5);
     drop(sender);
     takes(&rt, &mut receiver, 0, 5);
-    equal(&rt, "none is left", receiver.take(&rt), Take::Closed);
+    assert!(rt; matches!(receiver.take(&rt), Take::Closed));
     tries(&rt, &mut receiver, TryTake::Empty);
     drop(receiver);
     let (receiver, mut sender) = alone::<u64>(&rt, rt.alloc());
     drop(receiver);
-    equal(&rt, "no receiver", sender.put(&rt, 6), Put::Gone(6));
+    assert!(rt; sender.put(&rt, 6) == Put::Gone(6));
     drop(sender);
 }
 
@@ -95,7 +94,7 @@ fn put_owners<R: Abort + Wait>(
 ) {
     for sender in senders {
         let owner = Arc::try_clone(kept).expect(rt, "no memory");
-        equal(rt, "room", sender.put(rt, owner), Put::Stored);
+        assert!(rt; matches!(sender.put(rt, owner), Put::Stored));
     }
 }
 
@@ -105,9 +104,9 @@ fn an_inbox_drops_what_it_holds(rt: HostRuntime) {
     let opened = inbox::<Arc<u64, Global>>(rt.alloc(), 3, 3);
     let (receiver, mut senders) = opened.expect(&rt, "no memory");
     put_owners(&rt, &mut senders, &kept);
-    equal(&rt, "owners", Arc::strong_count(&kept), 4);
+    assert!(rt; Arc::strong_count(&kept) == 4);
     drop(receiver);
     drop(senders);
-    equal(&rt, "owners left", Arc::strong_count(&kept), 1);
+    assert!(rt; Arc::strong_count(&kept) == 1);
     drop(kept);
 }

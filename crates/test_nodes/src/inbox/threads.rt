@@ -1,6 +1,5 @@
 ghost use Rattle.std.specs.Prelude.{◌≡◌, ◌<◌};
 
-use crate::equal::equal;
 use crate::inbox::alone;
 use ring_inbox::{Put, ReceiverPass, SenderPass, Take, TryTake, inbox};
 use std::alloc::Global;
@@ -24,7 +23,7 @@ fn new_item(rt: &impl Abort, alloc: Global, number: u64) -> Item {
     Arc::new(alloc, number).expect(rt, "no memory")
 }
 
-// Puts the item until it is stored or the receiver is gone, and answers whether it was stored.
+// Puts the item until it is stored or the receiver is gone, and returns whether it was stored.
 fn put_once<T: Drop, R: Wait>(rt: &R, pass: &mut SenderPass<T>, item: T) -> bool
     ensures { pass.new.inbox ≡ pass.old.inbox }
 {
@@ -51,7 +50,7 @@ fn put_all<R: Abort + Wait>(rt: &R, alloc: Global, mut pass: SenderPass<Item>) -
     pass
 }
 
-// The next item, where it is awaited if there is none.
+// The next item. If there is none, it is awaited.
 fn take_next<T: Drop, R: Wait>(rt: &R, receiver: &mut ReceiverPass<T>) -> Option<(usize, T)>
     ensures { receiver.new.inbox ≡ receiver.old.inbox }
 {
@@ -64,7 +63,7 @@ fn take_next<T: Drop, R: Wait>(rt: &R, receiver: &mut ReceiverPass<T>) -> Option
     }
 }
 
-// Counts an item of this number if it is the next one of its sender, and answers whether it is.
+// Counts an item of this number if it is the next one of its sender, and returns whether it is.
 fn is_next(counts: &mut Counts, sender: usize, number: u64) -> bool {
     match counts.get_mut(sender) {
         Some(count) if *count == number && *count < ITEMS => {
@@ -75,7 +74,7 @@ fn is_next(counts: &mut Counts, sender: usize, number: u64) -> bool {
     }
 }
 
-// Takes until so many were taken, or all senders are gone, or an item comes out of its turn.
+// Takes until `most` items were taken, or all senders are gone, or an item comes out of its turn.
 fn take_all<R: Wait>(rt: &R, receiver: &mut ReceiverPass<Item>, most: u64) -> Counts
     ensures { receiver.new.inbox ≡ receiver.old.inbox }
 {
@@ -114,7 +113,8 @@ fn join_all<R: Threads>(rt: &R, workers: Vec<JoinHandle<()>>) {
     }
 }
 
-// Each of three threads stores its items in an inbox of this capacity, and this one takes them in the order of each.
+// Each of three threads stores its items in an inbox of this capacity. This thread takes them,
+// those of each sender in order.
 fn passes_through<R: Abort + Threads + Wait + Copy + Send + 'static>(
     rt: R,
     alloc: Global,
@@ -128,7 +128,7 @@ fn passes_through<R: Abort + Threads + Wait + Copy + Send + 'static>(
     let counts = take_all(&rt, &mut receiver, u64::MAX);
     drop(receiver);
     join_all(&rt, workers);
-    equal(&rt, "how many of each", counts, [ITEMS; SENDERS]);
+    assert!(rt; counts == [ITEMS; SENDERS]);
 }
 
 #[test]
@@ -144,10 +144,12 @@ fn pass_one<R: Abort + Wait>(
     sender: &mut SenderPass<Item>,
     receiver: &mut ReceiverPass<Item>,
 ) {
-    let wanted = TryTake::Taken(0, new_item(rt, alloc, 3));
     assert!(rt; put_once(rt, sender, new_item(rt, alloc, 3)));
-    equal(rt, "the one", receiver.try_take(rt), wanted);
-    equal(rt, "none", receiver.try_take(rt), TryTake::Empty);
+    match receiver.try_take(rt) {
+        TryTake::Taken(number, item) => assert!(rt; number == 0 && *item == 3),
+        TryTake::Empty => panic!(rt; "no item"),
+    }
+    assert!(rt; matches!(receiver.try_take(rt), TryTake::Empty));
 }
 
 #[test]
@@ -167,7 +169,7 @@ fn a_sender_meets_the_receiver_after_two_threads(rt: HostRuntime) {
         },
     );
     let (receiver, counts) = taken;
-    equal(&rt, "how many of each", counts, [ITEMS, 0, 0]);
+    assert!(rt; counts == [ITEMS, 0, 0]);
     let mut receiver = sender.meet(receiver);
     pass_one(&rt, alloc, &mut sender, &mut receiver);
     drop(sender);

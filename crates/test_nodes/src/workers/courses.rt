@@ -1,9 +1,9 @@
-//! Courses of one worker, in one thread: what comes to it, when it ends, and what it comes to. What is refused memory
-//! outside the worker is asked for once more.
+//! Courses of one worker, in one thread: the items that come to it, and its end. If an allocation
+//! outside the worker fails, the call is made once more.
 ghost use Rattle.std.specs.Prelude.{◌<◌};
 
 use crate::memory::TWICE;
-use crate::workers::gates::{Answers, EndGate, Until};
+use crate::workers::gates::{Answers, EndGate};
 use crate::workers::items::{Ring, charter, first_packet, stores};
 use ring_election::RingElection;
 use ring_inbox::{ReceiverPass, SenderPass, inbox};
@@ -29,8 +29,10 @@ pub enum Comes {
 pub struct Course<'a> {
     /// What comes, in order.
     pub items: &'a [Comes],
-    /// When it ends.
-    pub until: Until,
+    /// The item at which it is halted; 0 for none.
+    pub halt: u64,
+    /// The item after which it is told to stop; 0 for none.
+    pub stop: u64,
     /// What its desk answers.
     pub filed: Filed,
 }
@@ -64,7 +66,7 @@ pub struct Place<E: RingElection> {
 }
 
 impl<E: RingElection> Place<E> {
-    /// An inbox of this capacity, and so many passes, all to itself. Asked for once more where memory was refused.
+    /// An inbox of this capacity, and `senders` passes, all to this inbox.
     pub fn opened(rt: &impl Abort, alloc: Global, capacity: usize, senders: usize) -> Place<E>
         requires capacity { 0 < capacity }
         requires senders { 0 < senders }
@@ -77,7 +79,7 @@ impl<E: RingElection> Place<E> {
     }
 }
 
-/// Runs the worker of this number, one of as many as it has passes.
+/// Runs the worker of this number. There are as many workers as it has passes.
 pub fn worked<E: RingElection, R: Abort + Wait + Clock, G: Gate>(
     rt: &R,
     alloc: Global,
@@ -111,20 +113,11 @@ fn handed<E: RingElection, R: Abort + Wait + Clock + Copy>(
     let mut place = Place::opened(rt, alloc, 64, 2);
     let mut own = place.senders.pop().expect(rt, "two passes");
     fill(rt, alloc, algorithm, course, &mut own);
-    let gate = EndGate::new(*rt, course.until, own);
+    let gate = EndGate::new(*rt, 0, course.halt, course.stop, own);
     let handed = worked(rt, alloc, 0, place, &gate, course.filed);
+    assert!(rt; gate.others() == 0);
     drop(gate);
     handed
-}
-
-/// Why a worker ended that handed this over.
-fn why_of<E: RingElection>(rt: &impl Abort, alloc: Global, handed: Handed<E>) -> Why {
-    let mut nodes = Vec::new(alloc);
-    let rest = moved(rt, handed, &mut nodes);
-    let why = rest.why;
-    drop(rest);
-    drop(nodes);
-    why
 }
 
 /// Why a worker ends whose inbox has no senders left. Its own pass is to another inbox.
@@ -137,12 +130,13 @@ pub fn why_alone<E: RingElection, R: Abort + Wait + Clock>(rt: &R, alloc: Global
     } = Place::<E>::opened(rt, alloc, 1, 1);
     let place = Place { receiver, senders };
     let handed = worked(rt, alloc, 0, place, &OpenGate, Filed::Noted);
-    let why = why_of(rt, alloc, handed);
+    let why = handed.why;
+    drop(handed);
     drop(other);
     why
 }
 
-/// Moves the nodes of a worker behind a list, and gives the rest. Asked for once more where memory was refused.
+/// Moves the nodes of a worker to the end of a list, and returns the rest.
 pub fn moved<E: RingElection>(
     rt: &impl Abort,
     handed: Handed<E>,
@@ -150,15 +144,12 @@ pub fn moved<E: RingElection>(
 ) -> Rest<E> {
     match handed.append_to(nodes) {
         Ok(rest) => rest,
-        Err(back) => match back.append_to(nodes) {
-            Ok(rest) => rest,
-            Err(_) => panic!(rt; "{TWICE}"),
-        },
+        Err(back) => back.append_to(nodes).ok().expect(rt, TWICE),
     }
 }
 
-/// What a worker comes to.
-#[derive(Clone, Copy, Debug, PartialEq)]
+/// The end of a worker: why, and how much it hands over.
+#[derive(Clone, Copy)]
 pub struct End {
     pub why: Why,
     pub dropped: u64,

@@ -1,4 +1,4 @@
-//! What comes to the workers of the rows: the rings, and items of them. Whatever goes wrong stops the test where it does.
+//! The rings of the workers' test cases, and items of them.
 
 use crate::rings;
 use ring_election::RingElection;
@@ -14,7 +14,7 @@ use std::sync::{Arc, Wait};
 #[derive(Clone, Copy)]
 pub struct Ring(pub u16, pub &'static [u32]);
 
-/// The charter of an election on a ring. Asked for once more where memory was refused.
+/// The charter of an election on a ring.
 pub fn charter<E: RingElection>(
     rt: &impl Abort,
     alloc: Global,
@@ -38,7 +38,7 @@ pub fn first_packet<E: RingElection>(
     Item::Packet(envelope.expect(rt, "nothing was sent there"))
 }
 
-/// Puts an item into an inbox, and answers whether it was stored.
+/// Puts an item into an inbox, and returns whether it was stored.
 pub fn stores<E: RingElection, R: Wait>(
     rt: &R,
     to: &mut SenderPass<Item<E>>,

@@ -1,8 +1,7 @@
-//! Two workers, each in its own thread, on Peterson's election on 4, 1, 3, 2: worker 0 owns 4 and 2, worker 1 owns 1
-//! and 3.
+//! Two workers, each in its own thread, on Peterson's election on 4, 1, 3, 2. Worker 0 owns 4 and
+//! 2, and worker 1 owns 1 and 3.
 ghost use Rattle.std.specs.Prelude.{◌<◌};
 
-use crate::equal::equal;
 use crate::workers::courses::{Place, moved, worked};
 use crate::workers::gates::{LOOKS, Meeting, wait_for_a_look};
 use crate::workers::items::{Ring, charter, stores};
@@ -47,16 +46,15 @@ fn watch<E: RingElection, R: Abort + Wait + Clock>(
     stop(rt, one);
 }
 
-/// Moves the nodes of a worker behind a list, which stopped with nothing left.
+/// Moves the nodes of a worker, which stopped with nothing left, to the end of a list.
 fn take_nodes<E: RingElection>(rt: &impl Abort, handed: Handed<E>, nodes: &mut Vec<Node<E>>) {
     let rest = moved(rt, handed, nodes);
-    let end = (rest.why, rest.dropped, rest.outbox.len());
+    assert!(rt; rest.why == Why::Stopped && rest.dropped == 0 && rest.outbox.is_empty());
     drop(rest);
-    equal(rt, "why, dropped, and left", end, (Why::Stopped, 0, 0));
 }
 
-/// A place with two passes to its own inbox, which has this capacity and holds the item by which a charter begins; and
-/// one more pass to that inbox.
+/// A place with two passes to its own inbox, and one more pass to that inbox. The inbox has this
+/// capacity, and holds the item by which a charter begins.
 fn begun<E: RingElection, R: Abort + Wait>(
     rt: &R,
     alloc: Global,
@@ -72,14 +70,14 @@ fn begun<E: RingElection, R: Abort + Wait>(
     (place, own)
 }
 
-/// Exchanges a pass of two workers that have two each, all to their own inbox: then each has one to each inbox.
+/// Exchanges a pass of two workers that have two passes each to their own inbox. After that each
+/// has one to each inbox.
 fn exchange<T>(rt: &impl Abort, zero: &mut Vec<T>, one: &mut Vec<T>) {
-    assert_eq!(rt; zero.len(), WORKERS);
-    assert_eq!(rt; one.len(), WORKERS);
+    assert!(rt; zero.len() == WORKERS && one.len() == WORKERS);
     mem::swap(&mut zero[1], &mut one[0]);
 }
 
-/// Runs both workers, and gives their nodes.
+/// Runs both workers, and returns their nodes.
 fn both<R: Abort + Threads + Wait + Clock + Copy + Send + Sync>(
     rt: &R,
     alloc: Global,
@@ -116,8 +114,7 @@ fn settles<R: Abort + Threads + Wait + Clock + Copy + Send + Sync>(
         || both(rt, alloc, first, last, &gate),
         || watch(rt, &gate, &mut to_first, &mut to_last),
     );
-    let settlement = settle(&charter, &nodes);
-    equal(rt, "the nodes", settlement, Settlement::Settled);
+    assert!(rt; settle(&charter, &nodes) == Settlement::Settled);
     drop(to_first);
     drop(to_last);
     drop(charter);
