@@ -2,7 +2,7 @@ use ring_config::{Config, ConfigFault, read_config};
 use std::alloc::Global;
 use std::process::Abort;
 
-// The configuration in a text; read again where memory is refused.
+// The configuration in a text. If an allocation fails, the call is made once more.
 fn read(alloc: Global, text: &[u8]) -> Result<Config, ConfigFault> {
     match read_config(alloc, text) {
         Err(ConfigFault::NoMemory) => read_config(alloc, text),
@@ -10,12 +10,10 @@ fn read(alloc: Global, text: &[u8]) -> Result<Config, ConfigFault> {
     }
 }
 
-// Stops the test if a text is not the configuration with these numbers.
+// Stops the test unless a text is the configuration with these numbers.
 fn reads(rt: &impl Abort, alloc: Global, text: &[u8], workers: usize, inbox: usize, port: u16) {
     let config = read(alloc, text).expect(rt, "no configuration");
-    assert_eq!(rt; config.workers, workers);
-    assert_eq!(rt; config.inbox, inbox);
-    assert_eq!(rt; config.port, port);
+    assert!(rt; config.workers == workers && config.inbox == inbox && config.port == port);
 }
 
 #[test]
@@ -36,27 +34,30 @@ fn the_ends_of_the_ranges_are_read(rt: HostRuntime) {
     reads(&rt, alloc, most, 8, 65536, 65535);
 }
 
+// Texts that are no configuration.
+const BAD: [&[u8]; 17] = [
+    b"",
+    b"workers = 0\ninbox = 1024\nport = 7400\n",
+    b"workers = 9\ninbox = 1024\nport = 7400\n",
+    b"workers = 2\ninbox = 0\nport = 7400\n",
+    b"workers = 2\ninbox = 65537\nport = 7400\n",
+    b"workers = 2\ninbox = 1024\nport = 0\n",
+    b"workers = 2\ninbox = 1024\nport = 65536\n",
+    b"workers = 2\ninbox = 1024\nport = -7400\n",
+    b"workers = 2\ninbox = 1024\nport = 4294974696\n",
+    b"workers = 2\ninbox = 1024\nport = \"7400\"\n",
+    b"workers = 2\ninbox = 1024\nport = 7400.0\n",
+    b"workers = 2\ninbox = 1024\n",
+    b"workers = 2\ninbox = 1024\nport = 7400\nx = 1\n",
+    b"workers = 2\ninbox = 1024\nport = 7400\nport = 7400\n",
+    b"[ring]\nworkers = 2\ninbox = 1024\nport = 7400\n",
+    b"workers: 2\ninbox: 1024\nport: 7400\n",
+    b"workers = 2\ninbox = 1024\nport = 7400 # \xff\n",
+];
+
 #[test]
 fn other_texts_are_bad(rt: HostRuntime) {
-    for text in [
-        b"".as_slice(),
-        b"workers = 0\ninbox = 1024\nport = 7400\n".as_slice(),
-        b"workers = 9\ninbox = 1024\nport = 7400\n".as_slice(),
-        b"workers = 2\ninbox = 0\nport = 7400\n".as_slice(),
-        b"workers = 2\ninbox = 65537\nport = 7400\n".as_slice(),
-        b"workers = 2\ninbox = 1024\nport = 0\n".as_slice(),
-        b"workers = 2\ninbox = 1024\nport = 65536\n".as_slice(),
-        b"workers = 2\ninbox = 1024\nport = -7400\n".as_slice(),
-        b"workers = 2\ninbox = 1024\nport = 4294974696\n".as_slice(),
-        b"workers = 2\ninbox = 1024\nport = \"7400\"\n".as_slice(),
-        b"workers = 2\ninbox = 1024\nport = 7400.0\n".as_slice(),
-        b"workers = 2\ninbox = 1024\n".as_slice(),
-        b"workers = 2\ninbox = 1024\nport = 7400\nx = 1\n".as_slice(),
-        b"workers = 2\ninbox = 1024\nport = 7400\nport = 7400\n".as_slice(),
-        b"[ring]\nworkers = 2\ninbox = 1024\nport = 7400\n".as_slice(),
-        b"workers: 2\ninbox: 1024\nport: 7400\n".as_slice(),
-        b"workers = 2\ninbox = 1024\nport = 7400 # \xff\n".as_slice(),
-    ] {
-        assert_eq!(rt; read(rt.alloc(), text), Err(ConfigFault::Bad), "{text:?}");
+    for text in &BAD {
+        assert!(rt; read(rt.alloc(), text) == Err(ConfigFault::Bad), "{text:?}");
     }
 }

@@ -9,8 +9,8 @@ fn put_twice<W: Outlet>(out: &mut W) -> Result<(), WriteFailed> {
     put(out, b"ok\n")
 }
 
-// Stops the test if that is not answered so by a writer with so much room that fails at the call with this number, or
-// leaves other bytes there; the same for a writer of std.
+// Puts a text twice to a writer with this room that fails at the call with this number, and to the
+// same writer as one of std. Stops the test unless both answer so, and have taken these bytes.
 fn is_put(
     rt: &impl Abort,
     alloc: Global,
@@ -21,10 +21,9 @@ fn is_put(
 ) {
     let mut out = drip_out(rt, alloc, room, fault_at);
     let mut by_std = ToWrite(drip_out(rt, alloc, room, fault_at));
-    assert_eq!(rt; put_twice(&mut out), answer);
-    assert_eq!(rt; put_twice(&mut by_std), answer);
-    assert_eq!(rt; out.taken(), taken);
-    assert_eq!(rt; by_std.0.taken(), taken);
+    assert!(rt; put_twice(&mut out) == answer);
+    assert!(rt; put_twice(&mut by_std) == answer);
+    assert!(rt; out.taken() == taken && by_std.0.taken() == taken);
     drop(out);
     drop(by_std);
 }

@@ -32,8 +32,8 @@ const LINES: [&[u8]; 18] = [
 ];
 
 const REPLIES: &[u8] = b"no no-group\nok\nok\nok\nok\nok\nok\nterm 1\nok\nidle\n\
-    drained 2 left 2\npending 2\nterm 2\ndrained 8 left 0\nleader 2 3\nmembers 3 1 2\nterms 1:- 2:3\n\
-    groups a\n";
+    drained 2 left 2\npending 2\nterm 2\ndrained 8 left 0\nleader 2 3\nmembers 3 1 2\n\
+    terms 1:- 2:3\ngroups a\n";
 
 // The events that the lines spell.
 fn events(rt: &impl Abort, alloc: Global) -> Vec<Event<Any>> {
@@ -44,7 +44,7 @@ fn events(rt: &impl Abort, alloc: Global) -> Vec<Event<Any>> {
     events
 }
 
-// Puts the line of a reply, that of a list by the call for such lists alone.
+// Puts the line of a reply. The line of a list is put by the call for such lists.
 fn put(reply: &Reply, text: &mut Vec<u8>) -> Result<(), SinkFailed> {
     match reply {
         Reply::Members(members) => print_members(members, text),
@@ -58,13 +58,13 @@ fn put(reply: &Reply, text: &mut Vec<u8>) -> Result<(), SinkFailed> {
 fn lines_of(rt: &impl Abort, alloc: Global, replies: &[Reply]) -> Vec<u8> {
     let mut lines = text(rt, alloc, 300);
     for reply in replies {
-        assert_eq!(rt; put(reply, &mut lines), Ok(()));
+        assert!(rt; put(reply, &mut lines).is_ok());
     }
     lines
 }
 
-// The lines by which a mux answers these events in one list. None where they differ from the replies since it ran
-// out of memory.
+// The lines by which a mux answers these events in one list. `None` if they differ from the
+// replies since it ran out of memory.
 fn answered(rt: &impl Abort, alloc: Global, events: &[Event<Any>]) -> Option<Vec<u8>> {
     let mut mux: Mux<Any, AnyTraffic> = Mux::new(alloc).expect(rt, "no mux");
     let answered = mux.run(alloc, events);
@@ -92,6 +92,6 @@ fn a_list_of_events_is_answered_as_its_lines_are(rt: HostRuntime) {
         None => answered(&rt, alloc, &events).expect(&rt, TWICE),
     };
     drop(events);
-    assert_eq!(rt; lines.as_slice(), REPLIES);
+    assert!(rt; lines.as_slice() == REPLIES);
     drop(lines);
 }

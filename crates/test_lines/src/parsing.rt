@@ -1,6 +1,6 @@
 use ring_grammar::{parse_command, parse_event};
 
-// What a client may ask.
+// The questions of a client.
 const COMMANDS: [&[u8]; 10] = [
     b"create a lelann",
     b"create - peterson",
@@ -14,7 +14,7 @@ const COMMANDS: [&[u8]; 10] = [
     b"groups",
 ];
 
-// What a schedule may say beside that.
+// Further lines of a schedule.
 const OTHERS: [&[u8]; 4] = [
     b"deliver a 7 left",
     b"cut a 4294967295 right",
@@ -22,7 +22,7 @@ const OTHERS: [&[u8]; 4] = [
     b"drain a 1000000000",
 ];
 
-// What neither may say.
+// Lines of neither.
 const STRANGE: [&[u8]; 5] = [
     b"",
     b"join a 07",
@@ -31,18 +31,23 @@ const STRANGE: [&[u8]; 5] = [
     &[b'a'; 129],
 ];
 
-// What an event is, its reply in a schedule shows. A client has no schedule, and its line is read by itself.
+// The reply in a schedule shows which event a line is. A client has no schedule, so its line is
+// read by itself.
 #[test]
 fn a_client_asks_by_commands_alone(rt: HostRuntime) {
     for line in &COMMANDS {
         assert!(rt; parse_command(line).is_some(), "{line:?}");
     }
     for line in &OTHERS {
-        let is_read = (parse_event(line).is_some(), parse_command(line).is_some());
-        assert_eq!(rt; is_read, (true, false), "{line:?}");
+        assert!(rt;
+            parse_event(line).is_some() && parse_command(line).is_none(),
+            "{line:?}"
+        );
     }
     for line in &STRANGE {
-        let is_read = (parse_event(line).is_some(), parse_command(line).is_some());
-        assert_eq!(rt; is_read, (false, false), "{line:?}");
+        assert!(rt;
+            parse_event(line).is_none() && parse_command(line).is_none(),
+            "{line:?}"
+        );
     }
 }

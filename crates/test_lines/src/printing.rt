@@ -5,7 +5,7 @@ use ring_mux::{Count, Reply};
 use std::alloc::Global;
 use std::process::Abort;
 
-// A list of bytes that takes so many pieces and no more.
+// A list of bytes that takes `room` pieces and no more.
 #[derive(Drop)]
 struct Pieces {
     bytes: Vec<u8>,
@@ -36,13 +36,13 @@ impl Sink for Pieces {
 // A reply is printed so.
 fn prints(rt: &impl Abort, alloc: Global, reply: Reply, wanted: &[u8]) {
     let mut out = text(rt, alloc, 64);
-    assert_eq!(rt; print_reply(&reply, &mut out), Ok(()));
-    assert_eq!(rt; out.as_slice(), wanted);
+    assert!(rt; print_reply(&reply, &mut out).is_ok());
+    assert!(rt; out.as_slice() == wanted);
     drop(out);
     drop(reply);
 }
 
-// A drain that was refused memory.
+// A drain that ran out of memory.
 fn starved(done: u32, left: u128) -> Reply {
     Reply::Drained {
         done,
@@ -64,15 +64,15 @@ fn replies_that_no_schedule_gets(rt: HostRuntime) {
     prints(&rt, alloc, Reply::Refused(Refusal::SeatSpent), text);
 }
 
-// A sink that takes so many pieces of a reply has a front of it then.
+// A sink that takes `room` pieces of a reply has a prefix of it then.
 fn has_front(rt: &impl Abort, alloc: Global, reply: &Reply, room: usize) {
     let mut out = Pieces {
         bytes: Vec::new(alloc),
         room,
     };
-    assert_eq!(rt; print_reply(reply, &mut out), Err(SinkFailed));
+    assert!(rt; print_reply(reply, &mut out).is_err());
     let whole = b"drained 0 left 3 no-memory".as_slice();
-    assert_eq!(rt; whole.get(..out.bytes.len()), Some(out.bytes.as_slice()));
+    assert!(rt; whole.starts_with(out.bytes.as_slice()));
     drop(out);
 }
 

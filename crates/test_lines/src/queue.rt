@@ -8,9 +8,10 @@ use std::cell::RefCell;
 use std::process::Abort;
 use std::sync::{Mutex, Wait};
 
-// The lock at which answers queue, and marks of what was done: `r` a line was read, `l` a long one, `q` it was queued for,
-// `a` a line was answered, `z` the answerer rests, `t` it settles, `s` an answer was spelled, `<` a read call, `>` a write
-// call. If the lock was held, the letter is a capital one, and the others are `!`.
+// The lock at which answers queue, and a mark of each step: `r` a line was read, `l` a long one,
+// `q` the answerer queued, `a` a line was answered, `z` the answerer rests, `t` it settles, `s` an
+// answer was spelled, `<` a read call, `>` a write call. If the lock is held, a letter is a capital
+// one, and any other mark is `!`.
 #[derive(Drop)]
 struct Watched {
     door: Mutex<()>,
@@ -18,7 +19,7 @@ struct Watched {
 }
 
 impl Watched {
-    // Notes one of two marks. Nothing where memory is refused.
+    // Notes one of two marks; nothing if an allocation fails.
     fn note(&self, free: u8, held: u8) {
         let mark = match self.door.try_lock() {
             Some(_) => free,
@@ -30,7 +31,7 @@ impl Watched {
     }
 }
 
-// Answers each line by a text, and queues where it doesn't hold the head of the queue.
+// Answers each line by a text, and queues if it does not hold the head of the queue.
 #[derive(Drop)]
 struct Queueing<'a, R> {
     rt: &'a R,
@@ -38,7 +39,7 @@ struct Queueing<'a, R> {
     text: &'a [u8],
 }
 
-// A text, which notes how the lock is while it is spelled.
+// A text that notes whether the lock is held while it is spelled.
 #[derive(Drop)]
 struct Told<'a> {
     watched: &'a Watched,
@@ -150,7 +151,7 @@ impl Outlet for Taking<'_> {
     }
 }
 
-// So many zeros.
+// A text of `len` zeros.
 fn zeros(rt: &impl Abort, alloc: Global, len: usize) -> Vec<u8> {
     match vec![in alloc; 0; len] {
         Ok(zeros) => zeros,
@@ -158,7 +159,7 @@ fn zeros(rt: &impl Abort, alloc: Global, len: usize) -> Vec<u8> {
     }
 }
 
-// What comes of the lines of these pieces, which are answered by this text.
+// The result of the lines of these pieces. Each line is answered by this text.
 fn answered<'a, R: Wait + AllocGlobal>(
     rt: &'a R,
     watched: &'a Watched,
@@ -182,7 +183,8 @@ fn answered<'a, R: Wait + AllocGlobal>(
     )
 }
 
-// What comes of the lines of these pieces, which are answered by a text of so many bytes, and the marks that are noted.
+// The result of the lines of these pieces, and the marks that are noted. Each line is answered by a
+// text of `len` bytes.
 fn noted<R: Wait + Abort + AllocGlobal>(
     rt: &R,
     pieces: &[&[u8]],
@@ -210,8 +212,7 @@ fn assert_notes<R: Wait + Abort + AllocGlobal>(
         drop(marks);
         (answer, marks) = noted(rt, pieces, len);
     }
-    assert_eq!(rt; marks.as_slice(), wanted);
-    assert!(rt; answer.is_ok(), "{answer:?}");
+    assert!(rt; answer.is_ok() && marks.as_slice() == wanted);
     drop(marks);
 }
 

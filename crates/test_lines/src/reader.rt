@@ -22,7 +22,8 @@ impl Read for Stutter<'_> {
     }
 }
 
-// The lines of a reader; asked for again where memory is refused, with the reader that came back.
+// The lines of a reader. If an allocation fails, the call is made once more, with the reader that
+// came back.
 fn lines_of<R: Intake + Drop>(
     rt: &impl Abort,
     alloc: Global,
@@ -38,7 +39,7 @@ fn lines_of<R: Intake + Drop>(
     }
 }
 
-// An answer as text: a line as itself, and what else there is in angle brackets.
+// An answer as text: a line as itself, and any other answer in angle brackets.
 fn shown(next: &Next) -> &[u8] {
     match next {
         Next::Line(line) => line.bytes(),
@@ -53,11 +54,11 @@ fn shown(next: &Next) -> &[u8] {
 // The next answers of a reader are these.
 fn gives<R: Intake>(rt: &impl Abort, lines: &mut LineReader<R>, answers: &[&[u8]]) {
     for answer in answers {
-        assert_eq!(rt; shown(&lines.next()), *answer);
+        assert!(rt; shown(&lines.next()) == *answer);
     }
 }
 
-// What is read by so many calls at most is given so.
+// A reader gives these answers, with `reads` calls at most.
 fn is_read<R: Intake + Drop>(
     rt: &(impl Abort + AllocGlobal),
     reader: R,

@@ -10,7 +10,7 @@ const LINES: &[u8] =
 
 const REPLIES: &[u8] = b"ok\nok\nok\nok\nterm 1\npending 3\ndrained 8 left 0\nleader 1 3\n";
 
-// What a replay is given, by ends of one byte for each call that fail at a call of these numbers.
+// The input and the limits of a replay. Its ends pass one byte a call, and fail at these calls.
 #[derive(Clone, Copy)]
 struct Given<'a> {
     input: &'a [u8],
@@ -28,7 +28,7 @@ fn whole(input: &[u8]) -> Given<'_> {
     }
 }
 
-// What a replay comes to, and its writer.
+// The result of a replay, and its writer.
 type Came = (Result<u64, LineFault>, DripOut);
 
 // A replay by these ends themselves.
@@ -47,21 +47,20 @@ fn by_std(rt: &impl Abort, alloc: Global, given: Given) -> Came {
     (answer, writer.0)
 }
 
-// Whether a replay that comes to something else than this ran out of memory.
+// Whether a replay with another result than this ran out of memory.
 fn is_refused(came: &Came, answer: Result<u64, LineFault>, written: &[u8]) -> bool {
     let is_starved = came.0 == Err(LineFault::NoMemory) || tells_of_memory(came.1.taken());
     is_starved && (came.0 != answer || came.1.taken() != written)
 }
 
-// Stops the test if a replay came to something else than this.
+// Stops the test unless a replay came to this result.
 fn assert_came(rt: &impl Abort, came: Came, answer: Result<u64, LineFault>, written: &[u8]) {
-    assert_eq!(rt; came.0, answer);
-    assert_eq!(rt; came.1.taken(), written);
+    assert!(rt; came.0 == answer && came.1.taken() == written);
     drop(came);
 }
 
-// Stops the test if a replay comes to something else, by these ends or by std. A replay that ran out of memory is
-// repeated.
+// Stops the test unless a replay comes to this result, by these ends and by std. A replay that ran
+// out of memory is repeated.
 fn assert_comes(
     rt: &(impl Abort + AllocGlobal),
     given: Given,
