@@ -13,7 +13,7 @@ use ring_door::{ProgramFault, accept_all, say_closed, tell};
 use ring_lines::Outlet;
 use ring_table::Table;
 use std::net::{OpenListener, TcpStream};
-use std::sync::{Arc, Wait};
+use std::sync::Wait;
 use std::thread::Threads;
 use std::time::Clock;
 
@@ -49,11 +49,9 @@ where
 {
     let alloc = rt.alloc();
     let closed = say_closed(alloc, connections)?;
-    let Ok(watch) = Arc::new(alloc, Watch::new(alloc, connections)?) else {
-        return Err(ProgramFault::NoMemory);
-    };
-    let theirs = Arc::try_clone(&watch)?;
-    let (service, seats) = sessions::open(rt, config, connections, Table::new(alloc), theirs)?;
+    let watch = Watch::new(alloc, connections)?.shared(alloc)?;
+    let table = Table::new(alloc);
+    let (service, seats) = sessions::open_watched(rt, config, connections, table, &watch)?;
     let served = serve_all(
         rt,
         sessions::front(&service),

@@ -68,10 +68,54 @@ where
         (λ _. Wrote O.write_gives out.old listening.now out.new)
         (λ fault. ResumedAt O.write_gives out.old listening.now fault out.new) }
 {
-    let alloc = rt.alloc();
-    let bell = Arc::try_clone(&resumed.alarm)?;
-    let (handshake, theirs) = handshakes(alloc)?;
-    let watch = watch_over(rt, alloc, limits, &others, &resumed)?;
+    let Started {
+        thread,
+        handshake,
+        alarm,
+    } = start_over(rt, listener, others, *config, limits, resumed)?;
+    match begin(rt, &handshake, listening, out) {
+        Ok(()) => wait_for_end(rt, &alarm, thread),
+        Err(fault) => {
+            thread.join(rt);
+            Err(fault)
+        }
+    }
+}
+
+// The thread that serves, and what this one shares with it.
+#[derive(Drop)]
+struct Started {
+    thread: JoinHandle<bool>,
+    handshake: Arc<Handshake>,
+    alarm: Arc<Alarm>,
+}
+
+// Starts the thread that serves by a table that was recovered.
+fn start_over<R, L, D>(
+    rt: &R,
+    listener: L,
+    others: Others<L>,
+    config: Config,
+    limits: Limits,
+    resumed: Resumed<D>,
+) -> Result<Started, ProgramFault>
+where
+    R: Threads
+        + Wait
+        + AllocGlobal
+        + Eprint
+        + Clock
+        + Files<File = File>
+        + Copy
+        + Send
+        + Sync
+        + Drop
+        + 'static,
+    L: OpenListener<Stream = TcpStream> + Send + Drop + 'static,
+    D: Medium + Send + Sync + Drop + 'static,
+    ensures { IfErr result IsOfStart }
+{
+    let handles = make_handles(rt, limits, &others, &resumed)?;
     let Resumed {
         table,
         charters,
@@ -82,43 +126,54 @@ where
     let server = Server {
         listener,
         others,
-        config: *config,
+        config,
         limits,
         table,
         charters,
         base: life.base(),
-        handshake: theirs,
-        bell,
-        watch,
+        handshake: handles.theirs,
+        bell: handles.bell,
+        watch: handles.watch,
     };
     let thread = start(rt, server)?;
-    match begin(rt, &handshake, listening, out) {
-        Ok(()) => wait_for_end(rt, &alarm, thread),
-        Err(fault) => {
-            thread.join(rt);
-            Err(fault)
-        }
-    }
+    Ok(Started {
+        thread,
+        handshake: handles.handshake,
+        alarm,
+    })
 }
 
-// Returns the watch of a service over a table that was recovered. It has noted the groups of the
-// table, and counts its journal.
-fn watch_over<R: Files<File = File>, L: Drop, D: Medium + Drop>(
+// What the thread that serves shares with other threads, a handle for each.
+#[derive(Drop)]
+struct Handles {
+    // one handle for the thread that waits, one for the thread that serves
+    handshake: Arc<Handshake>,
+    theirs: Arc<Handshake>,
+    bell: Arc<Alarm>,
+    watch: Arc<Watch>,
+}
+
+// Returns the handles of a service over a table that was recovered. Its watch has noted the groups
+// of the table, and counts its journal.
+fn make_handles<R: Files<File = File> + AllocGlobal, L: Drop, D: Medium + Drop>(
     rt: &R,
-    alloc: Global,
     limits: Limits,
     others: &Others<L>,
     resumed: &Resumed<D>,
-) -> Result<Arc<Watch>, ProgramFault>
+) -> Result<Handles, ProgramFault>
     ensures { IfErr result (λ fault. fault ≡ ProgramFault.NoMemory) }
 {
+    let alloc = rt.alloc();
+    let (handshake, theirs) = handshakes(alloc)?;
+    let bell = Arc::try_clone(&resumed.alarm)?;
     let meter = Arc::try_clone(&resumed.meter)?;
-    let watch = watch_of(rt, alloc, limits, others)?;
-    let watch = watch.with_groups(alloc, resumed.table.book())?;
-    match Arc::new(alloc, watch.with_journal(meter)) {
-        Ok(watch) => Ok(watch),
-        Err(_) => Err(ProgramFault::NoMemory),
-    }
+    let watch = watch_of(rt, alloc, limits, others)?.with_groups(alloc, resumed.table.book())?;
+    Ok(Handles {
+        handshake,
+        theirs,
+        bell,
+        watch: watch.with_journal(meter).shared(alloc)?,
+    })
 }
 
 // Returns a handshake: one handle for the thread that waits, one for the thread that serves.

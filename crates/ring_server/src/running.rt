@@ -68,14 +68,10 @@ where
         (λ fault. FirstOrNone O.write_gives out.old listening.now fault out.new) }
 {
     let alloc = rt.alloc();
+    let watch = watch_of(rt, alloc, limits, &others)?.shared(alloc)?;
     let seats = others.seats_for(limits.sessions);
     let table = Recorded::new(alloc, Unkept::new(alloc));
-    let watch = watch_of(rt, alloc, limits, &others)?;
-    let Ok(watch) = Arc::new(alloc, watch) else {
-        return Err(ProgramFault::NoMemory);
-    };
-    let theirs = Arc::try_clone(&watch)?;
-    let (service, seats) = sessions::open(rt, config, seats, table, theirs)?;
+    let (service, seats) = sessions::open_watched(rt, config, seats, table, &watch)?;
     let begun = begin(
         rt,
         front_of(&service),

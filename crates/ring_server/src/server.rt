@@ -101,12 +101,7 @@ where
     ensures opening { IfOk result (λ opened. opened.0.opening ≡ (T.shows table).history) }
     ensures fault { IfErr result IsOfStart }
 {
-    let Ok(theirs) = Arc::try_clone(watch) else {
-        drop(table);
-        drop(charters);
-        return Err(ProgramFault::NoMemory);
-    };
-    let (service, seats) = sessions::open(rt, config, sessions, table, theirs)?;
+    let (service, seats) = sessions::open_watched(rt, config, sessions, table, watch)?;
     if service.resume(rt, charters).is_err() {
         drop(seats);
         let _ = sessions::close(rt, service);

@@ -87,6 +87,31 @@ where
     open_gated(rt, config, sessions, table, watch, gate)
 }
 
+/// Opens a service as `open` does, over a table whose answers a shared watch notes.
+pub(crate) fn open_watched<R, T>(
+    rt: &R,
+    config: &Config,
+    sessions: u32,
+    table: T,
+    watch: &Arc<Watch>,
+) -> Result<(Service<T>, Vec<Seat<T>>), ProgramFault>
+where
+    R: Threads + Wait + Clock + AllocGlobal + Copy + Send + Drop + 'static,
+    T: Tabled<Any> + Send + Sync + Drop + 'static,
+    ensures seats { IfOk result (λ opened. vec_len opened.1 ≡ sessions) }
+    ensures theirs { IfOk result (λ opened. All (λ seat. seat.lock ≡ opened.0.id) opened.1.items) }
+    ensures opening { IfOk result (λ opened. opened.0.opening ≡ (T.shows table).history) }
+    ensures fault { IfErr result IsOfStart }
+{
+    match Arc::try_clone(watch) {
+        Ok(theirs) => open(rt, config, sessions, table, theirs),
+        Err(_) => {
+            drop(table);
+            Err(ProgramFault::NoMemory)
+        }
+    }
+}
+
 /// Opens a service as `open` does. The gate looks at each item of each worker. The capacity of the
 /// inboxes is tested, not proved.
 pub fn open_gated<R, G, T>(

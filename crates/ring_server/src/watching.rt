@@ -99,6 +99,16 @@ impl Watch {
         watch
     }
 
+    /// Returns the watch, for threads to share. Fails only if an allocation fails.
+    pub(crate) fn shared(self, alloc: Global) -> Result<Arc<Watch>, ProgramFault>
+        ensures { IfErr result (λ fault. fault ≡ ProgramFault.NoMemory) }
+    {
+        match Arc::new(alloc, self) {
+            Ok(shared) => Ok(shared),
+            Err(_) => Err(ProgramFault::NoMemory),
+        }
+    }
+
     /// Returns a watch that has noted the groups of a book, and the charters of their last terms.
     /// Fails only if an allocation fails.
     pub fn with_groups(self, alloc: Global, book: &Book<Any>) -> Result<Watch, AllocError> {
