@@ -59,46 +59,62 @@ where
     let Ok(charters) = resumed.charters(alloc) else {
         return Err(ProgramFault::NoMemory);
     };
-    let (alarm, bell) = alarms(alloc)?;
-    let (meter, theirs) = meters(alloc, resumed.text().len())?;
+    let handles = make_handles(alloc, resumed.text().len())?;
     let life = resumed.life();
     match place.begin(rt, resumed.text()) {
         Ok(medium) => Ok(Resumed {
-            table: resumed.open(alloc, Metered::new(*rt, medium, theirs), bell),
+            table: resumed.open(
+                alloc,
+                Metered::new(*rt, medium, handles.counting),
+                handles.bell,
+            ),
             charters,
-            alarm,
+            alarm: handles.alarm,
             life,
-            meter,
+            meter: handles.meter,
         }),
         Err(fault) => Err(told_of_place(fault)),
     }
 }
 
-// Returns an alarm: one handle for the thread that waits for it, one for the thread that rings it.
-fn alarms(alloc: Global) -> Result<(Arc<Alarm>, Arc<Alarm>), ProgramFault>
-    ensures { IfErr result (λ fault. fault ≡ ProgramFault.NoMemory) }
-{
-    let Ok(alarm) = Arc::new(alloc, Alarm::new()) else {
-        return Err(ProgramFault::NoMemory);
-    };
-    let Ok(bell) = Arc::try_clone(&alarm) else {
-        return Err(ProgramFault::NoMemory);
-    };
-    Ok((alarm, bell))
+// What threads share beside a table.
+#[derive(Drop)]
+struct Handles {
+    // for the thread that waits for the end
+    alarm: Arc<Alarm>,
+    // the same alarm, for the thread that rings it
+    bell: Arc<Alarm>,
+    // for who reads the figures of the journal
+    meter: Arc<Meter>,
+    // the same meter, for the medium that is counted
+    counting: Arc<Meter>,
 }
 
-// Returns the meter of a journal of `bytes` bytes: one handle for who reads it, one for the medium
-// that is counted.
-fn meters(alloc: Global, bytes: usize) -> Result<(Arc<Meter>, Arc<Meter>), ProgramFault>
+// Returns an alarm, and the meter of a journal of `bytes` bytes.
+fn make_handles(alloc: Global, bytes: usize) -> Result<Handles, ProgramFault>
     ensures { IfErr result (λ fault. fault ≡ ProgramFault.NoMemory) }
 {
-    let Ok(meter) = Arc::new(alloc, Meter::new(bytes)) else {
+    let (alarm, bell) = two_handles(alloc, Alarm::new())?;
+    let (meter, counting) = two_handles(alloc, Meter::new(bytes))?;
+    Ok(Handles {
+        alarm,
+        bell,
+        meter,
+        counting,
+    })
+}
+
+// Returns two handles of a value.
+fn two_handles<T: Drop>(alloc: Global, value: T) -> Result<(Arc<T>, Arc<T>), ProgramFault>
+    ensures { IfErr result (λ fault. fault ≡ ProgramFault.NoMemory) }
+{
+    let Ok(one) = Arc::new(alloc, value) else {
         return Err(ProgramFault::NoMemory);
     };
-    let Ok(theirs) = Arc::try_clone(&meter) else {
-        return Err(ProgramFault::NoMemory);
-    };
-    Ok((meter, theirs))
+    match Arc::try_clone(&one) {
+        Ok(other) => Ok((one, other)),
+        Err(_) => Err(ProgramFault::NoMemory),
+    }
 }
 
 // Returns the table that the bytes of a journal give, compacted.

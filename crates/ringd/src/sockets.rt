@@ -98,44 +98,29 @@ struct Room {
 impl Room {
     // Takes the folder `path.new`.
     //
-    // System calls: `mkdir` of the folder with mode 0700, then `openat`, and `flock`, which does
-    // not wait. A dead process may have left the folder. Then it is taken up, if it belongs to this
-    // user and only this user may enter it: no other user has put anything into it, or holds a lock
-    // on it. The fault is `InUse` if another process has it, or had it until now.
+    // System calls: `mkdir` of the folder with mode 0700, then those of `locked`. A dead process
+    // may have left the folder. Then it is taken up, if it belongs to this user and only this user
+    // may enter it: no other user has put anything into it, or holds a lock on it. The fault is
+    // `InUse` if another process has it, or had it until now.
     fn take<R: Files<File = File> + AllocGlobal>(rt: &R, path: &str) -> Result<Room, ProgramFault>
         ensures { IfErr result IsOfListening }
     {
         let folder = format!(in rt.alloc(); "{path}.new")?;
         let inside = format!(in rt.alloc(); "{path}.new/s")?;
         make_folder(rt, folder.as_str())?;
-        let lock = match File::open(rt, folder.as_str()) {
-            Ok(lock) => lock,
-            Err(error) => {
-                let _ = fs::remove_dir(rt, folder.as_str());
-                return Err(gone_or(error));
-            }
-        };
-        match lock.try_lock() {
-            Ok(()) => {}
-            Err(TryLockError::WouldBlock) => return Err(IN_USE),
-            Err(TryLockError::Error(_)) => return Err(ProgramFault::Listen),
-        }
-        let held = lock.metadata().map_err(fault_of)?;
-        match fs::symlink_metadata(rt, folder.as_str()) {
-            Ok(there) if is_same(&there, &held) => Ok(Room {
-                folder,
-                inside,
-                lock,
-            }),
-            _ => Err(IN_USE),
-        }
+        let lock = locked(rt, folder.as_str())?;
+        Ok(Room {
+            folder,
+            inside,
+            lock,
+        })
     }
 
     // Makes the socket in the folder, gives it its mode, and then its name.
     //
     // System calls: those of `check_free`, as another process may have made a socket meanwhile.
     // Then `unlink` of a socket that a dead process left in the folder, `socket`, `bind`, `listen`,
-    // `chmod`, `statx`, and `rename` to `path`.
+    // and those of `give_name`.
     fn bind<R>(&self, rt: &R, path: &str, mode: u32) -> Result<(UnixListener, Made), ProgramFault>
     where
         R: Files<File = File> + AllocGlobal + Net,
@@ -146,13 +131,11 @@ impl Room {
         let inside = self.inside.as_str();
         remove_socket(rt, inside);
         let listener = UnixListener::bind(rt, inside).map_err(fault_of)?;
-        fs::set_permissions(rt, inside, Permissions::from_mode(mode)).map_err(fault_of)?;
-        let about = fs::symlink_metadata(rt, inside).map_err(fault_of)?;
-        fs::rename(rt, inside, path).map_err(fault_of)?;
+        let (device, number) = give_name(rt, inside, path, mode)?;
         let made = Made {
             path: named,
-            device: about.dev(),
-            number: about.ino(),
+            device,
+            number,
         };
         Ok((listener, made))
     }
@@ -189,6 +172,50 @@ fn check_free<R: Files + Net>(rt: &R, path: &str) -> Result<(), ProgramFault>
         Err(error) => Err(fault_of(error)),
         Ok(_) => Err(IN_USE),
     }
+}
+
+// Opens a room's folder and locks it. The fault is `InUse` if another process has the lock, or if
+// the path names another folder by then.
+//
+// System calls: `openat`, `flock`, which does not wait, `fstat` and `statx`. If the folder cannot
+// be opened, it is removed.
+fn locked<R: Files<File = File>>(rt: &R, folder: &str) -> Result<File, ProgramFault>
+    ensures { IfErr result IsOfListening }
+{
+    let lock = match File::open(rt, folder) {
+        Ok(lock) => lock,
+        Err(error) => {
+            let _ = fs::remove_dir(rt, folder);
+            return Err(gone_or(error));
+        }
+    };
+    match lock.try_lock() {
+        Ok(()) => {}
+        Err(TryLockError::WouldBlock) => return Err(IN_USE),
+        Err(TryLockError::Error(_)) => return Err(ProgramFault::Listen),
+    }
+    let held = lock.metadata().map_err(fault_of)?;
+    match fs::symlink_metadata(rt, folder) {
+        Ok(there) if is_same(&there, &held) => Ok(lock),
+        _ => Err(IN_USE),
+    }
+}
+
+// Gives a socket its mode, and then the name `path`. Returns its device and its number.
+//
+// System calls: `chmod`, `statx` and `rename`.
+fn give_name<R: Files>(
+    rt: &R,
+    inside: &str,
+    path: &str,
+    mode: u32,
+) -> Result<(u64, u64), ProgramFault>
+    ensures { IfErr result IsOfListening }
+{
+    fs::set_permissions(rt, inside, Permissions::from_mode(mode)).map_err(fault_of)?;
+    let about = fs::symlink_metadata(rt, inside).map_err(fault_of)?;
+    fs::rename(rt, inside, path).map_err(fault_of)?;
+    Ok((about.dev(), about.ino()))
 }
 
 // Makes a folder that only this user may enter, unless there is one.
