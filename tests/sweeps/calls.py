@@ -22,14 +22,12 @@ STARVED = ("starved_rows::",)
 # Tests that ask once more, by crate and by the beginnings of their names: for each growth they have to pass.
 ASK_AGAIN = {
     "test_lines_tests": ("",),
-    "test_recovery_tests": ("faults::", "lives::a_full_", "lives::a_table_", "lives::the_"),
+    "test_journal_tests": ("faults::", "lives::a_full_", "lives::a_table_", "lives::the_"),
     "test_nodes_tests": (
         "node_rows::", "note_rows::", "scan_rows::", "schedules::", "settle_rows::", "work_rows::",
-        "workers::starved_worker::", "world_rows::",
+        "pictures::", "winners::", "workers::starved_worker::", "world_rows::",
     ),
-    "test_table_tests": ("closing_rows::", "seat_rows::", "table_rows::", *SHARED),
-    "test_winner_tests": ("",),
-    "test_chart_tests": ("",),
+    "test_table_tests": ("closing_rows::", "table_rows::", *SHARED),
 }
 # Tests that start threads, and end whichever growth is refused.
 THREADED = {

@@ -1,174 +1,207 @@
 //! A table under a lock, its one caller, and the worlds of the terms that were started.
-use anyhow::{Context, Error, Result, bail};
 use ring_any::Any;
+use ring_election::RingElection;
 use ring_events::Command;
 use ring_id::GroupName;
 use ring_lines::{Intake, LineReader, Next, Spell, parse_command};
-use ring_node::{Charter, Report};
 use ring_table::{Access, Entry, Filed, LockedSeat, LockedTable, Table};
 use ring_world::{Delivery, Settlement, World, settle};
 use std::alloc::Global;
 use std::io::Write;
-use std::sync::{Arc, Wait};
+use std::sync::Wait;
 
 // The number of the session that makes all calls.
 const SESSION: u32 = 1;
 
-// The group in which a command starts a term.
-fn started(command: &Command<Any>) -> Option<GroupName> {
-    match command {
-        Command::Start(group) => Some(*group),
-        _ => None,
+/// Why the program failed.
+#[derive(Clone, Copy, Debug)]
+pub enum Fault {
+    /// An allocation failed.
+    NoMemory,
+    /// The input could not be read to its end.
+    Read,
+    /// The output could not be written.
+    Write,
+    /// A term has not come to rest.
+    Unsettled,
+}
+
+/// A table under a lock with a seat of it, and the worlds of its terms, in the order of their
+/// starts.
+#[derive(Drop)]
+pub struct Host<E: RingElection> {
+    alloc: Global,
+    table: LockedTable<E>,
+    seat: LockedSeat<E>,
+    worlds: Vec<World<E>>,
+}
+
+impl Host<Any> {
+    /// Answers each line of the input by one line, to the end of the input.
+    pub fn answer_all<R: Wait, I: Intake>(
+        &mut self,
+        rt: &R,
+        lines: &mut LineReader<I>,
+        out: &mut Vec<u8>,
+    ) -> Result<(), Fault> {
+        for _ in 0..u64::MAX {
+            let answered = match lines.next() {
+                Next::Line(line) => self.answer(rt, line.bytes(), out),
+                Next::Long => refuse(out),
+                Next::End => return Ok(()),
+                Next::Fault(_) => return Err(Fault::Read),
+            };
+            let Ok(()) = answered else {
+                return answered;
+            };
+        }
+        Err(Fault::Read)
+    }
+
+    // Answers a line.
+    fn answer<R: Wait>(&mut self, rt: &R, line: &[u8], out: &mut Vec<u8>) -> Result<(), Fault> {
+        match parse_command(line) {
+            None => refuse(out),
+            Some(command) => self.obey(rt, command, out),
+        }
     }
 }
 
-/// A table under a lock with a seat of it, and the worlds of its terms, in the order of their starts.
-#[derive(Drop)]
-pub struct Host {
-    table: LockedTable<Any>,
-    seat: LockedSeat<Any>,
-    worlds: Vec<World<Any>>,
+// Answers a line that is no command.
+fn refuse(out: &mut Vec<u8>) -> Result<(), Fault> {
+    let Ok(()) = out.extend_from_slice(b"no bad-line\n") else {
+        return Err(Fault::NoMemory);
+    };
+    Ok(())
 }
 
-impl Host {
+impl<E: RingElection> Host<E> {
     /// Returns a table without groups. Fails only if an allocation fails.
-    pub fn open(alloc: Global) -> Result<Host> {
+    pub fn open(alloc: Global) -> Result<Host<E>, Fault> {
         let Ok((table, mut seats)) = LockedTable::new(alloc, Table::new(alloc), 1) else {
-            bail!("out of memory");
+            return Err(Fault::NoMemory);
         };
-        let seat = seats.pop().context("there is no seat")?;
+        let Some(seat) = seats.pop() else {
+            unreachable!()
+        };
+        drop(seats);
         Ok(Host {
+            alloc,
             table,
             seat,
             worlds: Vec::new(alloc),
         })
     }
 
-    /// Answers each line of the reader by one line, to the end of the input.
-    pub fn answer_all<R: Wait, I: Intake + Drop, W: Write>(
+    // Carries out a command, and writes the reply.
+    fn obey<R: Wait>(
         &mut self,
         rt: &R,
-        alloc: Global,
-        reader: I,
-        out: &mut W,
-    ) -> Result<()> {
-        let Ok(mut lines) = LineReader::new(alloc, reader, u32::MAX) else {
-            bail!("out of memory");
-        };
-        for _ in 0..u64::MAX {
-            match lines.next() {
-                Next::Line(line) => self.answer(rt, alloc, line.bytes(), out)?,
-                Next::Long => out.write_all(b"no bad-line\n")?,
-                Next::End => return Ok(()),
-                Next::Fault(fault) => return Err(Error::from(fault)),
-            }
-        }
-        bail!("the input has too many lines")
-    }
-
-    // Answers a line.
-    fn answer<R: Wait, W: Write>(
-        &mut self,
-        rt: &R,
-        alloc: Global,
-        line: &[u8],
-        out: &mut W,
-    ) -> Result<()> {
-        let Some(command) = parse_command(line) else {
-            return Ok(out.write_all(b"no bad-line\n")?);
-        };
-        if let Some(group) = started(&command) {
-            return self.start(rt, alloc, group, out);
+        command: Command<E>,
+        out: &mut Vec<u8>,
+    ) -> Result<(), Fault> {
+        if let Command::Start(group) = command {
+            return self.start(rt, group, out);
         }
         let answer = self.table.call(rt, &mut self.seat, SESSION, command);
-        write_reply(alloc, &answer.into_reply(), out)
+        write_reply(answer.into_reply(), out)
     }
 
     // Starts a term, and delivers its packets until nothing is in flight.
-    fn start<R: Wait, W: Write>(
-        &mut self,
-        rt: &R,
-        alloc: Global,
-        group: GroupName,
-        out: &mut W,
-    ) -> Result<()> {
-        let (answer, mut charters) = self.table.begin(rt, &mut self.seat, SESSION, group, 1);
-        write_reply(alloc, &answer.into_reply(), out)?;
-        if let Some(charter) = charters.pop() {
-            let world = self.decide(rt, alloc, charter)?;
-            self.worlds.push(world)?;
-        }
-        Ok(())
-    }
-
-    // The world of a charter when nothing is in flight in it. What its nodes reported is filed.
-    fn decide<R: Wait>(
-        &mut self,
-        rt: &R,
-        alloc: Global,
-        charter: Arc<Charter<Any>>,
-    ) -> Result<World<Any>> {
-        let Ok(mut world) = World::begin(alloc, charter) else {
-            bail!("out of memory");
+    fn start<R: Wait>(&mut self, rt: &R, group: GroupName, out: &mut Vec<u8>) -> Result<(), Fault> {
+        let Ok(()) = self.worlds.reserve(1) else {
+            return Err(Fault::NoMemory);
         };
-        for _ in 0..u64::MAX {
-            let Some((position, side)) = world.ready() else {
-                return Ok(world);
-            };
-            match world.deliver(position, side) {
-                Delivery::Moved(Some(report)) => self.file(rt, &report)?,
-                Delivery::Refused(_) => bail!("out of memory"),
-                Delivery::Moved(None) | Delivery::Idle => (),
-            }
-        }
-        bail!("the term has not come to rest")
+        let (answer, mut charters) = self.table.begin(rt, &mut self.seat, SESSION, group, 1);
+        let charter = charters.pop();
+        drop(charters);
+        let written = write_reply(answer.into_reply(), out);
+        let Some(charter) = charter else {
+            return written;
+        };
+        let Ok(mut world) = World::begin(self.alloc, charter) else {
+            return Err(Fault::NoMemory);
+        };
+        let decided = decide(rt, &self.table, &mut self.seat, &mut world);
+        self.worlds.push_reserved(world);
+        written.and(decided)
     }
 
-    // Files a report.
-    fn file<R: Wait>(&mut self, rt: &R, report: &Report<Any>) -> Result<()> {
-        match self.table.report(rt, &mut self.seat, report) {
-            Filed::Refused(_) => bail!("out of memory"),
-            _ => Ok(()),
-        }
-    }
-
-    /// Takes the table out of its lock, and files once more what the nodes of each term know. Fails if a term is not
-    /// settled, or if an allocation fails.
-    pub fn finish(self) -> Result<Table<Any>> {
+    /// Takes the table out of its lock, and files once more what the nodes of each term know. Then
+    /// it writes the history of the table. Fails if a term is not settled, or if an allocation
+    /// fails.
+    pub fn finish(self, out: &mut Vec<u8>) -> Result<(), Fault> {
         let Host {
+            alloc: _,
             table,
             seat,
             worlds,
         } = self;
         drop(seat);
         let mut table = table.into_table();
+        let mut finished = Ok(());
         for world in &worlds {
-            if settle(world.charter(), world.nodes()) != Settlement::Settled {
-                bail!("a term is not settled");
-            }
-            if table.finish(world.nodes()).is_err() {
-                bail!("out of memory");
-            }
+            finished = finished.and(finish_term(&mut table, world));
         }
-        Ok(table)
+        drop(worlds);
+        let written = write_history(&table, out);
+        drop(table);
+        finished.and(written)
+    }
+}
+
+// Delivers the packets of a world until nothing is in flight, and files what its nodes report.
+fn decide<E: RingElection, R: Wait>(
+    rt: &R,
+    table: &LockedTable<E>,
+    seat: &mut LockedSeat<E>,
+    world: &mut World<E>,
+) -> Result<(), Fault> {
+    for _ in 0..u64::MAX {
+        let Some((position, side)) = world.ready() else {
+            return Ok(());
+        };
+        match world.deliver(position, side) {
+            Delivery::Moved(Some(report)) => {
+                let filed = table.report(rt, seat, &report);
+                drop(report);
+                if matches!(filed, Filed::Refused(_)) {
+                    return Err(Fault::NoMemory);
+                }
+            }
+            Delivery::Refused(_) => return Err(Fault::NoMemory),
+            Delivery::Moved(None) | Delivery::Idle => (),
+        }
+    }
+    Err(Fault::Unsettled)
+}
+
+// Files what the nodes of a term know, which has to be settled.
+fn finish_term<E: RingElection>(table: &mut Table<E>, world: &World<E>) -> Result<(), Fault> {
+    if settle(world.charter(), world.nodes()) != Settlement::Settled {
+        return Err(Fault::Unsettled);
+    }
+    match table.finish(world.nodes()) {
+        Ok(()) => Ok(()),
+        Err(_) => Err(Fault::NoMemory),
     }
 }
 
 // Writes the line of a reply.
-fn write_reply<S: Spell, W: Write>(alloc: Global, reply: &S, out: &mut W) -> Result<()> {
-    let mut line = Vec::new(alloc);
-    if reply.spell(&mut line).is_err() {
-        bail!("out of memory");
+fn write_reply<S: Spell + Drop>(reply: S, out: &mut Vec<u8>) -> Result<(), Fault> {
+    let written = reply.spell(out);
+    drop(reply);
+    match written {
+        Ok(()) => Ok(()),
+        Err(_) => Err(Fault::NoMemory),
     }
-    out.write_all(&line)?;
-    Ok(())
 }
 
-/// Writes the history of a table: of a call its reply, and of a report who knows which leader.
-pub fn write_history<W: Write>(alloc: Global, table: &Table<Any>, out: &mut W) -> Result<()> {
+// Writes the history of a table: of a call its reply, and of a report who knows which leader.
+fn write_history<E: RingElection>(table: &Table<E>, out: &mut Vec<u8>) -> Result<(), Fault> {
     for entry in table.history() {
-        match entry {
-            Entry::Call { reply, .. } => write_reply(alloc, reply, out)?,
+        let is_written = match entry {
+            Entry::Call { reply, .. } => reply.spell(out).is_ok(),
             Entry::Filing {
                 term,
                 member,
@@ -180,8 +213,12 @@ pub fn write_history<W: Write>(alloc: Global, table: &Table<Any>, out: &mut W) -
                 writeln!(
                     out,
                     "term {term}: {member} knows leader {leader}: {noting:?}"
-                )?;
+                )
+                .is_ok()
             }
+        };
+        if !is_written {
+            return Err(Fault::NoMemory);
         }
     }
     Ok(())

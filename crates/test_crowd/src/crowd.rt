@@ -1,8 +1,7 @@
 //! Sessions that run at once over one service, which shares its table by a turn lock.
-ghost use Rattle.std.specs.Prelude.{◌≡◌, ◌≤◌, All, IfOk};
+ghost use Rattle.std.specs.Prelude.{◌≡◌, ◌≤◌, All};
 
 use crate::diary::{Diary, Lines};
-use anyhow::{Context, Error, Result, bail};
 use ring_any::Any;
 use ring_lines::{FromRead, ToWrite};
 use ring_service::{Front, Service, StartFault};
@@ -14,20 +13,21 @@ use std::thread;
 use std::thread::Threads;
 use std::time::{Clock, Duration};
 
-// How many workers the service has, and how many items each of their inboxes holds.
+/// A value, or why there is none, in words. Such a fault owns nothing, and so is cheap to prove.
+pub type Told<T> = Result<T, &'static str>;
+
+// The number of workers of the service, and of the items that each of their inboxes holds.
 const WORKERS: usize = 4;
 
 const INBOX: usize = 64;
 
-// How often the last session is answered at most, a few milliseconds apart.
+// At most this often the last session is answered, a few milliseconds apart.
 const LOOKS: u32 = 2000;
 
-/// What a crowd leaves: the lines of the history, and the replies of each session, in order.
-#[derive(Drop)]
-pub struct Crowd {
-    pub history: Vec<u8>,
-    pub replies: Vec<Vec<u8>>,
-}
+// The largest number of sessions.
+const SESSIONS: usize = 1000;
+
+const NO_MEMORY: &str = "there is no memory for the replies";
 
 // A session that is to run.
 #[derive(Drop)]
@@ -37,55 +37,65 @@ struct Guest<'a, S> {
     lines: &'a [u8],
 }
 
-/// Runs a session for each of these scripts, all at once, and then the last one until no reply in it is
-/// undecided.
-pub fn gather<R>(rt: &R, alloc: Global, scripts: &[Vec<u8>], last: &[u8]) -> Result<Crowd>
+/// Runs a session for each of these scripts except the last, all at once. Then runs the last one
+/// until no reply in it is undecided. Returns the lines of the history, and then the replies of
+/// each session, each after an empty line.
+pub fn gather<R>(rt: &R, alloc: Global, scripts: &[&str]) -> Told<Vec<u8>>
 where
     R: Threads + Wait + Clock + Copy + Send + Sync + Drop + 'static,
 {
-    let lines: Arc<Lines> = Arc::new(alloc, Mutex::new(Vec::new(alloc)))?;
-    let diary = Diary::new(alloc, Arc::try_clone(&lines)?);
-    let replies = run_in_turn(rt, alloc, Recorded::new(alloc, diary), scripts, last)?;
-    let lines = Arc::into_inner(lines).context("the table is still shared")?;
-    Ok(Crowd {
-        history: lines.into_inner(),
-        replies,
-    })
+    let Ok(lines) = Arc::new(alloc, Mutex::new(Vec::new(alloc))) else {
+        return Err("there is no memory for the history");
+    };
+    let Ok(shared) = Arc::try_clone(&lines) else {
+        return Err("the history cannot be shared");
+    };
+    let table = Recorded::new(alloc, Diary::new(alloc, shared));
+    let mut replies = Vec::new(alloc);
+    run_in_turn(rt, alloc, table, scripts, &mut replies)?;
+    let Some(lines) = Arc::into_inner(lines) else {
+        return Err("the table is still shared");
+    };
+    let mut left = lines.into_inner();
+    if left.extend_from_slice(&replies).is_err() {
+        return Err(NO_MEMORY);
+    }
+    Ok(left)
 }
 
-// The replies of all sessions over a service that shares this table by a turn lock.
+// Adds the replies of all sessions over a service that shares this table by a turn lock.
 fn run_in_turn<R, T>(
     rt: &R,
     alloc: Global,
     table: T,
-    scripts: &[Vec<u8>],
-    last: &[u8],
-) -> Result<Vec<Vec<u8>>>
+    scripts: &[&str],
+    out: &mut Vec<u8>,
+) -> Told<()>
 where
     R: Threads + Wait + Clock + Copy + Send + Sync + Drop + 'static,
     T: Tabled<Any> + Send + Sync + Drop + 'static,
 {
-    if scripts.len() > 1000 {
-        bail!("there are more than a thousand sessions");
+    if scripts.len() > 1 + SESSIONS {
+        return Err("there are more than a thousand sessions");
     }
-    let all = WORKERS + scripts.len() + 1;
+    let all = WORKERS + scripts.len();
     let turns = u64::MAX / all as u64;
     let Ok((lock, seats)) = TurnLock::new(alloc, table, all, turns) else {
-        bail!("there is no memory for the table");
+        return Err("there is no memory for the table");
     };
-    run(rt, alloc, lock, seats, scripts, last)
+    run(rt, alloc, lock, seats, scripts, out)
 }
 
-// The replies of all sessions over a service by this access. Its last seats are the sessions', and the others the
-// workers'.
+// Adds the replies of all sessions over a service by this access. Its last seats are the sessions',
+// and the others the workers'.
 fn run<R, A>(
     rt: &R,
     alloc: Global,
     access: A,
     seats: Vec<A::Seat>,
-    scripts: &[Vec<u8>],
-    last: &[u8],
-) -> Result<Vec<Vec<u8>>>
+    scripts: &[&str],
+    out: &mut Vec<u8>,
+) -> Told<()>
 where
     R: Threads + Wait + Clock + Copy + Send + Sync + Drop + 'static,
     A: Access<Any> + Send + Sync + Drop + 'static,
@@ -94,87 +104,66 @@ where
 {
     let mut seats = seats;
     if seats.len() < WORKERS {
-        bail!("there are too few seats");
+        return Err("there are too few seats");
     }
-    let guests = seats.split_off(WORKERS)?;
+    let Ok(guests) = seats.split_off(WORKERS) else {
+        return Err("there is no memory for the seats");
+    };
     let Ok(access) = Arc::new(alloc, access) else {
-        bail!("there is no memory for the table");
+        return Err("there is no memory for the table");
     };
     match Service::new(rt, alloc, access, seats, WORKERS, INBOX) {
         Ok(service) => {
-            let replies = answered(rt, alloc, service.front(), scripts, last, guests);
+            let told = answered(rt, alloc, service.front(), scripts, guests, out);
             drop(service.close(rt));
-            replies
+            told
         }
-        Err(fault) => Err(Error::msg(told_of(fault))),
+        Err(StartFault::NoMemory) => Err("there is no memory for the service"),
+        Err(StartFault::Thread) => Err("no thread can be made"),
     }
 }
 
-// Why a service could not be started, in words.
-fn told_of(fault: StartFault) -> &'static str {
-    match fault {
-        StartFault::NoMemory => "there is no memory for the service",
-        StartFault::Thread => "no thread can be made",
-    }
-}
-
-// The replies to each of these scripts, all at once, and then to the last one.
+// Adds the replies to all scripts except the last, all at once, and then to the last one.
 fn answered<R, A>(
     rt: &R,
     alloc: Global,
     front: &Front<A>,
-    scripts: &[Vec<u8>],
-    last: &[u8],
+    scripts: &[&str],
     seats: Vec<A::Seat>,
-) -> Result<Vec<Vec<u8>>>
+    out: &mut Vec<u8>,
+) -> Told<()>
 where
     R: Threads + Wait + Clock + Sync,
     A: Access<Any> + Send + Sync + Drop,
     A::Seat: Send,
     requires seats { All (A.has_seat front.now) seats.items }
 {
-    let mut seats = seats;
-    let Some(seat) = seats.pop() else {
-        bail!("there is no seat");
-    };
-    let guests = seated(alloc, front, scripts, seats)?;
-    let mut replies = run_all(rt, alloc, front, guests)?;
-    replies.push(look(rt, alloc, front, seat, last)?)?;
-    Ok(replies)
-}
-
-// A session for each script, numbered from 1.
-fn seated<'a, A: Access<Any> + Drop>(
-    alloc: Global,
-    front: &Front<A>,
-    scripts: &'a [Vec<u8>],
-    seats: Vec<A::Seat>,
-) -> Result<Vec<Guest<'a, A::Seat>>>
-    requires seats { All (A.has_seat front.now) seats.items }
-    ensures seats { IfOk result (λ guests. All (λ guest. A.has_seat front.now guest.seat) guests.items) }
-{
-    let _ = front;
     let mut rest = seats;
     let mut guests = Vec::new(alloc);
     let mut number = 0u32;
-    for lines in scripts {
+    for script in scripts {
         let Some(seat) = rest.pop() else {
-            bail!("there are too few seats");
+            return Err("there are too few seats");
         };
         number = number.saturating_add(1);
+        let lines = script.as_bytes();
         let guest = Guest {
             number,
             seat,
             lines,
         };
-        let Ok(()) = guests.push(guest) else {
-            bail!("there is no memory for the sessions");
-        };
+        if guests.push(guest).is_err() {
+            return Err("there is no memory for the sessions");
+        }
     }
-    Ok(guests)
+    let Some(last) = guests.pop() else {
+        return Err("there is no script");
+    };
+    run_all(rt, alloc, front, guests, out)?;
+    look(rt, alloc, front, last, out)
 }
 
-// The replies to a session's lines; none where reading, writing or memory failed.
+// The replies to a session's lines; `None` if reading or writing failed or an allocation failed.
 fn serve<R: Wait, A: Access<Any> + Drop>(
     rt: &R,
     alloc: Global,
@@ -193,31 +182,38 @@ fn serve<R: Wait, A: Access<Any> + Drop>(
     }
 }
 
-// The replies of all sessions, which run at once.
+// Adds the replies of all sessions, which run at once.
 fn run_all<R, A>(
     rt: &R,
     alloc: Global,
     front: &Front<A>,
     guests: Vec<Guest<'_, A::Seat>>,
-) -> Result<Vec<Vec<u8>>>
+    out: &mut Vec<u8>,
+) -> Told<()>
 where
     R: Threads + Wait + Sync,
     A: Access<Any> + Send + Sync + Drop,
     A::Seat: Send,
     requires seats { All (λ guest. A.has_seat front.now guest.seat) guests.items }
 {
-    let each = thread::map_vec(
+    let Ok(each) = thread::map_vec(
         rt,
         guests,
         &|mut guest: Guest<'_, A::Seat>| -> Option<Vec<u8>>
             requires { A.has_seat front.now guest.seat }
         { serve(rt, alloc, front, &mut guest) },
-    )?;
-    let mut all = Vec::new(alloc);
-    for replies in each {
-        all.push(replies.context("a session has failed")?)?;
+    ) else {
+        return Err(NO_MEMORY);
+    };
+    for replies in &each {
+        let Some(replies) = replies else {
+            return Err("a session has failed");
+        };
+        if out.push(b'\n').is_err() || out.extend_from_slice(replies).is_err() {
+            return Err(NO_MEMORY);
+        }
     }
-    Ok(all)
+    Ok(())
 }
 
 // Whether a reply in this text is undecided.
@@ -231,29 +227,28 @@ fn is_undecided(replies: &[u8]) -> bool {
     false
 }
 
-// All replies of the last session, which asks until none is undecided.
+// Adds all replies of the last session, which asks until none is undecided.
 fn look<R: Wait + Clock, A: Access<Any> + Drop>(
     rt: &R,
     alloc: Global,
     front: &Front<A>,
-    seat: A::Seat,
-    lines: &[u8],
-) -> Result<Vec<u8>>
-    requires { A.has_seat front.now seat }
+    last: Guest<'_, A::Seat>,
+    out: &mut Vec<u8>,
+) -> Told<()>
+    requires { A.has_seat front.now last.seat }
 {
-    let mut all = Vec::new(alloc);
-    let mut guest = Guest {
-        number: 0,
-        seat,
-        lines,
-    };
+    let mut guest = last;
+    guest.number = 0;
+    let mut added = out.push(b'\n').is_ok();
     for _ in 0..LOOKS {
-        let replies = serve(rt, alloc, front, &mut guest).context("the last session has failed")?;
-        all.extend_from_slice(&replies)?;
+        let Some(replies) = serve(rt, alloc, front, &mut guest) else {
+            return Err("the last session has failed");
+        };
+        added = added && out.extend_from_slice(&replies).is_ok();
         if !is_undecided(&replies) {
-            return Ok(all);
+            return if added { Ok(()) } else { Err(NO_MEMORY) };
         }
         thread::sleep(rt, Duration::from_millis(5));
     }
-    bail!("a term that was left alone is still undecided")
+    Err("a term that was left alone is still undecided")
 }

@@ -4,7 +4,6 @@ ghost use Rattle.ring_table.specs.Accesses.{filing};
 ghost use Rattle.ring_table.specs.declared.entry.Entry.TheVariants as entry;
 
 use crate::telling::{tell_call, tell_filing};
-use anyhow::Result;
 use ring_any::Any;
 use ring_events::{Command, Reply};
 use ring_id::NoMemory;
@@ -19,10 +18,10 @@ pub type Lines = Mutex<Vec<u8>>;
 
 /// A recorder that adds a line to a text for each entry, and keeps nothing else.
 ///
-/// Contracts see the entries. The lines are tested, not proved: one that runs out of memory is cut or missing.
+/// Contracts see the entries. The lines are tested, not proved: a line that runs out of memory is
+/// incomplete. Nobody else holds their lock, since the calls of a table are made in turn.
 #[derive(Drop)]
 pub struct Diary {
-    alloc: Global,
     unkept: Unkept<Any>,
     lines: Arc<Lines>,
 }
@@ -33,19 +32,8 @@ impl Diary {
         ensures { result.unkept.items ≡ [] }
     {
         Diary {
-            alloc,
             unkept: Unkept::new(alloc),
             lines,
-        }
-    }
-
-    // Adds a line. Nobody holds the lock, since the calls of a table are made in turn.
-    fn add(&self, line: Result<Vec<u8>>) {
-        let Ok(line) = line else {
-            return;
-        };
-        if let Some(mut lines) = self.lines.try_lock() {
-            let _ = lines.extend_from_slice(&line);
         }
     }
 }
@@ -71,20 +59,26 @@ impl Recorder<Any> for Diary {
 
     fn record_call(&mut self, session: u32, command: Command<Any>, reply: &Reply)
         requires { 0 < self.old.unkept.room }
-        ensures added { self.new.unkept.items ≡ self.old.unkept.items ++ entry.Call session command reply.now ∷ [] }
+        ensures added { self.new.unkept.items
+            ≡ self.old.unkept.items ++ entry.Call session command reply.now ∷ [] }
         ensures sure { length self.old.unkept.items ≤ length self.new.unkept.items }
     {
         self.unkept.record_call(session, command, reply);
-        self.add(tell_call(self.alloc, session, &command, reply));
+        if let Some(mut lines) = self.lines.try_lock() {
+            tell_call(&mut lines, session, &command, reply);
+        }
     }
 
     fn record_filing(&mut self, report: &Report<Any>, noting: Noting)
         requires { 0 < self.old.unkept.room }
-        ensures added { self.new.unkept.items ≡ self.old.unkept.items ++ filing report.now noting ∷ [] }
+        ensures added { self.new.unkept.items
+            ≡ self.old.unkept.items ++ filing report.now noting ∷ [] }
         ensures sure { length self.old.unkept.items ≤ length self.new.unkept.items }
     {
         self.unkept.record_filing(report, noting);
-        self.add(tell_filing(self.alloc, report, noting));
+        if let Some(mut lines) = self.lines.try_lock() {
+            tell_filing(&mut lines, report, noting);
+        }
     }
 
     fn is_settled(&self) -> bool {

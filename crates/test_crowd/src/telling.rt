@@ -1,110 +1,69 @@
-//! The lines of a history.
-use anyhow::{Result, ensure};
+//! The lines of a history. A line that runs out of memory is incomplete.
 use ring_any::Any;
 use ring_events::{Command, Reply};
 use ring_grammar::print_reply;
-use ring_id::{GroupName, NodeId, TermNo};
+use ring_id::{GroupName, NodeId};
 use ring_node::Report;
 use ring_terms::Noting;
-use std::alloc::Global;
-use std::fmt::Write;
-use std::str;
+use std::io::Write;
 
-/// Returns the line of a call: `SESSION COMMAND => REPLY`.
-pub fn tell_call(
-    alloc: Global,
-    session: u32,
-    command: &Command<Any>,
-    reply: &Reply,
-) -> Result<Vec<u8>> {
-    let mut text = String::new(alloc);
-    write_call(&mut text, session, command)?;
-    let mut line = text.into_bytes();
-    ensure!(
-        print_reply(reply, &mut line).is_ok(),
-        "a reply is not written"
-    );
-    Ok(line)
+/// Adds the line of a call: `SESSION COMMAND => REPLY`.
+pub fn tell_call(text: &mut Vec<u8>, session: u32, command: &Command<Any>, reply: &Reply) {
+    let _ = write!(text, "{session} ");
+    write_command(text, command);
+    let _ = text.extend_from_slice(b" => ");
+    let _ = print_reply(reply, text);
 }
 
-/// Returns the line of a report: `filed GROUP TERM MEMBER LEADER` and what became of it.
-pub fn tell_filing(alloc: Global, report: &Report<Any>, noting: Noting) -> Result<Vec<u8>> {
-    let mut text = String::new(alloc);
+/// Adds the line of a report: `filed GROUP TERM MEMBER LEADER` and what became of it.
+pub fn tell_filing(text: &mut Vec<u8>, report: &Report<Any>, noting: Noting) {
     let charter = report.charter();
-    write_term(&mut text, &charter.group(), charter.term())?;
-    write_nodes(&mut text, report.member(), report.leader())?;
-    writeln!(text, " {}", word(noting))?;
-    Ok(text.into_bytes())
+    let _ = text.extend_from_slice(b"filed");
+    write_word(text, charter.group().bytes());
+    let _ = write!(text, " {}", charter.term().get());
+    write_node(text, report.member());
+    write_node(text, report.leader());
+    write_word(text, word(noting).as_bytes());
 }
 
-// Writes a call, up to its reply.
-fn write_call(text: &mut String, session: u32, command: &Command<Any>) -> Result<()> {
-    write!(text, "{session} ")?;
-    write_command(text, command)?;
-    Ok(text.push_str(" => ")?)
-}
-
-// Writes the term of a report, and a space.
-fn write_term(text: &mut String, group: &GroupName, term: TermNo) -> Result<()> {
-    Ok(write!(text, "filed {} {} ", name(group)?, term.get())?)
-}
-
-// Writes a member and a leader, with a space between.
-fn write_nodes(text: &mut String, member: NodeId, leader: NodeId) -> Result<()> {
-    write_node(text, member)?;
-    text.push(' ')?;
-    write_node(text, leader)
-}
-
-// A group's name as text.
-fn name(group: &GroupName) -> Result<&str> {
-    Ok(str::from_utf8(group.bytes())?)
-}
-
-// What became of a report, in a word.
+// What became of a report, in a word that ends the line.
 fn word(noting: Noting) -> &'static str {
     match noting {
-        Noting::Noted => "noted",
-        Noting::Known => "known",
-        Noting::Stale => "stale",
+        Noting::Noted => "noted\n",
+        Noting::Known => "known\n",
+        Noting::Stale => "stale\n",
     }
 }
 
-// Writes an identity as a line spells it: its number, and its weight where it has one.
-fn write_node(text: &mut String, node: NodeId) -> Result<()> {
-    write!(text, "{}", node.get())?;
+// Writes a space and an identity as a line spells it: its number, and its weight if it has one.
+fn write_node(text: &mut Vec<u8>, node: NodeId) {
+    let _ = write!(text, " {}", node.get());
     if node.weight() > 0 {
-        write!(text, "/{}", node.weight())?;
+        let _ = write!(text, "/{}", node.weight());
     }
-    Ok(())
 }
 
 // Writes a command as its line spells it.
-fn write_command(text: &mut String, command: &Command<Any>) -> Result<()> {
+fn write_command(text: &mut Vec<u8>, command: &Command<Any>) {
     let (word, group) = head(command);
-    text.push_str(word)?;
+    let _ = text.extend_from_slice(word.as_bytes());
     if let Some(group) = group {
-        write_word(text, group.bytes())?;
+        write_word(text, group.bytes());
     }
     match command {
         Command::Create(_, kind) => write_word(text, kind.word()),
-        Command::Join(_, node) => {
-            text.push(' ')?;
-            write_node(text, *node)
+        Command::Join(_, node) => write_node(text, *node),
+        Command::Leave(_, node) | Command::Who(_, node) => {
+            let _ = write!(text, " {}", node.get());
         }
-        Command::Leave(_, node) | Command::Who(_, node) => write_number(text, node.get()),
-        _ => Ok(()),
+        _ => {}
     }
 }
 
 // Writes a space and a word.
-fn write_word(text: &mut String, word: &[u8]) -> Result<()> {
-    Ok(write!(text, " {}", str::from_utf8(word)?)?)
-}
-
-// Writes a space and a number.
-fn write_number(text: &mut String, number: u32) -> Result<()> {
-    Ok(write!(text, " {number}")?)
+fn write_word(text: &mut Vec<u8>, word: &[u8]) {
+    let _ = text.extend_from_slice(b" ");
+    let _ = text.extend_from_slice(word);
 }
 
 // The word that a command begins with, and the group that it is about.

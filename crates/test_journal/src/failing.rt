@@ -29,7 +29,11 @@ impl Medium for FailingMedium {
     ghost use Rattle.std.specs.Option.{option_map};
     ghost use Rattle.ring_journal.specs.Memories.{memory_kept, memory_text};
 
-    ghost moment = { λ m. record { text = memory_text m.memory; kept = memory_kept m.memory; other = option_map (λ batch. batch.value.bytes) m.other } };
+    ghost moment = { λ m. record {
+      text = memory_text m.memory;
+      kept = memory_kept m.memory;
+      other = option_map (λ batch. batch.value.bytes) m.other;
+    } };
 
     fn append(&mut self, batch: &Batch) -> Result<(), Fault> {
         self.memory.append(batch)?;

@@ -1,3 +1,4 @@
+use crate::equal::equal;
 use crate::failing::FailingMedium;
 use crate::file::batch_of;
 use ring_journal::{Journal, LONGEST_BATCH, MemoryMedium, RoomFault, is_line};
@@ -6,26 +7,19 @@ use std::process::Abort;
 
 // A journal without lines, whose medium fails at the call with this number.
 fn failing_journal(alloc: Global, fault_at: u32) -> Journal<FailingMedium> {
-    let memory = MemoryMedium::new(Vec::new(alloc));
-    Journal::new(
-        alloc,
-        FailingMedium {
-            memory,
-            other: None,
-            fault_at,
-            calls: 0,
-        },
-    )
+    let medium = FailingMedium {
+        memory: MemoryMedium::new(Vec::new(alloc)),
+        other: None,
+        fault_at,
+        calls: 0,
+    };
+    Journal::new(alloc, medium)
 }
 
-// Adds these bytes, which have to be a line.
-fn add(
-    rt: &impl Abort,
-    journal: &mut Journal<FailingMedium>,
-    line: &[u8],
-) -> Result<(), RoomFault> {
+// Adds these bytes, which have to be a line and to have room.
+fn add(rt: &impl Abort, journal: &mut Journal<FailingMedium>, line: &[u8]) {
     assert!(rt; is_line(line));
-    journal.add(line)
+    equal(rt, "added", journal.add(line), Ok(()));
 }
 
 // Settling a line makes two calls of the medium. `settled` lines come before the call that fails.
@@ -42,50 +36,63 @@ fn nothing_is_settled_after_a_failure(rt: HostRuntime) {
         let mut journal = failing_journal(rt.alloc(), fault_at);
         let mut count: u32 = 0;
         for line in [b"a", b"b", b"c"] {
-            assert_eq!(rt; add(&rt, &mut journal, line), Ok(()));
-            if journal.settle().is_ok() {
-                count = count.saturating_add(1);
-            }
+            add(&rt, &mut journal, line);
+            count = count.saturating_add(u32::from(journal.settle().is_ok()));
         }
-        assert_eq!(rt; count, settled, "fault at {fault_at}");
-        assert_eq!(rt; journal.medium().memory.kept(), kept, "fault at {fault_at}");
-        assert_eq!(rt; journal.is_broken(), fault_at != 0, "fault at {fault_at}");
+        let (found, is_broken) = (journal.medium().memory.kept(), journal.is_broken());
+        drop(journal);
+        equal(
+            &rt,
+            "fault at, settled, kept, and broken",
+            (fault_at, count, found, is_broken),
+            (fault_at, settled, kept, fault_at != 0),
+        );
     }
 }
 
 #[test]
 fn a_batch_is_full_at_its_last_byte(rt: HostRuntime) {
     let mut journal = failing_journal(rt.alloc(), 0);
-    assert_eq!(rt; journal.reserve(LONGEST_BATCH + 1), Err(RoomFault::Full));
-    assert_eq!(rt; journal.reserve(LONGEST_BATCH), Ok(()));
+    let room = (
+        journal.reserve(LONGEST_BATCH + 1),
+        journal.reserve(LONGEST_BATCH),
+    );
+    equal(&rt, "room", room, (Err(RoomFault::Full), Ok(())));
     let line = [b'a'; 4095];
     for _ in 0..16 {
-        assert_eq!(rt; add(&rt, &mut journal, &line), Ok(()));
+        add(&rt, &mut journal, &line);
     }
-    assert_eq!(rt; journal.pending(), LONGEST_BATCH);
-    assert_eq!(rt; add(&rt, &mut journal, b""), Err(RoomFault::Full));
-    assert_eq!(rt; journal.settle(), Ok(()));
-    assert_eq!(rt; add(&rt, &mut journal, &line), Ok(()));
-    assert_eq!(rt; journal.pending(), 4096);
+    assert!(rt; is_line(b""));
+    let full = (journal.pending(), journal.add(b""), journal.settle());
+    let wanted = (LONGEST_BATCH, Err(RoomFault::Full), Ok(()));
+    equal(&rt, "pending, added, and settled", full, wanted);
+    add(&rt, &mut journal, &line);
+    equal(&rt, "pending", journal.pending(), 4096);
+    drop(journal);
 }
 
-// The first line takes two calls of the medium, so the third one replaces the text. A line that is pending
-// then is dropped.
+// The first line takes two calls of the medium, so the third one replaces the text. A line that is
+// pending then is dropped.
 #[test]
 fn a_text_takes_the_place_of_the_lines(rt: HostRuntime) {
     let texts: [(u32, &[u8]); 2] = [(0, b"b\nc\nd\n"), (3, b"a\n")];
     for (fault_at, text) in texts {
+        let works = fault_at == 0;
         let mut journal = failing_journal(rt.alloc(), fault_at);
-        assert_eq!(rt; add(&rt, &mut journal, b"a"), Ok(()));
-        assert_eq!(rt; journal.settle(), Ok(()));
-        assert_eq!(rt; add(&rt, &mut journal, b"x"), Ok(()));
-        let new = batch_of(&rt, rt.alloc(), b"b\nc\n");
-        assert_eq!(rt; journal.replace(&new).is_ok(), fault_at == 0);
+        add(&rt, &mut journal, b"a");
+        let begun = journal.settle().is_ok();
+        add(&rt, &mut journal, b"x");
+        let new = batch_of(b"b\nc\n".to_vec(rt.alloc()).expect(&rt, "a text"));
+        let replaced = journal.replace(&new).is_ok();
         drop(new);
-        assert_eq!(rt; add(&rt, &mut journal, b"d"), Ok(()));
-        assert_eq!(rt; journal.settle().is_ok(), fault_at == 0);
-        assert_eq!(rt; journal.medium().memory.text(), text);
-        assert_eq!(rt; journal.medium().memory.kept(), text.len());
-        assert_eq!(rt; journal.is_broken(), fault_at != 0);
+        add(&rt, &mut journal, b"d");
+        let settled = journal.settle().is_ok();
+        let found = [begun, replaced, settled, journal.is_broken()];
+        let wanted = [true, works, works, !works];
+        equal(&rt, "begun, replaced, settled, and broken", found, wanted);
+        let memory = &journal.medium().memory;
+        let found = (memory.text(), memory.kept());
+        equal(&rt, "the text, and kept", found, (text, text.len()));
+        drop(journal);
     }
 }

@@ -1,3 +1,4 @@
+use crate::equal::equal;
 use ring_journal::{BadByte, LONGEST_BATCH, read_lines, whole_len};
 
 // Two lines are synced, then two more and a part of a fifth are written.
@@ -7,6 +8,9 @@ const TEXT: &[u8] = b"ab\nc\nde\n\nf\ng";
 const SYNCED: usize = 5;
 
 const WRITTEN: usize = 12;
+
+// How many bytes a file has that is longer than a batch.
+const FOUND: usize = LONGEST_BATCH + 8;
 
 // Where each line ends, with its LF.
 const ENDS: [usize; 5] = [3, 5, 8, 9, 11];
@@ -55,24 +59,30 @@ fn each_shadow_has_the_first_lines(rt: HostRuntime) {
         let zero = SYNCED + mask.trailing_zeros() as usize;
         let whole = whole_before(zero.min(WRITTEN));
         assert!(rt; whole >= SYNCED);
-        assert_eq!(rt; whole_len(&found), whole, "mask {mask}");
-        assert!(rt; are_first(&found, whole), "mask {mask}");
+        let first = (mask, whole_len(&found), are_first(&found, whole));
+        equal(
+            &rt,
+            "the mask, whole, and first",
+            first,
+            (mask, whole, true),
+        );
     }
 }
 
 #[test]
 fn a_byte_too_far_after_a_zero_is_bad(rt: HostRuntime) {
-    let mut found = vec![in rt.alloc(); 0; LONGEST_BATCH + 8].expect(&rt, "memory");
+    let mut found = [0; FOUND];
     found[0] = b'a';
     found[1] = b'\n';
     found[LONGEST_BATCH + 1] = b'b';
     assert!(rt; read_lines(&found).is_ok());
     found[LONGEST_BATCH + 3] = b'c';
     found[LONGEST_BATCH + 4] = b'd';
-    assert_eq!(rt;
+    let at = LONGEST_BATCH + 3;
+    equal(
+        &rt,
+        "the bad byte",
         read_lines(&found).err(),
-        Some(BadByte {
-            at: LONGEST_BATCH + 3
-        })
+        Some(BadByte { at }),
     );
 }

@@ -1,4 +1,5 @@
-use crate::memory::{put, tells_of_memory, text};
+use crate::equal::equal;
+use crate::memory::{room, tells_of_memory};
 use ring_lines::{FromRead, LineFault, Outlet, ToWrite, WriteFailed};
 use ring_schedule::replay;
 use std::alloc::Global;
@@ -54,7 +55,7 @@ impl Write for Telling<'_> {
     }
 }
 
-// Notes a call: its mark, and its bytes. Nothing where memory is refused.
+// Notes a call: its mark, and its bytes; nothing if an allocation fails.
 fn note(log: &RefCell<Vec<u8>>, mark: &[u8], bytes: &[u8]) {
     if let Ok(mut log) = log.try_borrow_mut() {
         let _ = log.extend_from_slice(mark);
@@ -62,38 +63,35 @@ fn note(log: &RefCell<Vec<u8>>, mark: &[u8], bytes: &[u8]) {
     }
 }
 
-// What a replay of these pieces comes to, whose calls are noted.
-fn replayed<'a>(
-    alloc: Global,
-    log: &'a RefCell<Vec<u8>>,
-    pieces: &'a [&'a [u8]],
-) -> Result<u64, LineFault> {
-    let mut reader = FromRead(Asking {
-        log,
-        pieces,
-        next: 0,
-    });
-    replay(alloc, &mut reader, &mut ToWrite(Telling { log }), 1000)
-}
-
-// What a replay of these pieces comes to, and the calls that it makes, in order.
+// The result of a replay of these pieces, and its calls, in order.
 fn logged(rt: &impl Abort, alloc: Global, pieces: &[&[u8]]) -> (Result<u64, LineFault>, Vec<u8>) {
-    let log = RefCell::new(text(rt, alloc, 200));
-    let answer = replayed(alloc, &log, pieces);
+    let log = RefCell::new(room(rt, alloc, 200));
+    let answer = {
+        let mut reader = FromRead(Asking {
+            log: &log,
+            pieces,
+            next: 0,
+        });
+        let mut writer = ToWrite(Telling { log: &log });
+        replay(alloc, &mut reader, &mut writer, 1000)
+    };
     (answer, log.into_inner())
 }
 
-// Stops the test if a replay of these pieces doesn't answer so many lines, by these calls in this order. It is tried
-// again if it ran out of memory.
+// Stops the test unless a replay of these pieces answers `lines` lines, by these calls in this
+// order. It is tried again if it ran out of memory.
 fn assert_order(rt: &(impl Abort + AllocGlobal), pieces: &[&[u8]], lines: u64, wanted: &[u8]) {
     let (mut answer, mut log) = logged(rt, rt.alloc(), pieces);
-    let is_other = answer != Ok(lines) || log.as_slice() != wanted;
-    if is_other && is_refused(answer, &log) {
+    if is_refused(answer, &log) {
         drop(log);
         (answer, log) = logged(rt, rt.alloc(), pieces);
     }
-    assert_eq!(rt; log.as_slice(), wanted);
-    assert_eq!(rt; answer, Ok(lines));
+    equal(
+        rt,
+        "the log and the answer",
+        (log.as_slice(), answer),
+        (wanted, Ok(lines)),
+    );
     drop(log);
 }
 
@@ -109,12 +107,18 @@ fn replies_are_written_before_the_next_read(rt: HostRuntime) {
         &rt,
         &[b"create a chang\njoin a 3\ngro", b"ups", b"\n\nwho"],
         5,
-        b"<create a chang\njoin a 3\ngro>ok\nok\n<ups<\n\nwho>groups a\nno bad-line\n<>no bad-line\n",
+        b"<create a chang\njoin a 3\ngro>ok\nok\n<ups<\n\nwho>groups a\nno bad-line\n\
+          <>no bad-line\n",
     );
     assert_order(&rt, &[], 0, b"<");
 }
 
-// Puts the names of a hundred groups behind a text, each between these.
+// Puts bytes at the end of a text that has room for them.
+fn put(rt: &impl Abort, text: &mut Vec<u8>, bytes: &[u8]) {
+    assert!(rt; text.extend_from_slice(bytes).is_ok());
+}
+
+// Puts the names of a hundred groups at the end of a text, each between two others.
 fn put_names(rt: &impl Abort, text: &mut Vec<u8>, before: &[u8], behind: &[u8]) {
     for number in 0..100u8 {
         put(rt, text, before);
@@ -123,31 +127,27 @@ fn put_names(rt: &impl Abort, text: &mut Vec<u8>, before: &[u8], behind: &[u8]) 
     }
 }
 
-// Puts a line behind a text so many times.
-fn put_times(rt: &impl Abort, text: &mut Vec<u8>, line: &[u8], times: u32) {
-    for _ in 0..times {
-        put(rt, text, line);
-    }
-}
-
 // The lines by which the groups are created, and then 400 that ask for them.
 fn crowd(rt: &impl Abort, alloc: Global) -> Vec<u8> {
-    let mut lines = Vec::new(alloc);
+    let mut lines = room(rt, alloc, 5000);
     put_names(rt, &mut lines, b"create ", b" chang\n");
-    put_times(rt, &mut lines, b"groups\n", 400);
+    for _ in 0..400 {
+        put(rt, &mut lines, b"groups\n");
+    }
     lines
 }
 
-// What is answered to them.
+// The replies to these lines.
 fn told(rt: &impl Abort, alloc: Global) -> Vec<u8> {
-    let mut line = Vec::new(alloc);
-    put(rt, &mut line, b"groups");
-    put_names(rt, &mut line, b" ", b"");
-    put(rt, &mut line, b"\n");
-    let mut text = Vec::new(alloc);
-    put_times(rt, &mut text, b"ok\n", 100);
-    put_times(rt, &mut text, &line, 400);
-    drop(line);
+    let mut text = room(rt, alloc, 130_000);
+    for _ in 0..100 {
+        put(rt, &mut text, b"ok\n");
+    }
+    for _ in 0..400 {
+        put(rt, &mut text, b"groups");
+        put_names(rt, &mut text, b" ", b"");
+        put(rt, &mut text, b"\n");
+    }
     text
 }
 
@@ -170,7 +170,7 @@ impl Outlet for Measuring {
     }
 }
 
-// What a replay of these lines comes to, which are read together, and its writer.
+// The result of a replay of these lines, which are read together, and its writer.
 fn measured(alloc: Global, lines: &[u8]) -> (Result<u64, LineFault>, Measuring) {
     let mut writer = Measuring {
         text: Vec::new(alloc),
@@ -180,7 +180,7 @@ fn measured(alloc: Global, lines: &[u8]) -> (Result<u64, LineFault>, Measuring) 
     (answer, writer)
 }
 
-// Whether a replay that came to this ran out of memory, as its writer may.
+// Whether a replay with this result ran out of memory, as its writer may.
 fn is_refused(answer: Result<u64, LineFault>, text: &[u8]) -> bool {
     answer == Err(LineFault::NoMemory) || answer == Err(LineFault::Write) || tells_of_memory(text)
 }
@@ -194,8 +194,8 @@ fn replies_to_one_read_may_be_longer_than_the_page(rt: HostRuntime) {
         drop(writer);
         (answer, writer) = measured(alloc, &lines);
     }
-    assert_eq!(rt; answer, Ok(500));
-    assert_eq!(rt; writer.text.as_slice(), wanted.as_slice());
+    let found = (answer, writer.text.as_slice());
+    equal(&rt, "the replies", found, (Ok(500), wanted.as_slice()));
     // the replies are many times the page, and no call is longer than it
     let longest = writer.longest;
     assert!(rt; longest > 60000 && longest <= 65536, "{longest}");

@@ -1,62 +1,111 @@
-use ring_config::{Config, ConfigFault, read_config};
+use crate::equal::equal;
+use ring_config::{ConfigFault, read_config};
 use std::alloc::Global;
-use std::process::Abort;
 
-// The configuration in a text; read again where memory is refused.
-fn read(alloc: Global, text: &[u8]) -> Result<Config, ConfigFault> {
-    match read_config(alloc, text) {
+// The numbers of workers and of items, and the port. Or the reason why a text has none.
+type Numbers = Result<(usize, usize, u16), ConfigFault>;
+
+// The numbers in a text. If an allocation fails, the call is made once more.
+fn read(alloc: Global, text: &[u8]) -> Numbers {
+    let config = match read_config(alloc, text) {
         Err(ConfigFault::NoMemory) => read_config(alloc, text),
         answer => answer,
+    };
+    match config {
+        Ok(config) => Ok((config.workers, config.inbox, config.port)),
+        Err(fault) => Err(fault),
     }
 }
 
-// Stops the test if a text is not the configuration with these numbers.
-fn reads(rt: &impl Abort, alloc: Global, text: &[u8], workers: usize, inbox: usize, port: u16) {
-    let config = read(alloc, text).expect(rt, "no configuration");
-    assert_eq!(rt; config.workers, workers);
-    assert_eq!(rt; config.inbox, inbox);
-    assert_eq!(rt; config.port, port);
-}
+const CASES: [(&[u8], Numbers); 21] = [
+    // the example of the help, and the same in another spelling
+    (
+        b"workers = 2\ninbox = 1024\nport = 7400\n",
+        Ok((2, 1024, 7400)),
+    ),
+    (
+        b"# a comment\nport = 7_400\r\n\"inbox\" = 0x400\nworkers=2",
+        Ok((2, 1024, 7400)),
+    ),
+    // the ends of the ranges
+    (b"workers = 1\ninbox = 1\nport = 1\n", Ok((1, 1, 1))),
+    (
+        b"workers = 8\ninbox = 65536\nport = 65535\n",
+        Ok((8, 65536, 65535)),
+    ),
+    // texts that are no configuration
+    (b"", Err(ConfigFault::Bad)),
+    (
+        b"workers = 0\ninbox = 1024\nport = 7400\n",
+        Err(ConfigFault::Bad),
+    ),
+    (
+        b"workers = 9\ninbox = 1024\nport = 7400\n",
+        Err(ConfigFault::Bad),
+    ),
+    (
+        b"workers = 2\ninbox = 0\nport = 7400\n",
+        Err(ConfigFault::Bad),
+    ),
+    (
+        b"workers = 2\ninbox = 65537\nport = 7400\n",
+        Err(ConfigFault::Bad),
+    ),
+    (
+        b"workers = 2\ninbox = 1024\nport = 0\n",
+        Err(ConfigFault::Bad),
+    ),
+    (
+        b"workers = 2\ninbox = 1024\nport = 65536\n",
+        Err(ConfigFault::Bad),
+    ),
+    (
+        b"workers = 2\ninbox = 1024\nport = -7400\n",
+        Err(ConfigFault::Bad),
+    ),
+    (
+        b"workers = 2\ninbox = 1024\nport = 4294974696\n",
+        Err(ConfigFault::Bad),
+    ),
+    (
+        b"workers = 2\ninbox = 1024\nport = \"7400\"\n",
+        Err(ConfigFault::Bad),
+    ),
+    (
+        b"workers = 2\ninbox = 1024\nport = 7400.0\n",
+        Err(ConfigFault::Bad),
+    ),
+    (b"workers = 2\ninbox = 1024\n", Err(ConfigFault::Bad)),
+    (
+        b"workers = 2\ninbox = 1024\nport = 7400\nx = 1\n",
+        Err(ConfigFault::Bad),
+    ),
+    (
+        b"workers = 2\ninbox = 1024\nport = 7400\nport = 7400\n",
+        Err(ConfigFault::Bad),
+    ),
+    (
+        b"[ring]\nworkers = 2\ninbox = 1024\nport = 7400\n",
+        Err(ConfigFault::Bad),
+    ),
+    (
+        b"workers: 2\ninbox: 1024\nport: 7400\n",
+        Err(ConfigFault::Bad),
+    ),
+    (
+        b"workers = 2\ninbox = 1024\nport = 7400 # \xff\n",
+        Err(ConfigFault::Bad),
+    ),
+];
 
 #[test]
-fn the_example_is_read(rt: HostRuntime) {
-    let alloc = rt.alloc();
-    let example = b"workers = 2\ninbox = 1024\nport = 7400\n";
-    reads(&rt, alloc, example, 2, 1024, 7400);
-    let other = b"# a comment\nport = 7_400\r\n\"inbox\" = 0x400\nworkers=2";
-    reads(&rt, alloc, other, 2, 1024, 7400);
-}
-
-#[test]
-fn the_ends_of_the_ranges_are_read(rt: HostRuntime) {
-    let alloc = rt.alloc();
-    let least = b"workers = 1\ninbox = 1\nport = 1\n";
-    reads(&rt, alloc, least, 1, 1, 1);
-    let most = b"workers = 8\ninbox = 65536\nport = 65535\n";
-    reads(&rt, alloc, most, 8, 65536, 65535);
-}
-
-#[test]
-fn other_texts_are_bad(rt: HostRuntime) {
-    for text in [
-        b"".as_slice(),
-        b"workers = 0\ninbox = 1024\nport = 7400\n".as_slice(),
-        b"workers = 9\ninbox = 1024\nport = 7400\n".as_slice(),
-        b"workers = 2\ninbox = 0\nport = 7400\n".as_slice(),
-        b"workers = 2\ninbox = 65537\nport = 7400\n".as_slice(),
-        b"workers = 2\ninbox = 1024\nport = 0\n".as_slice(),
-        b"workers = 2\ninbox = 1024\nport = 65536\n".as_slice(),
-        b"workers = 2\ninbox = 1024\nport = -7400\n".as_slice(),
-        b"workers = 2\ninbox = 1024\nport = 4294974696\n".as_slice(),
-        b"workers = 2\ninbox = 1024\nport = \"7400\"\n".as_slice(),
-        b"workers = 2\ninbox = 1024\nport = 7400.0\n".as_slice(),
-        b"workers = 2\ninbox = 1024\n".as_slice(),
-        b"workers = 2\ninbox = 1024\nport = 7400\nx = 1\n".as_slice(),
-        b"workers = 2\ninbox = 1024\nport = 7400\nport = 7400\n".as_slice(),
-        b"[ring]\nworkers = 2\ninbox = 1024\nport = 7400\n".as_slice(),
-        b"workers: 2\ninbox: 1024\nport: 7400\n".as_slice(),
-        b"workers = 2\ninbox = 1024\nport = 7400 # \xff\n".as_slice(),
-    ] {
-        assert_eq!(rt; read(rt.alloc(), text), Err(ConfigFault::Bad), "{text:?}");
+fn a_text_is_a_configuration_or_bad(rt: HostRuntime) {
+    for (text, wanted) in &CASES {
+        equal(
+            &rt,
+            "a text",
+            (*text, read(rt.alloc(), *text)),
+            (*text, *wanted),
+        );
     }
 }

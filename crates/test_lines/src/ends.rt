@@ -1,7 +1,19 @@
+use crate::equal::equal;
 use crate::memory::drip_out;
 use ring_lines::{Outlet, ToWrite, WriteFailed, put};
 use std::alloc::Global;
 use std::process::Abort;
+
+// The room of a writer, the call at which it fails, the answer to two puts, and the bytes that the
+// writer took by then.
+type Case<'a> = (usize, u64, Result<(), WriteFailed>, &'a [u8]);
+
+// The last of these writers takes no byte once it is full, which is a failure.
+const CASES: [Case<'static>; 3] = [
+    (100, 0, Ok(()), b"ok\nok\n"),
+    (100, 5, Err(WriteFailed), b"ok\no"),
+    (2, 0, Err(WriteFailed), b"ok"),
+];
 
 // Puts a text twice.
 fn put_twice<W: Outlet>(out: &mut W) -> Result<(), WriteFailed> {
@@ -9,34 +21,27 @@ fn put_twice<W: Outlet>(out: &mut W) -> Result<(), WriteFailed> {
     put(out, b"ok\n")
 }
 
-// Stops the test if that is not answered so by a writer with so much room that fails at the call with this number, or
-// leaves other bytes there; the same for a writer of std.
-fn is_put(
-    rt: &impl Abort,
-    alloc: Global,
-    room: usize,
-    fault_at: u64,
-    answer: Result<(), WriteFailed>,
-    taken: &[u8],
-) {
+// Stops the test unless a writer answers two puts so, and the same writer as one of std.
+fn is_put(rt: &impl Abort, alloc: Global, case: &Case) {
+    let (room, fault_at, answer, taken) = *case;
     let mut out = drip_out(rt, alloc, room, fault_at);
+    let put = put_twice(&mut out);
     let mut by_std = ToWrite(drip_out(rt, alloc, room, fault_at));
-    assert_eq!(rt; put_twice(&mut out), answer);
-    assert_eq!(rt; put_twice(&mut by_std), answer);
-    assert_eq!(rt; out.taken(), taken);
-    assert_eq!(rt; by_std.0.taken(), taken);
+    let put_by_std = put_twice(&mut by_std);
+    let found = ((put, out.taken()), (put_by_std, by_std.0.taken()));
+    equal(
+        rt,
+        "the answer and what is taken",
+        found,
+        ((answer, taken), (answer, taken)),
+    );
     drop(out);
     drop(by_std);
 }
 
 #[test]
 fn bytes_are_put_until_a_write_fails(rt: HostRuntime) {
-    let alloc = rt.alloc();
-    is_put(&rt, alloc, 100, 0, Ok(()), b"ok\nok\n");
-    is_put(&rt, alloc, 100, 5, Err(WriteFailed), b"ok\no");
-}
-
-#[test]
-fn a_writer_that_takes_no_byte_has_failed(rt: HostRuntime) {
-    is_put(&rt, rt.alloc(), 2, 0, Err(WriteFailed), b"ok");
+    for case in &CASES {
+        is_put(&rt, rt.alloc(), case);
+    }
 }

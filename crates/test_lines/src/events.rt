@@ -1,11 +1,10 @@
-use crate::memory::{TWICE, add, tells_of_memory, text};
+use crate::equal::equal;
+use crate::memory::{TWICE, room, tells_of_memory};
+use crate::printing::lines_of;
 use ring_any::Any;
 use ring_any_traffic::AnyTraffic;
-use ring_grammar::{
-    SinkFailed, parse_event, print_groups, print_members, print_reply, print_terms,
-};
-use ring_id::NoMemory;
-use ring_mux::{Event, Mux, Reply};
+use ring_grammar::parse_event;
+use ring_mux::{Event, Mux};
 use std::alloc::Global;
 use std::process::Abort;
 
@@ -32,55 +31,34 @@ const LINES: [&[u8]; 18] = [
 ];
 
 const REPLIES: &[u8] = b"no no-group\nok\nok\nok\nok\nok\nok\nterm 1\nok\nidle\n\
-    drained 2 left 2\npending 2\nterm 2\ndrained 8 left 0\nleader 2 3\nmembers 3 1 2\nterms 1:- 2:3\n\
-    groups a\n";
+    drained 2 left 2\npending 2\nterm 2\ndrained 8 left 0\nleader 2 3\nmembers 3 1 2\n\
+    terms 1:- 2:3\ngroups a\n";
 
 // The events that the lines spell.
 fn events(rt: &impl Abort, alloc: Global) -> Vec<Event<Any>> {
-    let mut events = Vec::new(alloc);
+    let mut events = room(rt, alloc, LINES.len());
     for line in &LINES {
-        add(rt, &mut events, parse_event(line).expect(rt, "no event"));
+        let event = parse_event(line).expect(rt, "no event");
+        assert!(rt; events.push(event).is_ok());
     }
     events
 }
 
-// Puts the line of a reply, that of a list by the call for such lists alone.
-fn put(reply: &Reply, text: &mut Vec<u8>) -> Result<(), SinkFailed> {
-    match reply {
-        Reply::Members(members) => print_members(members, text),
-        Reply::Terms(leaders) => print_terms(leaders, text),
-        Reply::Groups(names) => print_groups(names, text),
-        _ => print_reply(reply, text),
-    }
-}
-
-// The text of the lines of these replies.
-fn lines_of(rt: &impl Abort, alloc: Global, replies: &[Reply]) -> Vec<u8> {
-    let mut lines = text(rt, alloc, 300);
-    for reply in replies {
-        assert_eq!(rt; put(reply, &mut lines), Ok(()));
-    }
-    lines
-}
-
-// The lines by which a mux answers these events in one list. None where they differ from the replies since it ran
-// out of memory.
+// The lines by which a mux answers these events in one list. `None` if it ran out of memory.
 fn answered(rt: &impl Abort, alloc: Global, events: &[Event<Any>]) -> Option<Vec<u8>> {
     let mut mux: Mux<Any, AnyTraffic> = Mux::new(alloc).expect(rt, "no mux");
     let answered = mux.run(alloc, events);
     drop(mux);
-    match answered {
-        Ok(replies) => {
-            let lines = lines_of(rt, alloc, &replies);
-            drop(replies);
-            if lines.as_slice() != REPLIES && tells_of_memory(&lines) {
-                drop(lines);
-                return None;
-            }
-            Some(lines)
-        }
-        Err(NoMemory) => None,
+    let Ok(replies) = answered else {
+        return None;
+    };
+    let lines = lines_of(rt, alloc, &replies);
+    drop(replies);
+    if tells_of_memory(&lines) {
+        drop(lines);
+        return None;
     }
+    Some(lines)
 }
 
 #[test]
@@ -92,6 +70,6 @@ fn a_list_of_events_is_answered_as_its_lines_are(rt: HostRuntime) {
         None => answered(&rt, alloc, &events).expect(&rt, TWICE),
     };
     drop(events);
-    assert_eq!(rt; lines.as_slice(), REPLIES);
+    equal(&rt, "the replies", lines.as_slice(), REPLIES);
     drop(lines);
 }

@@ -1,7 +1,8 @@
-//! Worked rows of lines: what a client may ask, lines of replies, lists of events, what readers give, pages and ends
-//! take, how lines are answered, and replays that fail. And of the program's words and its configuration: the order that
-//! a command line gives, or the text that refuses it, and the configuration that a text spells, or none. Each has the
-//! values that it must come to. What a line and its reply can say is in the schedules of `test_replays`.
+//! Worked test cases of lines: the questions of a client, lines of replies, lists of events, the
+//! answers of readers, what pages and ends take, how lines are answered, and replays that fail.
+//! Next to them are the words of the program, as an order or the text of a refusal, and
+//! configurations. Each case has the values that it must come to. Further lines and their replies
+//! are in `tests/rows`.
 #![tactic(auto)]
 
 #[cfg(test)]
@@ -10,6 +11,8 @@ mod answering;
 mod configurations;
 #[cfg(test)]
 mod ends;
+#[cfg(test)]
+mod equal;
 #[cfg(test)]
 mod events;
 #[cfg(test)]

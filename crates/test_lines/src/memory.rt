@@ -1,36 +1,22 @@
-//! What is refused memory is asked for once more: so each row comes to its end whichever growth is refused, where it is
-//! one alone. A sweep refuses each in turn. Whatever else goes wrong stops the test where it does.
+//! If an allocation fails, the call is made once more. So each test passes if any one allocation
+//! fails. A sweep lets each fail in turn.
 
 use ring_lines::DripOut;
-use std::alloc::{AllocFailed, Global};
+use std::alloc::Global;
 use std::process::Abort;
 
-/// What a test says that stops where memory was refused twice.
+/// The text of a test that stops since an allocation failed twice.
 pub const TWICE: &str = "memory was refused twice";
 
-/// Adds an item to a list, and once more where memory was refused.
-pub fn add<T: Drop>(rt: &impl Abort, list: &mut Vec<T>, item: T) {
-    if let Err(AllocFailed { value }) = list.push(item) {
-        assert!(rt; list.push(value).is_ok());
+/// An empty list with room for `len` items. If an allocation fails, it is made once more.
+pub fn room<T: Drop>(rt: &impl Abort, alloc: Global, len: usize) -> Vec<T> {
+    match Vec::with_capacity(alloc, len) {
+        Ok(list) => list,
+        Err(_) => Vec::with_capacity(alloc, len).expect(rt, TWICE),
     }
 }
 
-/// A text of no bytes with room for so many. Asked for once more where memory was refused, as all that follows.
-pub fn text(rt: &impl Abort, alloc: Global, room: usize) -> Vec<u8> {
-    match Vec::with_capacity(alloc, room) {
-        Ok(text) => text,
-        Err(_) => Vec::with_capacity(alloc, room).expect(rt, TWICE),
-    }
-}
-
-/// Puts bytes behind a text.
-pub fn put(rt: &impl Abort, text: &mut Vec<u8>, bytes: &[u8]) {
-    if text.extend_from_slice(bytes).is_err() {
-        assert!(rt; text.extend_from_slice(bytes).is_ok());
-    }
-}
-
-/// A writer that drips.
+/// A writer that drips, made once more in the same way.
 pub fn drip_out(rt: &impl Abort, alloc: Global, room: usize, fault_at: u64) -> DripOut {
     match DripOut::new(alloc, room, fault_at) {
         Ok(out) => out,
@@ -38,13 +24,13 @@ pub fn drip_out(rt: &impl Abort, alloc: Global, room: usize, fault_at: u64) -> D
     }
 }
 
-// Whether two texts begin alike, as far as the shorter one goes, which is not empty.
+// Whether the shorter one of two texts is a prefix of the other, and is not empty.
 fn begin_alike(one: &[u8], other: &[u8]) -> bool {
     let len = one.len().min(other.len());
     len > 0 && one[..len] == other[..len]
 }
 
-/// Whether a text of replies says that memory was refused, or its last line is cut and may go on so.
+/// Whether a text of replies says that memory ran out, or its last line is cut and may go on so.
 pub fn tells_of_memory(text: &[u8]) -> bool {
     let mut start = 0usize;
     for at in 0..text.len() {

@@ -1,11 +1,31 @@
-use crate::memory::text;
-use ring_grammar::{Sink, SinkFailed, print_reply};
+use crate::equal::equal;
+use crate::memory::room;
+use ring_events::{Count, Reply};
+use ring_grammar::{Sink, SinkFailed, print_groups, print_members, print_reply, print_terms};
 use ring_id::Refusal;
-use ring_mux::{Count, Reply};
 use std::alloc::Global;
 use std::process::Abort;
 
-// A list of bytes that takes so many pieces and no more.
+// Puts the line of a reply. The line of a list is put by the call for such lists.
+fn put(reply: &Reply, text: &mut Vec<u8>) -> Result<(), SinkFailed> {
+    match reply {
+        Reply::Members(members) => print_members(members, text),
+        Reply::Terms(leaders) => print_terms(leaders, text),
+        Reply::Groups(names) => print_groups(names, text),
+        _ => print_reply(reply, text),
+    }
+}
+
+// The text of the lines of these replies.
+pub(crate) fn lines_of(rt: &impl Abort, alloc: Global, replies: &[Reply]) -> Vec<u8> {
+    let mut lines = room(rt, alloc, 300);
+    for reply in replies {
+        equal(rt, "a reply", put(reply, &mut lines), Ok(()));
+    }
+    lines
+}
+
+// A list of bytes that takes `room` pieces and no more.
 #[derive(Drop)]
 struct Pieces {
     bytes: Vec<u8>,
@@ -33,53 +53,50 @@ impl Sink for Pieces {
     }
 }
 
-// A reply is printed so.
-fn prints(rt: &impl Abort, alloc: Global, reply: Reply, wanted: &[u8]) {
-    let mut out = text(rt, alloc, 64);
-    assert_eq!(rt; print_reply(&reply, &mut out), Ok(()));
-    assert_eq!(rt; out.as_slice(), wanted);
-    drop(out);
-    drop(reply);
-}
-
-// A drain that was refused memory.
-fn starved(done: u32, left: u128) -> Reply {
+// A drain that ran out of memory.
+fn starved() -> Reply {
     Reply::Drained {
-        done,
-        left: Count::new(left),
+        done: 0,
+        left: Count::new(3),
         starved: true,
     }
 }
 
 #[test]
 fn replies_that_no_schedule_gets(rt: HostRuntime) {
-    let alloc = rt.alloc();
-    let text = b"pending 340282366920938463463374607431768211455\n";
-    prints(&rt, alloc, Reply::Pending(Count::new(u128::MAX)), text);
-    let text = b"drained 0 left 3 no-memory\n";
-    prints(&rt, alloc, starved(0, 3), text);
-    let text = b"no no-memory\n";
-    prints(&rt, alloc, Reply::Refused(Refusal::NoMemory), text);
-    let text = b"no seat-spent\n";
-    prints(&rt, alloc, Reply::Refused(Refusal::SeatSpent), text);
+    let replies = [
+        starved(),
+        Reply::Pending(Count::new(u128::MAX)),
+        Reply::Refused(Refusal::NoMemory),
+        Reply::Refused(Refusal::SeatSpent),
+    ];
+    let lines = lines_of(&rt, rt.alloc(), &replies);
+    drop(replies);
+    let wanted = b"drained 0 left 3 no-memory\npending 340282366920938463463374607431768211455\n\
+        no no-memory\nno seat-spent\n";
+    equal(&rt, "the lines", lines.as_slice(), wanted.as_slice());
+    drop(lines);
 }
 
-// A sink that takes so many pieces of a reply has a front of it then.
-fn has_front(rt: &impl Abort, alloc: Global, reply: &Reply, room: usize) {
+// A sink that takes `room` pieces of a reply has a prefix of it then.
+fn has_front(rt: &impl Abort, alloc: Global, room: usize) {
+    let reply = starved();
     let mut out = Pieces {
         bytes: Vec::new(alloc),
         room,
     };
-    assert_eq!(rt; print_reply(reply, &mut out), Err(SinkFailed));
+    let printed = print_reply(&reply, &mut out);
+    drop(reply);
     let whole = b"drained 0 left 3 no-memory".as_slice();
-    assert_eq!(rt; whole.get(..out.bytes.len()), Some(out.bytes.as_slice()));
+    let front = whole.get(..out.bytes.len()).unwrap_or(whole);
+    let found = (printed, out.bytes.as_slice());
+    equal(rt, "a front", found, (Err(SinkFailed), front));
     drop(out);
 }
 
 #[test]
 fn a_failed_sink_leaves_a_front(rt: HostRuntime) {
-    let reply = starved(0, 3);
     for room in 0..6 {
-        has_front(&rt, rt.alloc(), &reply, room);
+        has_front(&rt, rt.alloc(), room);
     }
 }

@@ -1,4 +1,5 @@
-use crate::memory::{TWICE, text};
+use crate::equal::equal;
+use crate::memory::room;
 use ring_grammar::{Sink, SinkFailed};
 use ring_lines::{
     Answerer, Intake, LineFault, Outlet, Queued, ReadFault, Spell, WriteFailed, answer_lines,
@@ -8,9 +9,10 @@ use std::cell::RefCell;
 use std::process::Abort;
 use std::sync::{Mutex, Wait};
 
-// The lock at which answers queue, and marks of what was done: `r` a line was read, `l` a long one, `q` it was queued for,
-// `a` a line was answered, `z` the answerer rests, `t` it settles, `s` an answer was spelled, `<` a read call, `>` a write
-// call. If the lock was held, the letter is a capital one, and the others are `!`.
+// The lock at which answers queue, and a mark of each step: `r` a line was read, `l` a long one,
+// `q` the answerer queued, `a` a line was answered, `z` the answerer rests, `t` it settles, `s` an
+// answer was spelled, `<` a read call, `>` a write call. If the lock is held, a letter is a capital
+// one, and any other mark is `!`.
 #[derive(Drop)]
 struct Watched {
     door: Mutex<()>,
@@ -18,7 +20,7 @@ struct Watched {
 }
 
 impl Watched {
-    // Notes one of two marks. Nothing where memory is refused.
+    // Notes one of two marks; nothing if an allocation fails.
     fn note(&self, free: u8, held: u8) {
         let mark = match self.door.try_lock() {
             Some(_) => free,
@@ -30,7 +32,7 @@ impl Watched {
     }
 }
 
-// Answers each line by a text, and queues where it doesn't hold the head of the queue.
+// Answers each line by a text, and queues if it does not hold the head of the queue.
 #[derive(Drop)]
 struct Queueing<'a, R> {
     rt: &'a R,
@@ -38,7 +40,7 @@ struct Queueing<'a, R> {
     text: &'a [u8],
 }
 
-// A text, which notes how the lock is while it is spelled.
+// A text that notes whether the lock is held while it is spelled.
 #[derive(Drop)]
 struct Told<'a> {
     watched: &'a Watched,
@@ -150,15 +152,7 @@ impl Outlet for Taking<'_> {
     }
 }
 
-// So many zeros.
-fn zeros(rt: &impl Abort, alloc: Global, len: usize) -> Vec<u8> {
-    match vec![in alloc; 0; len] {
-        Ok(zeros) => zeros,
-        Err(_) => vec![in alloc; 0; len].expect(rt, TWICE),
-    }
-}
-
-// What comes of the lines of these pieces, which are answered by this text.
+// The result of the lines of these pieces. Each line is answered by this text.
 fn answered<'a, R: Wait + AllocGlobal>(
     rt: &'a R,
     watched: &'a Watched,
@@ -182,59 +176,66 @@ fn answered<'a, R: Wait + AllocGlobal>(
     )
 }
 
-// What comes of the lines of these pieces, which are answered by a text of so many bytes, and the marks that are noted.
+// The result of the lines of these pieces, and the marks that are noted. Each line is answered by
+// this text.
 fn noted<R: Wait + Abort + AllocGlobal>(
     rt: &R,
     pieces: &[&[u8]],
-    len: usize,
+    text: &[u8],
 ) -> (Result<u64, LineFault>, Vec<u8>) {
-    let zeros = zeros(rt, rt.alloc(), len);
     let watched = Watched {
         door: Mutex::new(()),
-        log: RefCell::new(text(rt, rt.alloc(), 210)),
+        log: RefCell::new(room(rt, rt.alloc(), 210)),
     };
-    let answer = answered(rt, &watched, pieces, &zeros);
-    drop(zeros);
+    let answer = answered(rt, &watched, pieces, text);
     (answer, watched.log.into_inner())
 }
 
-// Stops the test if other marks are noted. It is tried again if it ran out of memory.
-fn assert_notes<R: Wait + Abort + AllocGlobal>(
-    rt: &R,
-    pieces: &[&[u8]],
-    len: usize,
-    wanted: &[u8],
-) {
-    let (mut answer, mut marks) = noted(rt, pieces, len);
+// Pieces, the text that answers each of their lines, the number of lines, and the marks.
+type Case<'a> = (&'a [&'a [u8]], &'a [u8], u64, &'a [u8]);
+
+// A text of which the page holds one, but not two.
+const LONG: [u8; 40000] = [0; 40000];
+
+// At most 64 lines are answered together.
+const MANY: &[u8] = b"<\
+    rrrrrrrrrrrrrrrrrrrrrrrrrrrrrrrrrrrrrrrrrrrrrrrrrrrrrrrrrrrrrrrr\
+    q\
+    AAAAAAAAAAAAAAAAAAAAAAAAAAAAAAAAAAAAAAAAAAAAAAAAAAAAAAAAAAAAAAAA\
+    Zt\
+    ssssssssssssssssssssssssssssssssssssssssssssssssssssssssssssssss\
+    rqAZts><";
+
+const CASES: [Case<'static>; 5] = [
+    (&[b"a\nb\nc", b"d\n"], b"short", 3, b"<rrqAAZtss><rqAZts><"),
+    (&[b"a\n", b"b"], b"short", 2, b"<rqAZts><<rqAZts>"),
+    (&[&[b'a'; 200], b"\nb\n"], b"short", 2, b"<<lrqAAZtss><"),
+    // the page is full after the first answer of three
+    (&[b"a\nb\nc\nd"], &LONG, 4, b"<rrrqAAAZtss>>s><rqAZts>"),
+    (&[&[b'\n'; 65]], b"short", 65, MANY),
+];
+
+// Stops the test unless these lines are answered, with these marks. They are answered again if the
+// call ran out of memory.
+fn is_noted<R: Wait + Abort + AllocGlobal>(rt: &R, case: &Case) {
+    let (pieces, text, lines, wanted) = *case;
+    let (mut answer, mut marks) = noted(rt, pieces, text);
     if answer == Err(LineFault::NoMemory) {
         drop(marks);
-        (answer, marks) = noted(rt, pieces, len);
+        (answer, marks) = noted(rt, pieces, text);
     }
-    assert_eq!(rt; marks.as_slice(), wanted);
-    assert!(rt; answer.is_ok(), "{answer:?}");
+    equal(
+        rt,
+        "the answer and the marks",
+        (answer, marks.as_slice()),
+        (Ok(lines), wanted),
+    );
     drop(marks);
 }
 
 #[test]
-fn the_queue_is_held_while_lines_are_answered(rt: HostRuntime) {
-    assert_notes(&rt, &[b"a\nb\nc", b"d\n"], 9, b"<rrqAAZtss><rqAZts><");
-    assert_notes(&rt, &[b"a\n", b"b"], 9, b"<rqAZts><<rqAZts>");
-    assert_notes(&rt, &[&[b'a'; 200], b"\nb\n"], 9, b"<<lrqAAZtss><");
-}
-
-#[test]
-fn the_queue_is_left_where_the_page_is_full(rt: HostRuntime) {
-    assert_notes(&rt, &[b"a\nb\nc\nd"], 40000, b"<rrrqAAAZtss>>s><rqAZts>");
-}
-
-#[test]
-fn at_most_64_lines_are_answered_together(rt: HostRuntime) {
-    let mut wanted = [b'r'; 204];
-    wanted[0] = b'<';
-    wanted[65] = b'q';
-    wanted[66..130].fill(b'A');
-    wanted[130..132].copy_from_slice(b"Zt");
-    wanted[132..196].fill(b's');
-    wanted[196..].copy_from_slice(b"rqAZts><");
-    assert_notes(&rt, &[&[b'\n'; 65]], 9, &wanted);
+fn the_queue_is_held_while_lines_are_answered_and_left_while_they_are_written(rt: HostRuntime) {
+    for case in &CASES {
+        is_noted(&rt, case);
+    }
 }

@@ -1,3 +1,4 @@
+use crate::equal::equal;
 use crate::memory::TWICE;
 use ring_lines::{DripIn, FromRead, Intake, LineFault, LineReader, Next};
 use std::alloc::{AllocFailed, Global};
@@ -5,7 +6,7 @@ use std::io;
 use std::io::{ErrorKind, Read};
 use std::process::Abort;
 
-// A reader over memory that is interrupted at every other call.
+// A reader over memory. If it was not interrupted at a call, it is at the next one.
 #[derive(Drop)]
 struct Stutter<'a> {
     bytes: DripIn<'a>,
@@ -22,7 +23,8 @@ impl Read for Stutter<'_> {
     }
 }
 
-// The lines of a reader; asked for again where memory is refused, with the reader that came back.
+// The lines of a reader. If an allocation fails, the call is made once more, with the reader that
+// came back.
 fn lines_of<R: Intake + Drop>(
     rt: &impl Abort,
     alloc: Global,
@@ -38,7 +40,7 @@ fn lines_of<R: Intake + Drop>(
     }
 }
 
-// An answer as text: a line as itself, and what else there is in angle brackets.
+// An answer as text: a line as itself, and any other answer in angle brackets.
 fn shown(next: &Next) -> &[u8] {
     match next {
         Next::Line(line) => line.bytes(),
@@ -53,11 +55,11 @@ fn shown(next: &Next) -> &[u8] {
 // The next answers of a reader are these.
 fn gives<R: Intake>(rt: &impl Abort, lines: &mut LineReader<R>, answers: &[&[u8]]) {
     for answer in answers {
-        assert_eq!(rt; shown(&lines.next()), *answer);
+        equal(rt, "a line", shown(&lines.next()), *answer);
     }
 }
 
-// What is read by so many calls at most is given so.
+// A reader gives these answers, with `reads` calls at most.
 fn is_read<R: Intake + Drop>(
     rt: &(impl Abort + AllocGlobal),
     reader: R,
@@ -69,37 +71,59 @@ fn is_read<R: Intake + Drop>(
     drop(lines);
 }
 
-#[test]
-fn an_end_needs_no_lf_and_adds_no_line(rt: HostRuntime) {
-    let unended = DripIn::new(b"create a chang\njoin a 3", 0);
-    let answers = [
-        b"create a chang".as_slice(),
-        b"join a 3",
-        b"<end>",
-        b"<end>",
-    ];
-    is_read(&rt, unended, 1000, &answers);
-    is_read(&rt, DripIn::new(b"", 0), 1000, &[b"<end>"]);
-    let ended = FromRead(b"a\n\nb\n".as_slice());
-    is_read(&rt, ended, 1000, &[b"a", b"", b"b", b"<end>"]);
-}
+// A text, the read call at which its reader fails, the number of read calls, and the answers.
+type Case<'a> = (&'a [u8], u64, u32, &'a [&'a [u8]]);
+
+const CASES: [Case<'static>; 5] = [
+    // an end needs no LF
+    (
+        b"create a chang\njoin a 3",
+        0,
+        1000,
+        &[b"create a chang", b"join a 3", b"<end>", b"<end>"],
+    ),
+    (b"", 0, 1000, &[b"<end>"]),
+    // a failed read drops the line that it cuts
+    (CUT, 28, 1000, &CUT_LINES),
+    // read calls are counted
+    (
+        b"create a chang\n",
+        0,
+        15,
+        &[b"create a chang", b"<endless>", b"<endless>"],
+    ),
+    (
+        b"create a chang\n",
+        0,
+        16,
+        &[b"create a chang", b"<end>", b"<end>"],
+    ),
+];
+
+const CUT: &[u8] = b"create a chang\njoin a 3\njoi";
+
+const CUT_LINES: [&[u8]; 4] = [b"create a chang", b"join a 3", b"<read>", b"<read>"];
 
 #[test]
-fn a_line_is_held_once_it_was_read(rt: HostRuntime) {
-    let mut lines = lines_of(&rt, rt.alloc(), FromRead(b"a\n\nb\n".as_slice()), 1000);
-    assert!(rt; !lines.has_line());
-    gives(&rt, &mut lines, &[b"a"]);
-    assert!(rt; lines.has_line());
-    gives(&rt, &mut lines, &[b"", b"b"]);
-    assert!(rt; !lines.has_line());
-    drop(lines);
+fn lines_are_read_byte_by_byte(rt: HostRuntime) {
+    for (text, fault_at, reads, answers) in &CASES {
+        is_read(&rt, DripIn::new(text, *fault_at), *reads, answers);
+    }
 }
 
+// Texts that are read whole, and their lines: an end adds no line, and a longer line than 128 bytes
+// is answered once.
+const WHOLE: [(&[u8], &[&[u8]]); 3] = [
+    (b"a\n\nb\n", &[b"a", b"", b"b", b"<end>"]),
+    (&[b'x'; 128], &[&[b'x'; 128], b"<end>"]),
+    (&[b'x'; 129], &[b"<long>", b"<end>"]),
+];
+
 #[test]
-fn a_longer_line_than_128_bytes_is_answered_once(rt: HostRuntime) {
-    let text = [b'x'; 129];
-    is_read(&rt, FromRead(&text[..128]), 1000, &[&text[..128], b"<end>"]);
-    is_read(&rt, FromRead(text.as_slice()), 1000, &[b"<long>", b"<end>"]);
+fn lines_are_read_by_std(rt: HostRuntime) {
+    for (text, answers) in &WHOLE {
+        is_read(&rt, FromRead(*text), 1000, answers);
+    }
     let long = io::repeat(b'x').take(100000);
     let text = b"a\n".as_slice().chain(long).chain(b"\nb\n".as_slice());
     is_read(
@@ -108,36 +132,34 @@ fn a_longer_line_than_128_bytes_is_answered_once(rt: HostRuntime) {
         1000,
         &[b"a", b"<long>", b"b", b"<end>"],
     );
+    is_read(&rt, FromRead(DripIn::new(CUT, 28)), 1000, &CUT_LINES);
 }
 
 #[test]
-fn a_failed_read_drops_the_line_that_it_cuts(rt: HostRuntime) {
-    let text = b"create a chang\njoin a 3\njoi".as_slice();
-    let answers = [
-        b"create a chang".as_slice(),
-        b"join a 3",
-        b"<read>",
-        b"<read>",
-    ];
-    is_read(&rt, DripIn::new(text, 28), 1000, &answers);
-    is_read(&rt, FromRead(DripIn::new(text, 28)), 1000, &answers);
-}
-
-// A reader that is interrupted at the first call, and at every other call then.
-fn stuttering() -> FromRead<Stutter<'static>> {
-    FromRead(Stutter {
-        bytes: DripIn::new(b"a\n", 0),
-        interrupted: false,
-    })
+fn a_line_is_held_once_it_was_read(rt: HostRuntime) {
+    let mut lines = lines_of(&rt, rt.alloc(), FromRead(b"a\n\nb\n".as_slice()), 1000);
+    let at_first = lines.has_line();
+    gives(&rt, &mut lines, &[b"a"]);
+    let then = lines.has_line();
+    gives(&rt, &mut lines, &[b"", b"b"]);
+    let at_last = lines.has_line();
+    drop(lines);
+    equal(
+        &rt,
+        "the ends",
+        (at_first, then, at_last),
+        (false, true, false),
+    );
 }
 
 #[test]
-fn read_calls_are_counted(rt: HostRuntime) {
-    let text = b"create a chang\n".as_slice();
-    let endless = [b"create a chang".as_slice(), b"<endless>", b"<endless>"];
-    is_read(&rt, DripIn::new(text, 0), 15, &endless);
-    let ended = [b"create a chang".as_slice(), b"<end>", b"<end>"];
-    is_read(&rt, DripIn::new(text, 0), 16, &ended);
-    is_read(&rt, stuttering(), 5, &[b"a", b"<endless>"]);
-    is_read(&rt, stuttering(), 6, &[b"a", b"<end>"]);
+fn interrupted_calls_are_counted(rt: HostRuntime) {
+    for (reads, answers) in [(5, [b"a".as_slice(), b"<endless>"]), (6, [b"a", b"<end>"])] {
+        let bytes = DripIn::new(b"a\n", 0);
+        let reader = Stutter {
+            bytes,
+            interrupted: false,
+        };
+        is_read(&rt, FromRead(reader), reads, &answers);
+    }
 }

@@ -1,3 +1,4 @@
+use crate::equal::equal;
 use crate::memory::{drip_out, tells_of_memory};
 use ring_lines::{DripIn, DripOut, FromRead, LineFault, ToWrite};
 use ring_schedule::replay;
@@ -10,155 +11,160 @@ const LINES: &[u8] =
 
 const REPLIES: &[u8] = b"ok\nok\nok\nok\nterm 1\npending 3\ndrained 8 left 0\nleader 1 3\n";
 
-// What a replay is given, by ends of one byte for each call that fail at a call of these numbers.
+// The ends of each line and of its reply.
+const ENDS: [(usize, usize); 8] = [
+    (15, 3),
+    (24, 6),
+    (33, 9),
+    (42, 12),
+    (50, 19),
+    (60, 29),
+    (72, 46),
+    (80, 57),
+];
+
+// The input of a replay, the calls at which its ends fail, the number of read calls, its result and
+// the bytes that it writes. Its ends pass one byte a call.
 #[derive(Clone, Copy)]
-struct Given<'a> {
+struct Case<'a> {
     input: &'a [u8],
     read_fault: u64,
     reads: u32,
     write_fault: u64,
+    answer: Result<u64, LineFault>,
+    written: &'a [u8],
 }
 
-fn whole(input: &[u8]) -> Given<'_> {
-    Given {
-        input,
-        read_fault: 0,
-        reads: 1000,
-        write_fault: 0,
-    }
-}
+const WHOLE: Case<'static> = Case {
+    input: LINES,
+    read_fault: 0,
+    reads: 1000,
+    write_fault: 0,
+    answer: Ok(8),
+    written: REPLIES,
+};
 
-// What a replay comes to, and its writer.
+// The result of a replay, and its writer.
 type Came = (Result<u64, LineFault>, DripOut);
 
 // A replay by these ends themselves.
-fn by_ends(rt: &impl Abort, alloc: Global, given: Given) -> Came {
-    let mut reader = DripIn::new(given.input, given.read_fault);
-    let mut writer = drip_out(rt, alloc, 100, given.write_fault);
-    let answer = replay(alloc, &mut reader, &mut writer, given.reads);
+fn by_ends(rt: &impl Abort, alloc: Global, case: &Case) -> Came {
+    let mut reader = DripIn::new(case.input, case.read_fault);
+    let mut writer = drip_out(rt, alloc, 100, case.write_fault);
+    let answer = replay(alloc, &mut reader, &mut writer, case.reads);
     (answer, writer)
 }
 
 // A replay by a reader and a writer of std over these ends.
-fn by_std(rt: &impl Abort, alloc: Global, given: Given) -> Came {
-    let mut reader = FromRead(DripIn::new(given.input, given.read_fault));
-    let mut writer = ToWrite(drip_out(rt, alloc, 100, given.write_fault));
-    let answer = replay(alloc, &mut reader, &mut writer, given.reads);
+fn by_std(rt: &impl Abort, alloc: Global, case: &Case) -> Came {
+    let mut reader = FromRead(DripIn::new(case.input, case.read_fault));
+    let mut writer = ToWrite(drip_out(rt, alloc, 100, case.write_fault));
+    let answer = replay(alloc, &mut reader, &mut writer, case.reads);
     (answer, writer.0)
 }
 
-// Whether a replay that comes to something else than this ran out of memory.
-fn is_refused(came: &Came, answer: Result<u64, LineFault>, written: &[u8]) -> bool {
-    let is_starved = came.0 == Err(LineFault::NoMemory) || tells_of_memory(came.1.taken());
-    is_starved && (came.0 != answer || came.1.taken() != written)
+// Whether a replay that came to something else ran out of memory.
+fn is_refused(came: &Came, case: &Case) -> bool {
+    let (answer, written) = (came.0, came.1.taken());
+    let is_starved = answer == Err(LineFault::NoMemory) || tells_of_memory(written);
+    is_starved && (answer != case.answer || written != case.written)
 }
 
-// Stops the test if a replay came to something else than this.
-fn assert_came(rt: &impl Abort, came: Came, answer: Result<u64, LineFault>, written: &[u8]) {
-    assert_eq!(rt; came.0, answer);
-    assert_eq!(rt; came.1.taken(), written);
+// Stops the test unless a replay comes to this, by these ends and by std. A replay that ran out of
+// memory is repeated.
+fn comes(rt: &(impl Abort + AllocGlobal), case: &Case) {
+    let mut came = by_ends(rt, rt.alloc(), case);
+    if is_refused(&came, case) {
+        drop(came);
+        came = by_ends(rt, rt.alloc(), case);
+    }
+    equal(
+        rt,
+        "by drips",
+        (came.0, came.1.taken()),
+        (case.answer, case.written),
+    );
+    drop(came);
+    let mut came = by_std(rt, rt.alloc(), case);
+    if is_refused(&came, case) {
+        drop(came);
+        came = by_std(rt, rt.alloc(), case);
+    }
+    equal(
+        rt,
+        "by std",
+        (came.0, came.1.taken()),
+        (case.answer, case.written),
+    );
     drop(came);
 }
 
-// Stops the test if a replay comes to something else, by these ends or by std. A replay that ran out of memory is
-// repeated.
-fn assert_comes(
-    rt: &(impl Abort + AllocGlobal),
-    given: Given,
-    answer: Result<u64, LineFault>,
-    written: &[u8],
-) {
-    let mut came = by_ends(rt, rt.alloc(), given);
-    if is_refused(&came, answer, written) {
-        drop(came);
-        came = by_ends(rt, rt.alloc(), given);
-    }
-    assert_came(rt, came, answer, written);
-    let mut came = by_std(rt, rt.alloc(), given);
-    if is_refused(&came, answer, written) {
-        drop(came);
-        came = by_std(rt, rt.alloc(), given);
-    }
-    assert_came(rt, came, answer, written);
+// The first bytes of the replies.
+fn front(len: usize) -> &'static [u8] {
+    REPLIES.get(..len).unwrap_or(REPLIES)
 }
 
-// The first bytes of a text.
-fn front(text: &[u8], len: usize) -> &[u8] {
-    text.get(..len).unwrap_or(text)
-}
-
-// How many lines end in a text.
-fn lines_in(text: &[u8]) -> usize {
-    let mut count = 0usize;
-    for byte in text {
-        if *byte == b'\n' {
-            count = count.saturating_add(1);
+// The replies to the lines that end in the first bytes of the input.
+fn replies_within(len: usize) -> &'static [u8] {
+    let mut told = 0;
+    for (line, reply) in &ENDS {
+        if *line <= len {
+            told = *reply;
         }
     }
-    count
-}
-
-// The first lines of a text.
-fn first_lines(text: &[u8], count: usize) -> &[u8] {
-    let mut ended = 0usize;
-    for len in 0..text.len() {
-        if ended == count {
-            return &text[..len];
-        }
-        if text[len] == b'\n' {
-            ended = ended.saturating_add(1);
-        }
-    }
-    text
+    front(told)
 }
 
 #[test]
 fn a_failed_read_drops_the_line_that_it_cuts(rt: HostRuntime) {
     for call in 1..82u64 {
-        let given = Given {
+        let case = Case {
             read_fault: call,
-            ..whole(LINES)
+            answer: Err(LineFault::Read),
+            written: replies_within(call as usize - 1),
+            ..WHOLE
         };
-        let ended = lines_in(front(LINES, call as usize - 1));
-        assert_comes(
-            &rt,
-            given,
-            Err(LineFault::Read),
-            first_lines(REPLIES, ended),
-        );
+        comes(&rt, &case);
     }
-    let given = Given {
-        read_fault: 82,
-        ..whole(LINES)
-    };
-    assert_comes(&rt, given, Ok(8), REPLIES);
+    comes(
+        &rt,
+        &Case {
+            read_fault: 82,
+            ..WHOLE
+        },
+    );
 }
 
 #[test]
 fn endless_input_is_answered_as_far_as_it_was_read(rt: HostRuntime) {
-    let given = whole(b"create a chang\n");
-    assert_comes(
-        &rt,
-        Given { reads: 15, ..given },
-        Err(LineFault::Endless),
-        b"ok\n",
-    );
-    assert_comes(&rt, Given { reads: 16, ..given }, Ok(1), b"ok\n");
+    for (reads, answer) in [(15, Err(LineFault::Endless)), (16, Ok(1))] {
+        let case = Case {
+            input: b"create a chang\n",
+            reads,
+            answer,
+            written: b"ok\n",
+            ..WHOLE
+        };
+        comes(&rt, &case);
+    }
 }
 
 #[test]
 fn a_failed_write_leaves_a_front_of_the_replies(rt: HostRuntime) {
     for call in 1..58u64 {
-        let given = Given {
+        let case = Case {
             write_fault: call,
-            ..whole(LINES)
+            answer: Err(LineFault::Write),
+            written: front(call as usize - 1),
+            ..WHOLE
         };
-        let written = front(REPLIES, call as usize - 1);
-        assert_comes(&rt, given, Err(LineFault::Write), written);
+        comes(&rt, &case);
     }
-    let given = Given {
-        write_fault: 58,
-        ..whole(LINES)
-    };
-    assert_comes(&rt, given, Ok(8), REPLIES);
+    comes(
+        &rt,
+        &Case {
+            write_fault: 58,
+            ..WHOLE
+        },
+    );
 }

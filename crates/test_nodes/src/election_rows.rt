@@ -1,4 +1,4 @@
-//! Elections on worked rings: how many messages each takes, and what its members have decided then.
+//! Elections on worked rings: the number of messages, and the decisions of the members.
 
 use crate::course::Course;
 use crate::equal::equal;
@@ -12,81 +12,120 @@ use ring_lelann::{LeLann, work_is_square};
 use ring_peterson::{Peterson, rounds_shrink};
 use std::alloc::Global;
 use std::process::Abort;
-use std::slice;
 
-/// The numbers of a ring, how many messages its election takes, and on what each member has decided then.
-type Row<'a> = (&'a [u32], u32, &'a [Option<u32>]);
+/// The numbers of a ring, the messages of its election, the bound on messages, and the decisions of
+/// its members, a digit each; 0 for none.
+type Row<'a> = (&'a [u32], usize, usize, u32);
 
-/// The election on each of these rings comes to what its row says.
-fn elects<E: RingElection>(rt: &impl Abort, alloc: Global, algorithm: E, rows: &[Row]) {
+/// The election on each ring comes to what its row says.
+fn elect<E: RingElection>(rt: &impl Abort, alloc: Global, algorithm: E, rows: &[Row]) {
     for row in rows {
-        let mut ring = Course::started(rt, alloc, algorithm, row.0);
-        let messages = ring.settled(rt);
-        let decisions = ring.decisions(rt, alloc);
-        let found = (row.0, messages, decisions.as_slice());
-        equal(rt, "an election", found, *row);
-        drop(decisions);
-        drop(ring);
+        let mut course = Course::started(rt, alloc, algorithm, row.0);
+        let messages = course.settled(rt);
+        let decisions = course.decisions();
+        drop(course);
+        equal(
+            rt,
+            "an election",
+            (row.0, messages, decisions),
+            (row.0, row.1, row.3),
+        );
+        assert!(rt; messages <= row.2, "{messages} is above {}", row.2);
     }
 }
 
 /// Elections of LeLann.
 const LELANN: [Row; 4] = [
-    (&[7], 1, &[Some(7)]),
-    (&[5, 9], 4, &[Some(9); 2]),
-    (&[3, 1, 2], 9, &[Some(3); 3]),
-    (&[4, 1, 3, 2], 16, &[Some(4); 4]),
+    (&[7], 1, 1, 7),
+    (&[5, 9], 4, 4, 99),
+    (&[3, 1, 2], 9, 9, 333),
+    (&[4, 1, 3, 2], 16, 16, 4444),
 ];
 
+/// Elections of Chang and Roberts.
+const CHANG: [Row; 4] = [
+    (&[3, 1, 2], 5, 6, 300),
+    (&[3, 2, 1], 6, 6, 300),
+    (&[1, 2], 3, 3, 2),
+    (&[7], 1, 1, 7),
+];
+
+/// Elections of Hirschberg and Sinclair.
+const HIRSCHBERG: [Row; 4] = [
+    (&[3, 1, 2], 23, 60, 300),
+    (&[1, 2, 3, 4], 28, 80, 4),
+    (&[5, 9], 10, 24, 9),
+    (&[7], 2, 4, 7),
+];
+
+/// Elections of Peterson.
+const PETERSON: [Row; 4] = [
+    (&[3, 1, 2], 12, 12, 10),
+    (&[4, 1, 3, 2], 24, 24, 2),
+    (&[5, 9], 8, 8, 50),
+    (&[7], 2, 2, 7),
+];
+
+/// Each algorithm is run by itself, and as a kind of `Any`.
 #[test]
-fn all_elect_the_greatest_by_lelann_with_n_times_n_messages(rt: HostRuntime) {
+fn the_greatest_alone_decides_or_all_by_lelann(rt: HostRuntime) {
     work_is_square();
-    elects(&rt, rt.alloc(), LeLann, &LELANN);
+    one_winner::<Chang>();
+    phases_are_few();
+    messages_are_few();
+    let alloc = rt.alloc();
+    elect(&rt, alloc, LeLann, &LELANN);
+    elect(&rt, alloc, Any::LeLann, &LELANN);
+    elect(&rt, alloc, Chang, &CHANG);
+    elect(&rt, alloc, Any::Chang, &CHANG);
+    elect(&rt, alloc, Hirschberg, &HIRSCHBERG);
+    elect(&rt, alloc, Any::Hirschberg, &HIRSCHBERG);
+    let ways = (Hirschberg.two_way(), Hirschberg.greatest());
+    equal(&rt, "two ways, and the greatest", ways, (true, true));
 }
 
-/// Receives a message from that side, and has decided so then.
+#[test]
+fn the_last_position_alone_decides_by_peterson(rt: HostRuntime) {
+    rounds_shrink();
+    elect(&rt, rt.alloc(), Peterson, &PETERSON);
+    elect(&rt, rt.alloc(), Any::Peterson, &PETERSON);
+    let ways = (Peterson.two_way(), Peterson.greatest());
+    equal(&rt, "two ways, and the greatest", ways, (false, false));
+}
+
+/// A node receives these messages, each from its side, and has decided so after each.
 fn receives<E: RingElection>(
     rt: &impl Abort,
     algorithm: E,
     state: &mut E::State,
-    from: Side,
-    message: E::Msg,
-    decision: Option<NodeId>,
+    messages: &[(Side, E::Msg, Option<NodeId>)],
 ) {
-    let received = algorithm.receive(state, from, message).is_ok();
-    let found = (received, algorithm.decision(state));
-    equal(rt, "received, and decided", found, (true, decision));
+    for (from, message, decision) in messages {
+        let received = algorithm.receive(state, *from, *message).is_ok();
+        let found = (received, algorithm.decision(state));
+        equal(rt, "received, and decided", found, (true, *decision));
+    }
 }
 
 #[test]
 fn a_node_of_lelann_shows_what_it_has_seen(rt: HostRuntime) {
-    let [me, second, third] = [identity(&rt, 3), identity(&rt, 2), identity(&rt, 1)];
+    let me = identity(&rt, 3);
+    let (second, third) = (identity(&rt, 2), identity(&rt, 1));
+    let messages = [
+        (Side::Left, second, None),
+        (Side::Right, me, None),
+        (Side::Left, third, None),
+        (Side::Left, me, Some(me)),
+    ];
     let (mut state, _) = LeLann.start(rt.alloc(), me);
-    receives(&rt, LeLann, &mut state, Side::Left, second, None);
-    receives(&rt, LeLann, &mut state, Side::Right, me, None);
-    receives(&rt, LeLann, &mut state, Side::Left, third, None);
-    receives(&rt, LeLann, &mut state, Side::Left, me, Some(me));
-    let seen = [second, third];
-    equal(&rt, "seen", state.seen(), seen.as_slice());
+    receives(&rt, LeLann, &mut state, &messages);
+    equal(&rt, "seen", state.seen(), [second, third].as_slice());
     drop(state);
 }
 
-/// Elections of Chang and Roberts.
-const CHANG: [Row; 4] = [
-    (&[3, 1, 2], 5, &[Some(3), None, None]),
-    (&[3, 2, 1], 6, &[Some(3), None, None]),
-    (&[1, 2], 3, &[None, Some(2)]),
-    (&[7], 1, &[Some(7)]),
-];
-
-#[test]
-fn the_greatest_alone_decides_by_chang(rt: HostRuntime) {
-    one_winner::<Chang>();
-    elects(&rt, rt.alloc(), Chang, &CHANG);
-}
-
-/// How many messages of Chang and Roberts fit all right links of the ring of these numbers.
-fn fitting_in_all(rt: &impl Abort, alloc: Global, numbers: &[u32]) -> usize {
+/// The messages of Chang and Roberts that fit the right links of the ring of these numbers are as
+/// many as wanted.
+fn fit(rt: &impl Abort, alloc: Global, numbers: &[u32], wanted: usize) {
     let ring = ring(rt, alloc, numbers);
     let mut sum: usize = 0;
     for position in 0..ring.len() {
@@ -95,95 +134,19 @@ fn fitting_in_all(rt: &impl Abort, alloc: Global, numbers: &[u32]) -> usize {
         drop(fits);
     }
     drop(ring);
-    sum
-}
-
-#[test]
-fn so_many_messages_of_chang_fit_a_ring(rt: HostRuntime) {
-    let alloc = rt.alloc();
-    let (up, down) = (rising(&rt, alloc, 256), falling(&rt, alloc, 256));
-    let fitting = [
-        fitting_in_all(&rt, alloc, &[3, 1, 2]),
-        fitting_in_all(&rt, alloc, &up),
-        fitting_in_all(&rt, alloc, &down),
-    ];
-    drop(up);
-    drop(down);
-    equal(&rt, "messages", fitting, [5, 511, 32896]);
+    equal(rt, "messages", sum, wanted);
 }
 
 #[test]
 fn a_falling_ring_reaches_the_bound_of_chang(rt: HostRuntime) {
     work_is_triangular();
     let alloc = rt.alloc();
+    fit(&rt, alloc, &[3, 1, 2], 5);
+    fit(&rt, alloc, &rising(&rt, alloc, 256), 511);
+    fit(&rt, alloc, &falling(&rt, alloc, 256), 32896);
+    let mut bound: usize = 0;
     for length in 1..17_u32 {
-        let bound = length as usize * (length as usize + 1) / 2;
-        let fitting = fitting_in_all(&rt, alloc, &falling(&rt, alloc, length));
-        equal(&rt, "messages", fitting, bound);
+        bound = bound.saturating_add(length as usize);
+        fit(&rt, alloc, &falling(&rt, alloc, length), bound);
     }
-}
-
-/// Each of these rows has at most so many messages.
-fn take_at_most(rt: &impl Abort, rows: &[Row], bounds: &[u32]) {
-    assert_eq!(rt; rows.len(), bounds.len());
-    for (row, bound) in rows.iter().zip(bounds) {
-        assert!(rt; row.1 <= *bound, "{} is above {bound}", row.1);
-    }
-}
-
-/// Elections of Hirschberg and Sinclair.
-const HIRSCHBERG: [Row; 4] = [
-    (&[3, 1, 2], 23, &[Some(3), None, None]),
-    (&[1, 2, 3, 4], 28, &[None, None, None, Some(4)]),
-    (&[5, 9], 10, &[None, Some(9)]),
-    (&[7], 2, &[Some(7)]),
-];
-
-#[test]
-fn the_greatest_alone_decides_by_hirschberg(rt: HostRuntime) {
-    assert!(rt; Hirschberg.two_way() & Hirschberg.greatest());
-    phases_are_few();
-    messages_are_few();
-    let rows = &HIRSCHBERG;
-    take_at_most(&rt, rows, &[60, 80, 24, 4]);
-    elects(&rt, rt.alloc(), Hirschberg, rows);
-}
-
-/// Elections of Peterson.
-const PETERSON: [Row; 4] = [
-    (&[3, 1, 2], 12, &[None, Some(1), None]),
-    (&[4, 1, 3, 2], 24, &[None, None, None, Some(2)]),
-    (&[5, 9], 8, &[Some(5), None]),
-    (&[7], 2, &[Some(7)]),
-];
-
-#[test]
-fn the_last_position_alone_decides_by_peterson(rt: HostRuntime) {
-    rounds_shrink();
-    assert!(rt; !Peterson.two_way() && !Peterson.greatest());
-    elects(&rt, rt.alloc(), Peterson, &PETERSON);
-}
-
-/// Elections of each kind.
-const KINDS: [(Any, Row); 8] = [
-    (Any::LeLann, (&[3, 1, 2], 9, &[Some(3); 3])),
-    (Any::Chang, (&[3, 1, 2], 5, &[Some(3), None, None])),
-    (Any::Hirschberg, (&[3, 1, 2], 23, &[Some(3), None, None])),
-    (Any::Peterson, (&[3, 1, 2], 12, &[None, Some(1), None])),
-    (Any::LeLann, (&[7], 1, &[Some(7)])),
-    (Any::Chang, (&[7], 1, &[Some(7)])),
-    (Any::Hirschberg, (&[7], 2, &[Some(7)])),
-    (Any::Peterson, (&[7], 2, &[Some(7)])),
-];
-
-/// The election of each kind comes to what the row beside it says.
-fn each_elects<E: RingElection>(rt: &impl Abort, alloc: Global, kinds: &[(E, Row)]) {
-    for (kind, row) in kinds {
-        elects(rt, alloc, *kind, slice::from_ref(row));
-    }
-}
-
-#[test]
-fn each_kind_elects_its_winner(rt: HostRuntime) {
-    each_elects(&rt, rt.alloc(), &KINDS);
 }

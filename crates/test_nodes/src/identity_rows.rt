@@ -9,23 +9,21 @@ fn identities_are_in_the_order_of_weights_and_then_of_numbers(rt: HostRuntime) {
     let (light, one) = (identity(&rt, 4294967295), identity(&rt, 1));
     let (heavy, next) = (weighted(&rt, 1, 9), weighted(&rt, 2, 9));
     let order = [light < heavy, heavy < next, heavy != one];
-    equal(&rt, "the order", order, [true; 3]);
     let greater = [
         is_greater(heavy, light),
         is_greater(heavy, next),
         is_greater(heavy, heavy),
     ];
-    equal(&rt, "greater", greater, [true, false, false]);
-    let zeros = (NodeId::weighted(0, 9), NodeNo::new(0));
-    equal(&rt, "no identity is 0", zeros, (None, None));
-    let weights = [heavy.weight(), light.weight()];
-    equal(&rt, "weights", weights, [9, 0]);
+    let wanted = ([true; 3], [true, false, false]);
+    equal(&rt, "the order, and greater", (order, greater), wanted);
     let number = heavy.number();
-    equal(&rt, "its digits", number.get(), heavy.get());
-    equal(&rt, "a number", NodeNo::new(1), Some(number));
-    let same = [
+    let found = (heavy.weight(), light.weight(), number.get());
+    equal(&rt, "weights, and digits", found, (9, 0, heavy.get()));
+    let numbers = (NodeNo::new(1), NodeNo::new(0), NodeId::weighted(0, 9));
+    equal(&rt, "no number is 0", numbers, (Some(number), None, None));
+    let same = (
         same_ids(&[light, heavy], &[light, heavy]),
         same_ids(&[light], &[heavy]),
-    ];
-    equal(&rt, "the same", same, [true, false]);
+    );
+    equal(&rt, "the same", same, (true, false));
 }

@@ -1,6 +1,9 @@
-//! What no clause of inboxes says: that calls succeed where they can, in one thread and across threads, for items that own memory.
-ghost use Rattle.std.specs.Prelude.{◌≡◌};
+//! What no clause of inboxes says: calls succeed if they can, in one thread and across threads, for
+//! items that own memory.
+ghost use Rattle.std.specs.Prelude.{◌≡◌, []};
+ghost use Rattle.ring_inbox.specs.Values.{fresh_sender};
 
+mod hearing;
 mod one_thread;
 mod threads;
 
@@ -10,7 +13,9 @@ use std::process::Abort;
 
 // An inbox of two, which has one sender.
 fn alone<T: Drop>(rt: &impl Abort, alloc: Global) -> (ReceiverPass<T>, SenderPass<T>)
-    ensures { result.1.inbox ≡ result.0.inbox }
+    ensures receiver { (result.0.taken ≡ []) × (result.0.inbox.capacity ≡ 2)
+        × (result.0.inbox.senders ≡ 1) }
+    ensures sender { result.1 ≡ fresh_sender result.0.inbox 0 }
 {
     let (receiver, mut senders) = inbox::<T>(alloc, 2, 1).expect(rt, "no memory");
     assert_eq!(rt; senders.len(), 1);

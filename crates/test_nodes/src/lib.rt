@@ -1,10 +1,11 @@
-//! Worked rows that cross crates: each is a scenario with the values that it must come to.
+//! Worked test cases that cross crates: each is a scenario with the values that it must come to.
 //!
-//! All but `drain`, which rows call to bring a world to rest, is tests. A module of rows is one
-//! subject: identities, rings, elections, Peterson's rounds, the words of the algorithms, a node, a world, the scans that
-//! a world is spared, its worked schedules, the settlement of nodes, reports, how much work rings take, inboxes, and
-//! workers. An election alone runs on a `Course`, whose messages are taken one by one, whichever the algorithm. Groups at
-//! once are in the schedules of `test_replays`.
+//! Everything here is a test, except `drain`, by which tests bring a world to rest. A module of
+//! test cases has one subject: identities, rings, elections, Peterson's rounds, winners, pictures
+//! of elections, the words of the algorithms, a node, a world, its scans, its worked schedules, the
+//! settlement of nodes, reports, the work that rings take, inboxes, and workers. An election
+//! without nodes runs on a `Course`, whose messages are taken one by one, whatever the algorithm.
+//! Groups at once are in `tests/rows`.
 #![tactic(auto)]
 
 #[cfg(test)]
@@ -27,6 +28,8 @@ mod nodes;
 #[cfg(test)]
 mod note_rows;
 #[cfg(test)]
+mod pictures;
+#[cfg(test)]
 mod reading_rows;
 #[cfg(test)]
 mod rings;
@@ -40,6 +43,8 @@ mod scan_rows;
 mod schedules;
 #[cfg(test)]
 mod settle_rows;
+#[cfg(test)]
+mod winners;
 #[cfg(test)]
 mod work_rows;
 #[cfg(test)]

@@ -1,13 +1,13 @@
-//! What is refused memory is asked for once more: so each row comes to its end whichever growth is refused, where it is
-//! one alone. A sweep refuses each in turn. Whatever else goes wrong stops the test where it does.
+//! If an allocation fails, the call is made once more. So each test passes if any one allocation
+//! fails. A sweep lets each fail in turn.
 
 use std::alloc::AllocFailed;
 use std::process::Abort;
 
-/// What a test says that stops where memory was refused twice.
+/// The text of a test that stops since an allocation failed twice.
 pub const TWICE: &str = "memory was refused twice";
 
-/// Adds an item to a list, and once more where memory was refused.
+/// Adds an item to a list. If an allocation fails, it is tried once more.
 pub fn add<T: Drop>(rt: &impl Abort, list: &mut Vec<T>, item: T) {
     if let Err(AllocFailed { value }) = list.push(item) {
         assert!(rt; list.push(value).is_ok());

@@ -1,5 +1,5 @@
-//! What a book makes of a report: news once, known then, and stale when its term is over. By the group's place it makes
-//! the same of the same news.
+//! What a book makes of a report: it is news once, known after that, and stale when its term is
+//! over. News by the group's place are judged alike.
 
 use crate::equal::equal;
 use crate::memory::TWICE;
@@ -9,34 +9,33 @@ use ring_chang::Chang;
 use ring_election::RingElection;
 use ring_id::{GroupName, NodeId, Refusal};
 use ring_node::{Charter, Report};
-use ring_terms::{Book, Noting, TermList};
+use ring_terms::{Book, Noting};
 use ring_world::{Delivery, World};
 use std::alloc::Global;
 use std::process::Abort;
 use std::sync::Arc;
 
-/// A group is created. A call that ran out of memory is repeated once, as all that follow.
-fn create<E: RingElection>(
-    rt: &impl Abort,
-    alloc: Global,
-    book: &mut Book<E>,
-    group: GroupName,
-    algorithm: E,
-) {
-    let created = match book.create(alloc, group, algorithm) {
-        Err(Refusal::NoMemory) => book.create(alloc, group, algorithm),
-        created => created,
-    };
-    equal(rt, "a group", created, Ok(()));
-}
-
-/// A member joins.
+/// A member joins. A call that ran out of memory is made once more, as are all that follow.
 fn join<E: RingElection>(rt: &impl Abort, book: &mut Book<E>, group: GroupName, node: NodeId) {
     let joined = match book.join(group, node) {
         Err(Refusal::NoMemory) => book.join(group, node),
         joined => joined,
     };
     equal(rt, "a member", joined, Ok(()));
+}
+
+/// A book with a group of 3, 1 and 2, which has no term.
+fn book<E: RingElection>(rt: &impl Abort, alloc: Global, group: GroupName, kind: E) -> Book<E> {
+    let mut book = Book::new(alloc);
+    let created = match book.create(alloc, group, kind) {
+        Err(Refusal::NoMemory) => book.create(alloc, group, kind),
+        created => created,
+    };
+    equal(rt, "a group", created, Ok(()));
+    for number in [3, 1, 2] {
+        join(rt, &mut book, group, identity(rt, number));
+    }
+    book
 }
 
 /// A term starts.
@@ -55,37 +54,6 @@ fn start<E: RingElection>(
     }
 }
 
-/// The terms of a group.
-fn terms<E: RingElection>(
-    rt: &impl Abort,
-    alloc: Global,
-    book: &Book<E>,
-    group: GroupName,
-) -> TermList {
-    match book.terms(alloc, group) {
-        Ok(terms) => terms,
-        Err(refusal) => {
-            equal(rt, "why there are no terms", refusal, Refusal::NoMemory);
-            book.terms(alloc, group).expect(rt, TWICE)
-        }
-    }
-}
-
-/// A book with a group of 3, 1 and 2, which has no term.
-fn book<E: RingElection>(
-    rt: &impl Abort,
-    alloc: Global,
-    group: GroupName,
-    algorithm: E,
-) -> Book<E> {
-    let mut book = Book::new(alloc);
-    create(rt, alloc, &mut book, group, algorithm);
-    for number in [3, 1, 2] {
-        join(rt, &mut book, group, identity(rt, number));
-    }
-    book
-}
-
 /// The first report that comes of a world.
 fn first_report<E: RingElection>(rt: &impl Abort, world: &mut World<E>) -> Report<E> {
     for _ in 0..8 {
@@ -95,12 +63,19 @@ fn first_report<E: RingElection>(rt: &impl Abort, world: &mut World<E>) -> Repor
             other => drop(other),
         }
     }
-    panic!(rt; "nobody told anything")
+    panic!(rt; "no node made a report")
 }
 
-/// The first report of the term of this charter, which is the member's with the number 3.
-fn report<E: RingElection>(rt: &impl Abort, alloc: Global, charter: &Arc<Charter<E>>) -> Report<E> {
-    let mut world = begun_on(rt, alloc, charter);
+/// The report of a book's first term, from a run of its own: that of the member with the number 3.
+fn first_term<E: RingElection>(
+    rt: &impl Abort,
+    alloc: Global,
+    book: &mut Book<E>,
+    group: GroupName,
+) -> Report<E> {
+    let charter = start(rt, alloc, book, group);
+    let mut world = begun_on(rt, alloc, &charter);
+    drop(charter);
     let report = first_report(rt, &mut world);
     drop(world);
     equal(rt, "the member", report.member().get(), 3);
@@ -114,7 +89,13 @@ fn leaders_are<E: RingElection>(
     book: &Book<E>,
     leaders: &[Option<NodeId>],
 ) {
-    let terms = terms(rt, alloc, book, name(rt));
+    let terms = match book.terms(alloc, name(rt)) {
+        Ok(terms) => terms,
+        Err(refusal) => {
+            equal(rt, "why there are no terms", refusal, Refusal::NoMemory);
+            book.terms(alloc, name(rt)).expect(rt, TWICE)
+        }
+    };
     equal(rt, "the leaders of the terms", terms.as_slice(), leaders);
     drop(terms);
 }
@@ -132,20 +113,7 @@ fn notes<E: RingElection>(
     leaders_are(rt, alloc, book, leaders);
 }
 
-/// The report of a term that has no leader yet is news, and known when it comes again.
-fn is_news_once<E: RingElection>(
-    rt: &impl Abort,
-    alloc: Global,
-    book: &mut Book<E>,
-    report: &Report<E>,
-) {
-    let leaders = [NodeId::new(3)];
-    leaders_are(rt, alloc, book, &[None]);
-    notes(rt, alloc, book, report, Noting::Noted, &leaders);
-    notes(rt, alloc, book, report, Noting::Known, &leaders);
-}
-
-/// A book makes this of the news of a report by the place of its group, where that group's term is the report's.
+/// A book makes this of the news of a report by the place of its group, whose term is the report's.
 fn informs<E: RingElection>(
     rt: &impl Abort,
     book: &mut Book<E>,
@@ -153,25 +121,12 @@ fn informs<E: RingElection>(
     noting: Noting,
 ) {
     let charter = report.charter();
-    let place = book.place(charter.group()).expect(rt, "no such group");
-    let running = book.running(charter.group()).expect(rt, "no term runs");
+    let group = charter.group();
+    let place = book.place(group).expect(rt, "no such group");
+    let running = book.running(group).expect(rt, "no term runs");
     assert!(rt; running.same(charter));
-    let position = report.position();
-    let informed = book.inform(place, charter, position, report.leader());
+    let informed = book.inform(place, charter, report.position(), report.leader());
     equal(rt, "news", informed, noting);
-}
-
-/// The report of a book's first term, from a run of its own.
-fn first_term<E: RingElection>(
-    rt: &impl Abort,
-    alloc: Global,
-    book: &mut Book<E>,
-    group: GroupName,
-) -> Report<E> {
-    let charter = start(rt, alloc, book, group);
-    let report = report(rt, alloc, &charter);
-    drop(charter);
-    report
 }
 
 /// News by the group's place, and then a report of the same.
@@ -187,17 +142,15 @@ fn comes_by_place<E: RingElection>(rt: &impl Abort, alloc: Global, algorithm: E)
     drop(book);
 }
 
-#[test]
-fn news_by_place_is_that_of_a_report(rt: HostRuntime) {
-    comes_by_place(&rt, rt.alloc(), Chang);
-}
-
 /// A report that comes twice in its term, and once in the next.
 fn comes_late<E: RingElection>(rt: &impl Abort, alloc: Global, algorithm: E) {
     let group = name(rt);
     let mut book = book(rt, alloc, group, algorithm);
     let report = first_term(rt, alloc, &mut book, group);
-    is_news_once(rt, alloc, &mut book, &report);
+    leaders_are(rt, alloc, &book, &[None]);
+    let leaders = [NodeId::new(3)];
+    notes(rt, alloc, &mut book, &report, Noting::Noted, &leaders);
+    notes(rt, alloc, &mut book, &report, Noting::Known, &leaders);
     drop(start(rt, alloc, &mut book, group));
     let leaders = [NodeId::new(3), None];
     notes(rt, alloc, &mut book, &report, Noting::Stale, &leaders);
@@ -207,5 +160,6 @@ fn comes_late<E: RingElection>(rt: &impl Abort, alloc: Global, algorithm: E) {
 
 #[test]
 fn a_report_is_news_once_and_stale_later(rt: HostRuntime) {
+    comes_by_place(&rt, rt.alloc(), Chang);
     comes_late(&rt, rt.alloc(), Chang);
 }

@@ -1,4 +1,5 @@
-//! The identities and rings of the rows, and their charters. What is refused memory is asked for once more.
+//! The identities and rings of the test cases, and their charters. If an allocation fails, the call
+//! is made once more.
 
 use crate::equal::equal;
 use crate::memory::{TWICE, add};
@@ -29,7 +30,7 @@ pub fn identities(rt: &impl Abort, alloc: Global, numbers: &[u32]) -> Vec<NodeId
     members
 }
 
-/// The numbers up to this one, from 1 on.
+/// The numbers from 1 to this one.
 pub fn rising(rt: &impl Abort, alloc: Global, most: u32) -> Vec<u32> {
     let mut numbers = Vec::new(alloc);
     for number in 0..most {
@@ -45,7 +46,7 @@ pub fn falling(rt: &impl Abort, alloc: Global, most: u32) -> Vec<u32> {
     numbers
 }
 
-/// The name of the group that rows speak of.
+/// The name of the group of the test cases.
 pub fn name(rt: &impl Abort) -> GroupName {
     GroupName::from_bytes(b"a").expect(rt, "no name")
 }
@@ -64,19 +65,7 @@ pub fn ring(rt: &impl Abort, alloc: Global, numbers: &[u32]) -> Roster {
     ring
 }
 
-/// The charter of a term of a group on the ring of these numbers.
-fn charter_once<E: RingElection>(
-    rt: &impl Abort,
-    alloc: Global,
-    term: u16,
-    algorithm: E,
-    numbers: &[u32],
-) -> Result<Arc<Charter<E>>, NoMemory> {
-    let term = TermNo::new(term).expect(rt, "terms go from 1 to 1000");
-    Charter::new(alloc, name(rt), term, algorithm, ring(rt, alloc, numbers))
-}
-
-/// The same, asked for once more where memory was refused.
+/// The charter of a term of group `a` on the ring of these numbers.
 pub fn charter<E: RingElection>(
     rt: &impl Abort,
     alloc: Global,
@@ -84,8 +73,12 @@ pub fn charter<E: RingElection>(
     algorithm: E,
     numbers: &[u32],
 ) -> Arc<Charter<E>> {
-    match charter_once(rt, alloc, term, algorithm, numbers) {
+    let term = TermNo::new(term).expect(rt, "terms go from 1 to 1000");
+    match Charter::new(alloc, name(rt), term, algorithm, ring(rt, alloc, numbers)) {
         Ok(charter) => charter,
-        Err(NoMemory) => charter_once(rt, alloc, term, algorithm, numbers).expect(rt, TWICE),
+        Err(NoMemory) => {
+            let ring = ring(rt, alloc, numbers);
+            Charter::new(alloc, name(rt), term, algorithm, ring).expect(rt, TWICE)
+        }
     }
 }

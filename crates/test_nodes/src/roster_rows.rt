@@ -1,4 +1,4 @@
-//! Rings: which lists are one, and what one shows.
+//! Rings: which lists of identities are rings, and what a ring shows.
 
 use crate::equal::equal;
 use crate::rings::{identities, identity, ring, rising, weighted};
@@ -18,48 +18,39 @@ fn is_refused(rt: &impl Abort, alloc: Global, numbers: &[u32], refusal: Refusal)
 #[test]
 fn a_list_is_refused_for_the_first_that_holds(rt: HostRuntime) {
     let alloc = rt.alloc();
-    let many = rising(&rt, alloc, 257);
-    let mut repeating = rising(&rt, alloc, 256);
-    let most = ring(&rt, alloc, &repeating).len();
-    equal(&rt, "the longest", most, Roster::MOST);
-    repeating.push(1).expect(&rt, "no memory");
     is_refused(&rt, alloc, &[], Refusal::Empty);
     is_refused(&rt, alloc, &[3, 1, 3], Refusal::Member);
-    is_refused(&rt, alloc, &many, Refusal::RingFull);
+    is_refused(&rt, alloc, &rising(&rt, alloc, 257), Refusal::RingFull);
+    let mut repeating = rising(&rt, alloc, 256);
+    repeating.push(1).expect(&rt, "no memory");
     is_refused(&rt, alloc, &repeating, Refusal::RingFull);
-    drop(many);
     drop(repeating);
 }
 
-/// The ring of these numbers, made of what is known to be one: it is the same as where it is looked at.
-fn known_ring(rt: &impl Abort, alloc: Global, numbers: &[u32]) -> Roster {
+/// The ring of these `length` numbers is made without a look at what is known to be a ring. It has
+/// each member at its position, and is the same as the ring that is looked at.
+fn is_made(rt: &impl Abort, alloc: Global, numbers: &[u32], length: usize) {
     let members = identities(rt, alloc, numbers);
     let looked_at = Roster::from_members(alloc, &members).expect(rt, "a ring");
-    let _length = looked_at.len();
+    let looked_length = looked_at.len();
     let known = Roster::of_ring(alloc, &members).expect(rt, "no memory");
-    assert!(rt; known.same(&looked_at));
+    let is_same = known.same(&looked_at);
     drop(members);
     drop(looked_at);
-    known
+    let found = (is_same, known.len(), looked_length);
+    equal(rt, "the ring", found, (true, length, length));
+    for position in 0..numbers.len() {
+        let wanted = NodeId::new(numbers[position]);
+        equal(rt, "a member", known.at(position), wanted);
+    }
+    drop(known);
 }
 
 #[test]
 fn a_ring_is_made_of_what_is_known_to_be_one(rt: HostRuntime) {
     let alloc = rt.alloc();
-    let three = known_ring(&rt, alloc, &[3, 1, 2]);
-    let most = known_ring(&rt, alloc, &rising(&rt, alloc, 256));
-    let lengths = [three.len(), most.len()];
-    equal(&rt, "lengths", lengths, [3, Roster::MOST]);
-    let members = [three.at(0), three.at(1), three.at(2), most.at(255)];
-    drop(three);
-    drop(most);
-    let wanted = [
-        NodeId::new(3),
-        NodeId::new(1),
-        NodeId::new(2),
-        NodeId::new(256),
-    ];
-    equal(&rt, "members", members, wanted);
+    is_made(&rt, alloc, &[3, 1, 2], 3);
+    is_made(&rt, alloc, &rising(&rt, alloc, 256), Roster::MOST);
 }
 
 /// Whether this is the ring of these numbers.
@@ -73,10 +64,8 @@ fn is_ring(rt: &impl Abort, alloc: Global, roster: &Roster, numbers: &[u32]) -> 
 #[test]
 fn members_differ_in_their_numbers_whatever_they_weigh(rt: HostRuntime) {
     let alloc = rt.alloc();
-    let three = identity(&rt, 3);
-    let heavy_one = weighted(&rt, 1, 9);
-    let heavy_three = weighted(&rt, 3, 9);
-    let twice = Roster::from_members(alloc, &[three, heavy_one, heavy_three]).err();
+    let (three, heavy_one) = (identity(&rt, 3), weighted(&rt, 1, 9));
+    let twice = Roster::from_members(alloc, &[three, heavy_one, weighted(&rt, 3, 9)]).err();
     equal(&rt, "a member twice", twice, Some(Refusal::Member));
     let both = Roster::from_members(alloc, &[three, heavy_one]).expect(&rt, "a ring");
     let is_light = is_ring(&rt, alloc, &both, &[3, 1]);
@@ -87,26 +76,24 @@ fn members_differ_in_their_numbers_whatever_they_weigh(rt: HostRuntime) {
 
 #[test]
 fn a_ring_shows_its_members_and_neighbours(rt: HostRuntime) {
-    let alloc = rt.alloc();
-    let three = ring(&rt, alloc, &[3, 1, 2]);
-    let one = identity(&rt, 1).number();
-    let four = identity(&rt, 4).number();
+    let (one, four) = (identity(&rt, 1).number(), identity(&rt, 4).number());
+    let three = ring(&rt, rt.alloc(), &[3, 1, 2]);
     assert_eq!(rt; three.len(), 3);
-    let members = [three.at(2), three.at(3)];
-    equal(&rt, "members", members, [NodeId::new(2), None]);
-    let positions = [three.position(one), three.position(four)];
-    equal(&rt, "positions", positions, [Some(1), None]);
-    let neighbours = [
+    let members = (three.at(2), three.at(3));
+    let positions = (three.position(one), three.position(four));
+    let neighbours = (
         three.neighbour(2, Side::Right),
         three.neighbour(0, Side::Left),
-    ];
-    equal(&rt, "neighbours", neighbours, [0, 2]);
-    let same = [
-        is_ring(&rt, alloc, &three, &[3, 1, 2]),
-        is_ring(&rt, alloc, &three, &[1, 2, 3]),
-    ];
+    );
+    let same = (
+        is_ring(&rt, rt.alloc(), &three, &[3, 1, 2]),
+        is_ring(&rt, rt.alloc(), &three, &[1, 2, 3]),
+    );
     drop(three);
-    equal(&rt, "the same", same, [true, false]);
+    equal(&rt, "members", members, (NodeId::new(2), None));
+    let found = (positions, neighbours, same);
+    let wanted = ((Some(1), None), (0, 2), (true, false));
+    equal(&rt, "positions, neighbours, the same", found, wanted);
 }
 
 /// Whether a ring is that of the identities with these numbers.

@@ -1,4 +1,5 @@
-//! The rounds of Peterson's election: what is active in each, and what a node holds and sends in them.
+//! The rounds of Peterson's election: the active positions of each round, and what a node holds and
+//! sends in them.
 
 use crate::course::{Course, MOST};
 use crate::equal::equal;
@@ -9,107 +10,121 @@ use ring_peterson::{Peterson, PetersonState, round_of};
 use std::alloc::Global;
 use std::process::Abort;
 
-/// The round of this number on the ring of these numbers: each position that is active, with the number that it holds.
-fn round(rt: &impl Abort, alloc: Global, numbers: &[u32], round: usize) -> Vec<(usize, u32)> {
-    let mut active = Vec::new(alloc);
-    let entries = round_of(alloc, &ring(rt, alloc, numbers), round);
-    for entry in entries.expect(rt, "no memory") {
-        let push = active.push((entry.0, entry.1.get()));
-        push.expect(rt, "no memory");
-    }
-    active
+/// Puts a digit after others.
+fn add_digit(digits: &mut usize, digit: usize) {
+    *digits = digits.saturating_mul(10).saturating_add(digit);
 }
 
-/// The numbers of a ring, a round of it, and each position that is active then, with the number that it holds.
-const WORKED: [(&[u32], usize, &[(usize, u32)]); 10] = [
-    (&[3, 1, 2], 0, &[(0, 3), (1, 1), (2, 2)]),
-    (&[3, 1, 2], 1, &[(1, 3)]),
-    (&[3, 1, 2], 2, &[]),
-    (&[4, 1, 3, 2], 0, &[(0, 4), (1, 1), (2, 3), (3, 2)]),
-    (&[4, 1, 3, 2], 1, &[(1, 4), (3, 3)]),
-    (&[4, 1, 3, 2], 2, &[(3, 4)]),
-    (&[4, 1, 3, 2], 3, &[]),
-    (&[5, 9], 1, &[(0, 9)]),
-    (&[7], 0, &[(0, 7)]),
-    (&[7], 1, &[]),
+/// A round of the ring of these numbers: two digits for each active position, the position itself
+/// and the number that it holds.
+fn round(rt: &impl Abort, alloc: Global, numbers: &[u32], round: usize) -> usize {
+    let mut digits = 0;
+    let active = round_of(alloc, &ring(rt, alloc, numbers), round).expect(rt, "no memory");
+    for entry in &active {
+        add_digit(&mut digits, entry.0);
+        add_digit(&mut digits, entry.1.get() as usize);
+    }
+    drop(active);
+    digits
+}
+
+/// The numbers of a ring, one of its rounds, and two digits for each active position, the position
+/// itself and the number that it holds. A zero at the front is left out.
+const WORKED: [(&[u32], usize, usize); 10] = [
+    (&[3, 1, 2], 0, 3_11_22),
+    (&[3, 1, 2], 1, 13),
+    (&[3, 1, 2], 2, 0),
+    (&[4, 1, 3, 2], 0, 4_11_23_32),
+    (&[4, 1, 3, 2], 1, 14_33),
+    (&[4, 1, 3, 2], 2, 34),
+    (&[4, 1, 3, 2], 3, 0),
+    (&[5, 9], 1, 9),
+    (&[7], 0, 7),
+    (&[7], 1, 0),
 ];
 
 #[test]
 fn rounds_are_those_of_the_worked_rings(rt: HostRuntime) {
     for row in &WORKED {
-        let (numbers, number, _) = *row;
-        let active = round(&rt, rt.alloc(), numbers, number);
-        let found = (numbers, number, active.as_slice());
-        equal(&rt, "a round", found, *row);
-        drop(active);
+        let active = round(&rt, rt.alloc(), row.0, row.1);
+        equal(&rt, "a round", (row.0, row.1, active), *row);
     }
 }
 
-/// The number that a node holds at the beginning of a round: the one of these by which it would be chosen, were it the
-/// next to come from the left. None of a relay, of a chosen node, and within a round.
-fn holds(rt: &impl Abort, state: &PetersonState, numbers: &[u32]) -> Option<u32> {
+/// The number that a node holds at the beginning of a round, or 0. No call shows it: it is the
+/// number among these by which the node would be chosen if it came next from the left. A relay, a
+/// chosen node and a node within a round hold none.
+fn holds(rt: &impl Abort, state: &PetersonState, numbers: &[u32]) -> u32 {
     if Peterson.decision(state).is_some() {
-        return None;
+        return 0;
     }
     for number in numbers {
         let mut copy = *state;
         let received = Peterson.receive(&mut copy, Side::Left, identity(rt, *number));
         assert!(rt; received.is_ok());
         if Peterson.decision(&copy).is_some() {
-            return Some(*number);
+            return *number;
         }
     }
-    None
+    0
 }
 
-/// What the member at a position of a ring held at the beginnings of its rounds, and what it sent, when all was taken.
-fn held_and_sent(
-    rt: &impl Abort,
-    alloc: Global,
-    numbers: &[u32],
-    position: usize,
-) -> (Vec<u32>, Vec<u32>) {
-    let mut ring = Course::started(rt, alloc, Peterson, numbers);
-    let mut held = Vec::new(alloc);
+/// What the member at a position held at the beginnings of its rounds, a digit each. All messages
+/// are taken then.
+fn held(rt: &impl Abort, ring: &mut Course<Peterson>, numbers: &[u32], position: usize) -> usize {
+    let mut held = 0;
     let mut taker = Some(position);
     for _ in 0..MOST {
         if taker == Some(position) {
-            if let Some(number) = holds(rt, &ring.member(rt, position).state, numbers) {
-                held.push(number).expect(rt, "no memory");
+            let state = ring.states.get(position).expect(rt, "no such position");
+            let number = holds(rt, state, numbers);
+            if number > 0 {
+                add_digit(&mut held, number as usize);
             }
         }
-        taker = ring.takes_next(rt);
+        taker = ring.take(rt);
     }
-    let mut sent = Vec::new(alloc);
-    for message in &ring.member(rt, position).right.sent {
-        sent.push(message.get()).expect(rt, "no memory");
-    }
-    drop(ring);
-    (held, sent)
+    held
 }
 
-/// The numbers of a ring, a position of it, what its node holds at the beginnings of its rounds, and what it sends.
-const POSITIONS: [(&[u32], usize, &[u32], &[u32]); 10] = [
-    (&[3, 1, 2], 0, &[3], &[3, 2, 3, 3]),
-    (&[3, 1, 2], 1, &[1, 3], &[1, 3, 3, 3]),
-    (&[3, 1, 2], 2, &[2], &[2, 1, 3, 3]),
-    (&[4, 1, 3, 2], 0, &[4], &[4, 2, 3, 4, 4, 4]),
-    (&[4, 1, 3, 2], 1, &[1, 4], &[1, 4, 4, 3, 4, 4]),
-    (&[4, 1, 3, 2], 2, &[3], &[3, 1, 4, 3, 4, 4]),
-    (&[4, 1, 3, 2], 3, &[2, 3, 4], &[2, 3, 3, 4, 4, 4]),
-    (&[5, 9], 0, &[5, 9], &[5, 9, 9, 9]),
-    (&[5, 9], 1, &[9], &[9, 5, 9, 9]),
-    (&[7], 0, &[7], &[7, 7]),
+/// What was sent to the member at a position, a digit each.
+fn sent_to(ring: &Course<Peterson>, position: usize) -> usize {
+    let mut digits = 0;
+    for message in &ring.sent {
+        if message.0 == position {
+            add_digit(&mut digits, message.2.get() as usize);
+        }
+    }
+    digits
+}
+
+/// The numbers of a ring, a position, the position on its right, what its node holds at the
+/// beginnings of its rounds, and what it sends, a digit each.
+const POSITIONS: [(&[u32], usize, usize, usize, usize); 10] = [
+    (&[3, 1, 2], 0, 1, 3, 3233),
+    (&[3, 1, 2], 1, 2, 13, 1333),
+    (&[3, 1, 2], 2, 0, 2, 2133),
+    (&[4, 1, 3, 2], 0, 1, 4, 423444),
+    (&[4, 1, 3, 2], 1, 2, 14, 144344),
+    (&[4, 1, 3, 2], 2, 3, 3, 314344),
+    (&[4, 1, 3, 2], 3, 0, 234, 233444),
+    (&[5, 9], 0, 1, 59, 5999),
+    (&[5, 9], 1, 0, 9, 9599),
+    (&[7], 0, 0, 7, 77),
 ];
 
 #[test]
 fn a_node_of_peterson_holds_and_sends_the_values_of_the_rounds(rt: HostRuntime) {
     for row in &POSITIONS {
-        let (numbers, position, _, _) = *row;
-        let (held, sent) = held_and_sent(&rt, rt.alloc(), numbers, position);
-        let found = (numbers, position, held.as_slice(), sent.as_slice());
-        equal(&rt, "held and sent", found, *row);
-        drop(held);
-        drop(sent);
+        let mut ring = Course::started(&rt, rt.alloc(), Peterson, row.0);
+        let held = held(&rt, &mut ring, row.0, row.1);
+        let sent = sent_to(&ring, row.2);
+        drop(ring);
+        equal(
+            &rt,
+            "held and sent",
+            (row.0, row.1, row.2, held, sent),
+            *row,
+        );
     }
 }

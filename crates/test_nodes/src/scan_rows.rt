@@ -1,4 +1,5 @@
-//! The plain scans that a world's count and bits stand in for: before every delivery both say the same.
+//! Plain scans of the links of a world. Before every delivery they agree with the world's own count
+//! and bits.
 
 use crate::equal::equal;
 use crate::worlds::{begun, deliver};
@@ -9,67 +10,45 @@ use ring_world::World;
 use std::alloc::Global;
 use std::process::Abort;
 
-/// How many packets are in flight on the link into this position, by the lists of its two nodes.
-fn waiting<E: RingElection>(world: &World<E>, position: usize, side: Side) -> usize {
+/// Looks at each link of a world, in order, by the lists of its two nodes. Returns the first link
+/// with something in flight, the link for delivery `done`, and how many packets are in flight. By
+/// turns that link is the first one and the last one with something in flight.
+fn scanned<E: RingElection>(
+    rt: &impl Abort,
+    world: &World<E>,
+    done: u32,
+) -> (Option<(usize, Side)>, Option<(usize, Side)>, u128) {
     let (ring, nodes) = (world.charter().roster(), world.nodes());
-    if position >= ring.len() {
-        return 0;
+    let mut first = None;
+    let mut last = None;
+    let mut pending: u128 = 0;
+    for position in 0..ring.len() {
+        let receiver = nodes.get(position).expect(rt, "no such node");
+        for side in [Side::Left, Side::Right] {
+            let from = ring.neighbour(position, side);
+            let sent = nodes
+                .get(from)
+                .expect(rt, "no such node")
+                .sent(side.other());
+            let waiting = sent.saturating_sub(receiver.taken(side)) as u128;
+            pending = pending.saturating_add(waiting);
+            if waiting > 0 {
+                last = Some((position, side));
+                first = first.or(last);
+            }
+        }
     }
-    let Some(sender) = nodes.get(ring.neighbour(position, side)) else {
-        return 0;
-    };
-    let Some(receiver) = nodes.get(position) else {
-        return 0;
-    };
-    sender
-        .sent(side.other())
-        .saturating_sub(receiver.taken(side))
+    let next = if done % 2 == 0 { first } else { last };
+    (first, next, pending)
 }
 
-/// What looks at each link of a world have seen.
-#[derive(Clone, Copy)]
-struct Scan {
-    /// The first link with something in flight, if there is one.
-    first: Option<(usize, Side)>,
-    /// The last such link.
-    last: Option<(usize, Side)>,
-    /// How many packets are in flight.
-    pending: u128,
-}
-
-/// Looks at the link into this position from a side, behind the others.
-fn look<E: RingElection>(scan: &mut Scan, world: &World<E>, position: usize, side: Side) {
-    let waiting = waiting(world, position, side) as u128;
-    scan.pending = scan.pending.saturating_add(waiting);
-    if waiting > 0 {
-        let link = Some((position, side));
-        scan.first = scan.first.or(link);
-        scan.last = link;
-    }
-}
-
-/// What a look at each link of a world sees, in order.
-fn scanned<E: RingElection>(world: &World<E>) -> Scan {
-    let mut scan = Scan {
-        first: None,
-        last: None,
-        pending: 0,
-    };
-    for position in 0..world.nodes().len() {
-        look(&mut scan, world, position, Side::Left);
-        look(&mut scan, world, position, Side::Right);
-    }
-    scan
-}
-
-/// Delivers at the first link and at the last by turns until nothing is in flight, and looks before
-/// each delivery whether the scans agree with the world: how many deliveries there were.
+/// Delivers at the first link and at the last by turns until nothing is in flight. Before each
+/// delivery the scans agree with the world. Returns the number of deliveries.
 fn compared<E: RingElection>(rt: &impl Abort, world: &mut World<E>, most: u32) -> u32 {
     for done in 0..most {
-        let scan = scanned(world);
+        let (first, next, pending) = scanned(rt, world, done);
         let told = (world.ready(), world.pending());
-        equal(rt, "what scans see", told, (scan.first, scan.pending));
-        let next = if done % 2 == 0 { scan.first } else { scan.last };
+        equal(rt, "what scans see", told, (first, pending));
         let Some((position, side)) = next else {
             return done;
         };
@@ -78,47 +57,32 @@ fn compared<E: RingElection>(rt: &impl Abort, world: &mut World<E>, most: u32) -
     panic!(rt; "the world has not come to rest")
 }
 
-/// The ring of these numbers takes so many deliveries by this election, the scans agreeing all the way.
-fn scans_agree(
+/// The ring of these numbers takes `deliveries` deliveries, and the scans agree all the way.
+fn scans_agree<E: RingElection>(
     rt: &impl Abort,
     alloc: Global,
     numbers: &[u32],
-    kind: impl RingElection,
+    kind: E,
     deliveries: u32,
 ) {
     let mut world = begun(rt, alloc, kind, numbers);
-    equal(rt, "deliveries", compared(rt, &mut world, 999), deliveries);
+    let made = compared(rt, &mut world, 999);
     drop(world);
-}
-
-/// The same by each of these kinds.
-fn all_scans_agree(rt: &impl Abort, alloc: Global, numbers: &[u32], kinds: &[(Any, u32)]) {
-    for (kind, deliveries) in kinds {
-        scans_agree(rt, alloc, numbers, *kind, *deliveries);
-    }
+    equal(rt, "deliveries", made, deliveries);
 }
 
 #[test]
 fn scans_agree_on_rings_of_one_two_and_five(rt: HostRuntime) {
-    let one = [
-        (Any::LeLann, 2),
-        (Any::Chang, 2),
-        (Any::Hirschberg, 3),
-        (Any::Peterson, 3),
+    let rows: [(Any, [u32; 3]); 4] = [
+        (Any::LeLann, [2, 6, 30]),
+        (Any::Chang, [2, 5, 18]),
+        (Any::Hirschberg, [3, 12, 58]),
+        (Any::Peterson, [3, 10, 35]),
     ];
-    let two = [
-        (Any::LeLann, 6),
-        (Any::Chang, 5),
-        (Any::Hirschberg, 12),
-        (Any::Peterson, 10),
-    ];
-    let five = [
-        (Any::LeLann, 30),
-        (Any::Chang, 18),
-        (Any::Hirschberg, 58),
-        (Any::Peterson, 35),
-    ];
-    all_scans_agree(&rt, rt.alloc(), &[7], &one);
-    all_scans_agree(&rt, rt.alloc(), &[5, 9], &two);
-    all_scans_agree(&rt, rt.alloc(), &[4, 1, 3, 2, 6], &five);
+    let alloc = rt.alloc();
+    for (kind, [one, two, five]) in rows {
+        scans_agree(&rt, alloc, &[7], kind, one);
+        scans_agree(&rt, alloc, &[5, 9], kind, two);
+        scans_agree(&rt, alloc, &[4, 1, 3, 2, 6], kind, five);
+    }
 }

@@ -14,63 +14,55 @@ use std::alloc::Global;
 use std::process::Abort;
 use std::sync::Arc;
 
-/// Stops the test if nodes of a charter have settled otherwise.
-fn settles_as<E: RingElection>(
-    rt: &impl Abort,
-    charter: &Charter<E>,
-    nodes: &[Node<E>],
-    wanted: Settlement,
-) {
-    equal(rt, "the nodes", settle(charter, nodes), wanted);
-}
-
-/// How the world of an election on 3, 1, 2 has settled after so many deliveries, by so many of its nodes.
-fn settlement(
+/// The world of an election on 3, 1, 2 has settled so after this number of deliveries, by the
+/// charter and this number of its nodes.
+fn world_settles<E: RingElection>(
     rt: &impl Abort,
     alloc: Global,
-    algorithm: impl RingElection,
+    algorithm: E,
     deliveries: u32,
     nodes: usize,
-) -> Settlement {
+    wanted: Settlement,
+) {
     let mut world = begun(rt, alloc, algorithm, &[3, 1, 2]);
     drained(rt, &mut world, deliveries);
-    let nodes = world.nodes().get(..nodes).expect(rt, "no such nodes");
-    let settlement = settle(world.charter(), nodes);
+    let part = world.nodes().get(..nodes).expect(rt, "no such nodes");
+    let settlement = settle(world.charter(), part);
     drop(world);
-    settlement
+    let found = (deliveries, nodes, settlement);
+    equal(rt, "a world", found, (deliveries, nodes, wanted));
 }
 
 #[test]
 fn all_nodes_settle_with_the_last_delivery(rt: HostRuntime) {
-    for deliveries in 0..8 {
-        let found = settlement(&rt, rt.alloc(), Chang, deliveries, 3);
-        equal(&rt, "before the last", found, Settlement::Incomplete);
-    }
-    let found = settlement(&rt, rt.alloc(), Chang, 8, 3);
-    equal(&rt, "after the last", found, Settlement::Settled);
-    for nodes in 0..3 {
-        let found = settlement(&rt, rt.alloc(), Chang, 8, nodes);
-        equal(&rt, "without all nodes", found, Settlement::Incomplete);
+    for deliveries in 0..9 {
+        for nodes in 0..4 {
+            let wanted = if deliveries == 8 && nodes == 3 {
+                Settlement::Settled
+            } else {
+                Settlement::Incomplete
+            };
+            world_settles(&rt, rt.alloc(), Chang, deliveries, nodes, wanted);
+        }
     }
 }
 
 /// Hands the node at this position what its left neighbour sent next, if there is anything.
-fn hand_on(rt: &impl Abort, nodes: &mut [Node<Chang>], position: usize, left: usize) {
+fn hand_on<E: RingElection>(rt: &impl Abort, nodes: &mut [Node<E>], position: usize, left: usize) {
     assert!(rt; position < nodes.len() && left < nodes.len());
     let place = nodes[position].taken(Side::Left);
     if let Some(envelope) = envelope(rt, &nodes[left], place) {
-        let taken = offer(rt, &mut nodes[position], envelope);
-        assert!(rt; taken.is_ok());
-        drop(taken);
+        let fault = offer(rt, &mut nodes[position], envelope).err();
+        equal(rt, "an offer", fault, None);
     }
 }
 
-/// The three nodes of a charter by themselves, each of which has taken all that was sent to it.
-fn settled_nodes(
+/// The three nodes of a charter, each of which has taken all that was sent to it.
+fn settled_nodes<E: RingElection>(
     rt: &impl Abort,
     alloc: Global,
-    charter: &Arc<Charter<Chang>>,
-) -> Vec<Node<Chang>> {
+    charter: &Arc<Charter<E>>,
+) -> Vec<Node<E>> {
     let mut nodes = Vec::new(alloc);
     for position in 0..3 {
         add(rt, &mut nodes, seated(rt, alloc, charter, position));
@@ -81,26 +73,21 @@ fn settled_nodes(
     nodes
 }
 
-/// The same nodes, and the last of them a second time.
-fn doubled_nodes(
-    rt: &impl Abort,
-    alloc: Global,
-    charter: &Arc<Charter<Chang>>,
-) -> Vec<Node<Chang>> {
-    let mut nodes = settled_nodes(rt, alloc, charter);
-    let double = settled_nodes(rt, alloc, charter).pop();
+/// Nodes by themselves have settled, and have not together with a double of the last one.
+fn nodes_settle<E: RingElection>(rt: &impl Abort, alloc: Global, algorithm: E) {
+    let charter = charter(rt, alloc, 1, algorithm, &[3, 1, 2]);
+    let mut nodes = settled_nodes(rt, alloc, &charter);
+    let alone = settle(&charter, &nodes);
+    let double = settled_nodes(rt, alloc, &charter).pop();
     add(rt, &mut nodes, double.expect(rt, "no node"));
-    nodes
+    let doubled = settle(&charter, &nodes);
+    drop(nodes);
+    drop(charter);
+    let wanted = (Settlement::Settled, Settlement::Incomplete);
+    equal(rt, "alone, and with a double", (alone, doubled), wanted);
 }
 
 #[test]
 fn nodes_by_themselves_settle_and_a_double_does_not(rt: HostRuntime) {
-    let charter = charter(&rt, rt.alloc(), 1, Chang, &[3, 1, 2]);
-    let nodes = settled_nodes(&rt, rt.alloc(), &charter);
-    settles_as(&rt, &charter, &nodes, Settlement::Settled);
-    drop(nodes);
-    let nodes = doubled_nodes(&rt, rt.alloc(), &charter);
-    settles_as(&rt, &charter, &nodes, Settlement::Incomplete);
-    drop(nodes);
-    drop(charter);
+    nodes_settle(&rt, rt.alloc(), Chang);
 }

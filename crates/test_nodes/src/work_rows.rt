@@ -1,5 +1,5 @@
-//! How much work a ring takes: every ring becomes quiet, with a leader that all know, within the
-//! bound on messages of its algorithm and one announcement for each position.
+//! How much work a ring takes. Every ring becomes quiet, with a leader that all know, within the
+//! algorithm's bound on messages and one announcement for each position.
 
 use crate::equal::equal;
 use crate::memory::add;
@@ -11,7 +11,7 @@ use ring_world::World;
 use std::alloc::Global;
 use std::process::Abort;
 
-/// The first numbers of a row in which those from 1 to 256 stand once each, without order.
+/// The first `size` numbers of a list without order that has each number from 1 to 256 once.
 fn scattered(rt: &impl Abort, alloc: Global, size: u16) -> Vec<u32> {
     let mut numbers = Vec::new(alloc);
     for place in 0..size {
@@ -20,24 +20,16 @@ fn scattered(rt: &impl Abort, alloc: Global, size: u16) -> Vec<u32> {
     numbers
 }
 
-/// A world of this size, in which nothing was delivered.
-fn sized<E: RingElection>(rt: &impl Abort, alloc: Global, kind: E, size: u16) -> World<E> {
-    let numbers = scattered(rt, alloc, size);
-    let world = begun(rt, alloc, kind, &numbers);
-    drop(numbers);
-    world
-}
-
 /// Nothing is in flight in a world, and all know this leader.
-fn all_know<E: RingElection>(rt: &impl Abort, world: &World<E>, leader: Option<NodeId>) {
+fn all_know<E: RingElection>(rt: &impl Abort, world: &World<E>, leader: u32) {
     equal(rt, "in flight", world.pending(), 0);
     for node in world.nodes() {
-        assert_eq!(rt; node.known(), leader);
+        equal(rt, "a leader", node.known(), NodeId::new(leader));
     }
 }
 
-/// Drains a ring of this size, until nothing is in flight and all know this leader; how many messages it
-/// took besides the announcements.
+/// Drains a ring of this size: nothing is in flight then, and all know this leader. Returns the
+/// number of messages, without the announcements.
 fn messages<E: RingElection>(
     rt: &impl Abort,
     alloc: Global,
@@ -45,25 +37,19 @@ fn messages<E: RingElection>(
     size: u16,
     leader: u32,
 ) -> u128 {
-    let mut world = sized(rt, alloc, kind, size);
+    let mut world = begun(rt, alloc, kind, &scattered(rt, alloc, size));
     drained(rt, &mut world, u32::MAX);
-    all_know(rt, &world, NodeId::new(leader));
+    all_know(rt, &world, leader);
     let delivered = world.delivered();
     drop(world);
     assert!(rt; delivered >= u128::from(size), "an announcement is missing");
     delivered.saturating_sub(u128::from(size))
 }
 
-/// A ring of each kind and size takes at most so many messages until all know this leader.
-fn take_at_most(rt: &impl Abort, alloc: Global, rings: &[(Any, u16, u32, u128)]) {
-    for (kind, size, leader, bound) in rings {
-        let taken = messages(rt, alloc, *kind, *size, *leader);
-        assert!(rt; taken <= *bound, "{taken} on {size}");
-    }
-}
-
-/// The bounds are n squared for LeLann and for Chang and Roberts, what the phases take for Hirschberg and Sinclair,
-/// and what the rounds take for Peterson.
+/// For each kind and size: all know this leader, with at most `bound` messages.
+///
+/// The bound is n squared for LeLann and for Chang and Roberts. For Hirschberg and Sinclair it is
+/// that of the phases, and for Peterson that of the rounds.
 #[test]
 fn each_kind_takes_at_most_its_bound(rt: HostRuntime) {
     let rings = [
@@ -88,5 +74,8 @@ fn each_kind_takes_at_most_its_bound(rt: HostRuntime) {
         (Any::Peterson, 4, 75, 24),
         (Any::Peterson, 256, 67, 4608),
     ];
-    take_at_most(&rt, rt.alloc(), &rings);
+    for (kind, size, leader, bound) in rings {
+        let taken = messages(&rt, rt.alloc(), kind, size, leader);
+        assert!(rt; taken <= bound, "{taken} on {size}");
+    }
 }

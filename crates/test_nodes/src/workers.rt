@@ -1,4 +1,4 @@
-//! Rows of node workers: what one comes to, in one thread, and what two decide in threads of their own.
+//! Test cases of node workers: one in one thread, and two in threads of their own.
 
 mod courses;
 mod gates;

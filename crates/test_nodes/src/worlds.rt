@@ -1,4 +1,4 @@
-//! Worlds of the rows, and deliveries in them.
+//! Worlds of the test cases, and calls of them. If an allocation fails, the call is made once more.
 ghost use Rattle.std.specs.Prelude.{◌<◌, length};
 
 use crate::drain;
@@ -13,37 +13,18 @@ use std::alloc::Global;
 use std::process::Abort;
 use std::sync::Arc;
 
-/// What a delivery did.
-#[derive(Clone, Copy, Debug, PartialEq, Eq)]
-pub enum Did {
-    /// A packet was taken, and its receiver told nothing.
-    Moved,
-    /// A packet was taken, and its receiver told that this is the leader.
-    Told(u32),
-    /// Nothing was in flight.
-    Idle,
-    /// It was refused.
-    Refused(Refusal),
-}
-
 /// The world of a charter, in which nothing was delivered.
-fn begun_once<E: RingElection>(
-    rt: &impl Abort,
-    alloc: Global,
-    charter: &Arc<Charter<E>>,
-) -> Result<World<E>, NoMemory> {
-    World::begin(alloc, Arc::try_clone(charter).expect(rt, "no copy"))
-}
-
-/// The same, asked for once more where memory was refused.
 pub fn begun_on<E: RingElection>(
     rt: &impl Abort,
     alloc: Global,
     charter: &Arc<Charter<E>>,
 ) -> World<E> {
-    match begun_once(rt, alloc, charter) {
+    match World::begin(alloc, Arc::try_clone(charter).expect(rt, "no copy")) {
         Ok(world) => world,
-        Err(NoMemory) => begun_once(rt, alloc, charter).expect(rt, TWICE),
+        Err(NoMemory) => {
+            let copy = Arc::try_clone(charter).expect(rt, "no copy");
+            World::begin(alloc, copy).expect(rt, TWICE)
+        }
     }
 }
 
@@ -62,14 +43,14 @@ pub fn counts<E: RingElection>(world: &World<E>) -> (u128, u128) {
     (world.pending(), world.delivered())
 }
 
-/// Stops the test where a world has no such position.
+/// Stops the test if a world has no such position.
 fn assert_has<E: RingElection>(rt: &impl Abort, world: &World<E>, position: usize)
     ensures { position < length world.now.charter.roster }
 {
     assert!(rt; position < world.charter().roster().len());
 }
 
-/// Delivers on the link into this position from a side. What is refused changes nothing.
+/// Delivers on the link into this position from a side. A refusal changes nothing.
 fn deliver_once<E: RingElection>(
     rt: &impl Abort,
     world: &mut World<E>,
@@ -85,7 +66,7 @@ fn deliver_once<E: RingElection>(
     delivery
 }
 
-/// The same, and once more where memory was refused.
+/// Delivers on the link into this position from a side.
 pub fn delivery<E: RingElection>(
     rt: &impl Abort,
     world: &mut World<E>,
@@ -98,71 +79,51 @@ pub fn delivery<E: RingElection>(
     }
 }
 
-/// What a delivery on the link into this position from a side did.
+/// What a delivery on the link into this position from a side comes to, as a passage there would.
 pub fn deliver<E: RingElection>(
     rt: &impl Abort,
     world: &mut World<E>,
     position: usize,
     side: Side,
-) -> Did {
+) -> Passage {
     match delivery(rt, world, position, side) {
-        Delivery::Moved(None) => Did::Moved,
-        Delivery::Moved(Some(report)) => Did::Told(report.leader().get()),
-        Delivery::Idle => Did::Idle,
-        Delivery::Refused(refusal) => Did::Refused(refusal),
+        Delivery::Moved(None) => Passage::Moved(None),
+        Delivery::Moved(Some(report)) => Passage::Moved(Some(report.leader())),
+        Delivery::Idle => Passage::Idle,
+        Delivery::Refused(refusal) => Passage::Refused(refusal),
     }
 }
 
 /// Passes on the link into this position from a side.
-fn pass_once<E: RingElection>(
+pub fn pass<E: RingElection>(
     rt: &impl Abort,
     world: &mut World<E>,
     position: usize,
     side: Side,
 ) -> Passage {
     assert_has(rt, world, position);
-    world.pass(position, side)
-}
-
-/// What a passage on the link into this position from a side did, made once more where memory was refused.
-pub fn pass<E: RingElection>(
-    rt: &impl Abort,
-    world: &mut World<E>,
-    position: usize,
-    side: Side,
-) -> Did {
-    let passage = match pass_once(rt, world, position, side) {
-        Passage::Refused(Refusal::NoMemory) => pass_once(rt, world, position, side),
+    match world.pass(position, side) {
+        Passage::Refused(Refusal::NoMemory) => {
+            assert_has(rt, world, position);
+            world.pass(position, side)
+        }
         passage => passage,
-    };
-    match passage {
-        Passage::Moved(None) => Did::Moved,
-        Passage::Moved(Some(leader)) => Did::Told(leader.get()),
-        Passage::Idle => Did::Idle,
-        Passage::Refused(refusal) => Did::Refused(refusal),
     }
 }
 
-/// Passes on the links that are ready, and goes on where memory was refused: how many passages there were in all,
-/// and at which position the last told which leader, if it told one.
-pub fn passages<E: RingElection>(world: &mut World<E>, most: u32) -> (u32, Option<(usize, u32)>) {
+/// Passes on ready links, at most `most` times. Returns how many passages were made, and their end.
+pub fn passages<E: RingElection>(world: &mut World<E>, most: u32) -> (u32, PassagesEnd) {
     let first = world.pass_ready(most);
-    let (before, last) = match first.end {
+    match first.end {
         PassagesEnd::Starved => {
-            let rest = most.saturating_sub(first.done);
-            (first.done, world.pass_ready(rest))
+            let rest = world.pass_ready(most.saturating_sub(first.done));
+            (first.done.saturating_add(rest.done), rest.end)
         }
-        _ => (0, first),
-    };
-    let end = last.end;
-    let told = match end {
-        PassagesEnd::Told(position, leader) => Some((position, leader.get())),
-        _ => None,
-    };
-    (last.done.saturating_add(before), told)
+        end => (first.done, end),
+    }
 }
 
-/// Drains a world, and goes on where memory was refused: how many deliveries there were in all.
+/// Drains a world, and returns the number of deliveries.
 pub fn drained<E: RingElection>(rt: &impl Abort, world: &mut World<E>, most: u32) -> u32 {
     let before = world.delivered();
     if let Ok(done) = drain(world, most) {
@@ -174,7 +135,8 @@ pub fn drained<E: RingElection>(rt: &impl Abort, world: &mut World<E>, most: u32
     made.saturating_add(rest)
 }
 
-/// Cuts the link into this position from a side, and whether it is cut then.
+/// Cuts the link into this position from a side. Returns the answer, and whether the link is cut
+/// then.
 pub fn cut<E: RingElection>(
     rt: &impl Abort,
     world: &mut World<E>,

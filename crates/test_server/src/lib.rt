@@ -1,8 +1,10 @@
-//! Worked rows of the server: the line of each fault, what is told where an accept or a write fails, the numbers that
-//! sessions have, who serves them, how many items an inbox holds, how a run ends whose journal fails, and what is counted
-//! and noted beside the table. Each has the values that it must come to.
+//! Tests of the server. They show the line of each fault, the output after a failed accept or
+//! write, the numbers of sessions, and who serves them. They show the capacity of an inbox, the end
+//! of a run whose journal fails, and the counts and notes next to the table.
 #![tactic(auto)]
 
+#[cfg(test)]
+mod equal;
 #[cfg(test)]
 mod fault;
 #[cfg(test)]

@@ -1,15 +1,17 @@
-ghost use Rattle.std.specs.Prelude.{◌≡◌, length, IfSome};
+ghost use Rattle.std.specs.Prelude.{◌≡◌, length};
 ghost use Rattle.ring_journal.specs.Memories.{memory_kept, memory_text};
 
-use crate::trial::{NoClients, client, listener, out_failing_at};
+use crate::equal::equal;
+use crate::trial::{NoClients, client, listener};
 use ring_config::Config;
 use ring_journal::{Batch, Fault, Medium, MemoryMedium};
+use ring_lines::DripOut;
 use ring_recovery::{Alarm, Recovered, recover};
 use ring_server::{JournalFault, Limits, Meter, Others, ProgramFault, Resumed, resume_loop};
 use std::alloc::Global;
 use std::fs::{File, Files};
 use std::io::Read;
-use std::net::{Net, OpenListener, TcpListener, TcpStream};
+use std::net::{OpenListener, TcpStream};
 use std::process::Abort;
 use std::sync::{Arc, Wait};
 use std::thread::Threads;
@@ -47,43 +49,44 @@ impl Medium for UnsyncedMedium {
 }
 
 // A table without groups over a medium whose syncs fail.
-fn unsynced(alloc: Global) -> Option<Resumed<UnsyncedMedium>> {
-    let recovered = recover(alloc, Vec::new(alloc)).ok()?;
-    let alarm = Arc::new(alloc, Alarm::new()).ok()?;
-    let bell = Arc::try_clone(&alarm).ok()?;
-    let charters = recovered.charters(alloc).ok()?;
-    let medium = medium_of(alloc, &recovered)?;
-    let life = recovered.life();
-    let meter = Arc::new(alloc, Meter::new(recovered.text().len())).ok()?;
-    Some(Resumed {
-        table: recovered.open(alloc, medium, bell),
+fn unsynced(rt: &impl Abort, alloc: Global) -> Resumed<UnsyncedMedium> {
+    let recovered = recover(alloc, Vec::new(alloc)).expect(rt, "no table");
+    let charters = recovered.charters(alloc).expect(rt, "no charters");
+    let (life, len) = (recovered.life(), recovered.text().len());
+    let medium = medium_of(rt, alloc, &recovered);
+    let alarm = Arc::new(alloc, Alarm::new()).expect(rt, "no alarm");
+    let bell = Arc::try_clone(&alarm).expect(rt, "no bell");
+    let table = recovered.open(alloc, medium, bell);
+    let meter = Arc::new(alloc, Meter::new(len)).expect(rt, "no meter");
+    Resumed {
+        table,
         charters,
         alarm,
         life,
         meter,
-    })
+    }
 }
 
 // Such a medium, which holds the text of a recovered table.
-fn medium_of(alloc: Global, recovered: &Recovered) -> Option<UnsyncedMedium>
-    ensures text { IfSome result (λ medium. memory_text medium.memory ≡ recovered.now.text) }
-    ensures kept { IfSome result (λ medium. memory_kept medium.memory ≡ length recovered.now.text) }
+fn medium_of(rt: &impl Abort, alloc: Global, recovered: &Recovered) -> UnsyncedMedium
+    ensures text { memory_text result.memory ≡ recovered.now.text }
+    ensures kept { memory_kept result.memory ≡ length recovered.now.text }
 {
-    let text = recovered.text().bytes().to_vec(alloc).ok()?;
-    Some(UnsyncedMedium {
-        memory: MemoryMedium::new(text),
-    })
+    let text = recovered.text().bytes().to_vec(alloc);
+    UnsyncedMedium {
+        memory: MemoryMedium::new(text.expect(rt, "no text")),
+    }
 }
 
-// Runs over such a table with so many sessions at a time. Stops the test if it ends otherwise, or after something
-// else was told.
+// Runs over such a table with `sessions` sessions at a time. Stops the test if it ends otherwise,
+// or after something else was told.
 fn ends<R, L>(
     rt: &R,
     listener: L,
     sessions: u32,
     fault_at: u64,
     told: &[u8],
-    wanted: Result<(), ProgramFault>,
+    ended: Result<(), ProgramFault>,
 )
 where
     R: Abort
@@ -105,20 +108,18 @@ where
         idle: 0,
         places: false,
     };
-    let mut out = out_failing_at(rt, rt.alloc(), fault_at);
-    let resumed = unsynced(rt.alloc()).expect(rt, "no table");
+    let mut out = DripOut::new(rt.alloc(), 64, fault_at).expect(rt, "no writer");
     let ran = resume_loop(
         rt,
         listener,
         Others::none(),
         &CONFIG,
         limits,
-        resumed,
+        unsynced(rt, rt.alloc()),
         "listening 127.0.0.1:80\n",
         &mut out,
     );
-    assert_eq!(rt; ran, wanted);
-    assert_eq!(rt; out.taken(), told);
+    equal(rt, "a run", (ran, out.taken()), (ended, told));
     drop(out);
 }
 
@@ -131,38 +132,22 @@ fn a_resumed_run_says_that_it_listens(rt: HostRuntime) {
 }
 
 // A client that creates a group gets no reply, and the run ends by its journal's fault.
-fn ends_without_a_reply<R>(rt: &R)
-where
-    R: Abort
-        + AllocGlobal
-        + Threads
-        + Wait
-        + Eprint
-        + Clock
-        + Files<File = File>
-        + Copy
-        + Send
-        + Sync
-        + Drop
-        + 'static
-        + Net<Stream = TcpStream, Listener = TcpListener>,
-{
-    let (listener, address) = listener(rt).expect(rt, "no listener");
-    let mut client = client(rt, address, b"create a chang\n").expect(rt, "no client");
-    client
-        .set_read_timeout(Some(Duration::from_millis(300)))
-        .expect(rt, "no time limit");
-    let failed = Err(ProgramFault::Journal(JournalFault::Failed));
-    ends(rt, listener, 1, 0, b"listening 127.0.0.1:80\n", failed);
-    let mut reply = [0];
-    assert!(rt;
-        client.read(&mut reply).is_err(),
-        "a reply begins by {reply:?}"
-    );
-    drop(client);
-}
-
 #[test]
 fn a_failed_journal_ends_the_run_without_a_reply(rt: HostRuntime) {
-    ends_without_a_reply(&rt);
+    let (listener, address) = listener(&rt);
+    let mut client = client(&rt, address, b"create a chang\n");
+    client
+        .set_read_timeout(Some(Duration::from_millis(300)))
+        .expect(&rt, "no time limit");
+    let failed = Err(ProgramFault::Journal(JournalFault::Failed));
+    ends(&rt, listener, 1, 0, b"listening 127.0.0.1:80\n", failed);
+    let mut reply = [0];
+    let is_silent = client.read(&mut reply).is_err();
+    drop(client);
+    equal(
+        &rt,
+        "no reply, and its first byte",
+        (is_silent, reply),
+        (true, [0]),
+    );
 }

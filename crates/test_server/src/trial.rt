@@ -1,13 +1,11 @@
-//! What tests of the server share.
-use ring_lines::DripOut;
-use std::alloc::Global;
+//! Parts that tests of the server share: listeners, clients, and guests that note who served.
+use ring_server::{Door, Serving};
 use std::io;
 use std::io::{Read, Write};
-use std::net::{Ipv4Addr, Net, OpenListener, Shutdown, SocketAddr, TcpListener, TcpStream};
+use std::net::{Ipv4Addr, Net, OpenListener, SocketAddr, TcpListener, TcpStream};
 use std::process::Abort;
-
-/// What a test says that stops where memory was refused twice.
-pub const TWICE: &str = "memory was refused twice";
+use std::sync::{Mutex, Wait};
+use std::time::Clock;
 
 /// A listener whose accept fails.
 #[derive(Drop)]
@@ -21,64 +19,81 @@ impl OpenListener for NoClients {
     }
 }
 
-/// A writer that fails at this call; asked for again where memory is refused.
-pub fn out_failing_at(rt: &impl Abort, alloc: Global, fault_at: u64) -> DripOut {
-    match DripOut::new(alloc, 64, fault_at) {
-        Ok(out) => out,
-        Err(_) => DripOut::new(alloc, 64, fault_at).expect(rt, TWICE),
-    }
-}
-
 /// A listener on a free port, and its address.
-pub fn listener<R>(rt: &R) -> io::Result<(TcpListener, SocketAddr)>
+pub fn listener<R>(rt: &R) -> (TcpListener, SocketAddr)
 where
-    R: Net<Stream = TcpStream, Listener = TcpListener>,
+    R: Abort + Net<Stream = TcpStream, Listener = TcpListener>,
 {
-    let listener = rt.bind(SocketAddr::from((Ipv4Addr::LOCALHOST, 0)))?;
-    let address = listener.local_addr()?;
-    Ok((listener, address))
+    let address = SocketAddr::from((Ipv4Addr::LOCALHOST, 0));
+    let listener = rt.bind(address).expect(rt, "no listener");
+    let address = listener.local_addr().expect(rt, "no address");
+    (listener, address)
 }
 
 /// A client that has sent these bytes.
-pub fn client<R: Net<Stream = TcpStream>>(
-    rt: &R,
-    address: SocketAddr,
-    bytes: &[u8],
-) -> io::Result<TcpStream> {
-    let mut stream = rt.connect(address)?;
-    stream.write_all(bytes)?;
-    Ok(stream)
+pub fn client<R>(rt: &R, address: SocketAddr, bytes: &[u8]) -> TcpStream
+where
+    R: Abort + Net<Stream = TcpStream>,
+{
+    let mut client = rt.connect(address).expect(rt, "no client");
+    client.write_all(bytes).expect(rt, "nothing was sent");
+    client
 }
 
-/// All replies to a client that sends these lines and ends its sending.
-pub fn replies_to<R>(rt: &R, address: SocketAddr, lines: &[u8]) -> io::Result<Vec<u8>>
-where
-    R: AllocGlobal + Net<Stream = TcpStream>,
-{
-    let mut client = client(rt, address, lines)?;
-    client.shutdown(Shutdown::Write)?;
-    let mut replies = Vec::new(rt.alloc());
-    let read = client.read_to_end(&mut replies);
+/// Adds to `told` all that a client is told from now on, to the end of its session.
+pub fn hear_all(rt: &impl Abort, client: TcpStream, told: &mut Vec<u8>) {
+    let mut client = client;
+    let read = client.read_to_end(told);
     drop(client);
-    read?;
-    Ok(replies)
+    read.expect(rt, "a client has failed");
 }
 
-/// So many clients, one after another, of which each has sent its number.
-pub fn clients<R>(rt: &R, address: SocketAddr, count: u8) -> io::Result<Vec<TcpStream>>
+/// `count` clients come, one after another. Each has sent its number, and leaves.
+pub fn send_numbers<R>(rt: &R, address: SocketAddr, count: u8)
 where
-    R: AllocGlobal + Net<Stream = TcpStream>,
+    R: Abort + Net<Stream = TcpStream>,
 {
-    let mut clients = Vec::new(rt.alloc());
     for number in 1..=count {
-        clients.push(client(rt, address, &[number])?)?;
+        drop(client(rt, address, &[number]));
     }
-    Ok(clients)
 }
 
-/// Whether the client of a session has sent the session's number.
-pub fn is_numbered(session: u32, stream: &TcpStream) -> bool {
+// Whether the client of a session has sent the session's number.
+fn is_numbered(session: u32, stream: &TcpStream) -> bool {
     let mut stream = stream;
     let mut number = [0];
     matches!(stream.read(&mut number), Ok(1)) && u32::from(number[0]) == session
+}
+
+/// A guest with a number, whose seat is spent after `left` sessions.
+///
+/// It adds its number to the digits of those that served. It adds a 9 if a session has another
+/// number than its client, or if the session is told anything but `places`. If it has a door, it
+/// shuts that after the fourth session.
+#[derive(Drop)]
+pub struct Idler<'a> {
+    pub number: u32,
+    pub left: u32,
+    pub places: bool,
+    pub served: &'a Mutex<u32>,
+    pub door: Option<&'a Mutex<Door<TcpListener>>>,
+}
+
+impl Serving for Idler<'_> {
+    fn is_spent(&self) -> bool {
+        self.left == 0
+    }
+
+    fn serve<R: Wait + Clock>(&mut self, rt: &R, session: u32, stream: &TcpStream, places: bool) {
+        self.left = self.left.saturating_sub(1);
+        let is_right = places == self.places && is_numbered(session, stream);
+        let digit = if is_right { self.number } else { 9 };
+        let mut served = self.served.lock(rt);
+        *served = served.saturating_mul(10).saturating_add(digit);
+        let is_last = *served >= 1000;
+        drop(served);
+        if let (true, Some(door)) = (is_last, self.door) {
+            door.lock(rt).is_open = false;
+        }
+    }
 }

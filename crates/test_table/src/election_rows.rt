@@ -1,98 +1,139 @@
-//! Rows of elections that the workers of a service decide. Where memory is refused, the test ends.
+//! Test cases of elections that the workers of a service decide. A test that runs out of memory
+//! stops.
 ghost use Rattle.std.specs.Prelude.{◌≤◌};
 
-use crate::grounds::{Ended, Ground};
-use crate::meetings::{Meeting, new_meeting, reaches};
-use crate::memory::shared;
+use crate::equal::equal;
+use crate::grounds::{Opened, open_locked, table_of};
+use crate::meetings::{LOOKS, Meeting, new_meeting};
 use crate::rings_of_one::Spelled;
-use crate::telling::{FOUR, FOUR_ITEMS, FOUR_TOLD, all_know_two, nodes_of, repeated};
+use crate::telling::{nodes_of, tally, tells};
 use ring_any::Any;
 use ring_election::RingElection;
-use ring_id::GroupName;
+use ring_id::{GroupName, NodeId};
 use ring_node::{Charter, Node};
-use ring_service::Waiting;
-use ring_table::{Entry, Table};
-use ring_terms::Noting;
-use ring_workers::OpenGate;
+use ring_service::{Closing, Service};
+use ring_table::{Access, Filed, Table};
+use ring_world::{Settlement, settle};
 use std::alloc::Global;
-use std::collections::VecDeque;
 use std::process::Abort;
 use std::sync::{Arc, Wait};
 use std::thread::Threads;
 use std::time::Clock;
 
-// How many reports that were known already stand in a history.
-fn known<E: RingElection>(table: &Table<E>) -> usize {
-    let mut known = 0usize;
-    for entry in table.history() {
-        if let Entry::Filing {
-            noting: Noting::Known,
-            ..
-        } = entry
-        {
-            known = known.saturating_add(1);
-        }
+// The lines by which a term of four members is started.
+const FOUR: &[u8] = b"create a peterson\njoin a 4\njoin a 1\njoin a 3\njoin a 2\nstart a\n";
+
+// Their replies.
+const FOUR_TOLD: &[u8] = b"ok\nok\nok\nok\nok\nterm 1\n";
+
+// The number of items that two workers handle in that term: a begin each, 24 messages and 4
+// announcements.
+const FOUR_ITEMS: u64 = 30;
+
+// Stops the test if these are not the four nodes of that term, settled, which all know 2.
+fn all_know_two<E: RingElection>(rt: &impl Abort, nodes: &[Node<E>]) {
+    let first = nodes.first().expect(rt, "no node");
+    let found = (nodes.len(), settle(first.charter(), nodes));
+    equal(rt, "nodes, and rest", found, (4, Settlement::Settled));
+    for node in nodes {
+        equal(rt, "who leads", node.known(), NodeId::new(2));
     }
-    known
 }
 
-// The reports of four settled nodes are all filed anew, and known already.
-fn finish_known<E: RingElection>(rt: &impl Abort, table: &mut Table<E>, nodes: &[Node<E>]) {
-    let (before, told) = (table.history().len(), known(table));
-    assert!(rt; table.finish(nodes).is_ok());
-    assert_eq!(rt; known(table), told.saturating_add(4));
-    assert_eq!(rt; table.history().len(), before.saturating_add(4));
+// Stops the test if a report of one of these nodes was not known.
+fn are_known<R: Abort + Wait, A: Access<Any> + Drop>(
+    rt: &R,
+    access: &A,
+    seat: A::Seat,
+    nodes: &[Node<Any>],
+)
+    requires { A.has_seat access.now seat }
+{
+    let mut seat = seat;
+    for node in nodes {
+        let copy = Arc::try_clone(node.charter()).expect(rt, "no copy");
+        let report = node.report(copy).expect(rt, "no report");
+        let filed = access.report(rt, &mut seat, &report);
+        drop(report);
+        equal(rt, "a report", filed, Filed::Known);
+    }
+    drop(seat);
 }
 
-// Two workers that must both run decide the term of four members that they were told of: all come to rest, and the table
-// knows what they know, also if the nodes are filed once more when all is done.
-fn end_decided<R: Abort + Threads + Wait + Clock + Drop>(
+// Has a session start a term of four members. If there are charters, the workers go on with their
+// term instead.
+fn begin<R, A>(
     rt: &R,
     alloc: Global,
-    ground: Ground,
-    gate: Arc<Meeting<R>>,
-) {
-    let mut ground = ground;
-    assert!(rt; reaches(rt, &gate.left, FOUR_ITEMS));
-    ground.tells(rt, alloc, 1, b"terms a\n", b"terms 1:2\n");
-    drop(gate);
-    let Ended {
-        mut table,
+    service: &Service<A>,
+    seat: &mut A::Seat,
+    running: Vec<Arc<Charter<Any>>>,
+)
+where
+    R: Abort + Wait,
+    A: Access<Any> + Send + Sync + Drop + 'static,
+    A::Seat: Send + 'static,
+    requires { A.has_seat service.now seat.old }
+    ensures { A.has_seat service.now seat.new }
+{
+    if running.is_empty() {
+        drop(running);
+        tells(rt, alloc, service.front(), seat, 1, FOUR, FOUR_TOLD);
+    } else {
+        assert!(rt; service.resume(rt, running).is_ok());
+    }
+}
+
+/// Two workers that must both run decide a term of four members, which a session starts or which
+/// was running with these charters. All nodes come to rest, and the table knows what they know, by
+/// a seat that is left. Returns the access and the nodes.
+pub fn decide<R, A>(
+    rt: &R,
+    alloc: Global,
+    opened: Opened<A>,
+    gate: &Meeting<R>,
+    running: Vec<Arc<Charter<Any>>>,
+) -> (Arc<A>, Vec<Node<Any>>)
+where
+    R: Abort + Threads + Wait + Clock,
+    A: Access<Any> + Send + Sync + Drop + 'static,
+    A::Seat: Send + 'static,
+{
+    let Opened {
+        service,
+        one: mut seat,
+        other,
+    } = opened;
+    drop(other);
+    begin(rt, alloc, &service, &mut seat, running);
+    assert!(rt; gate.reaches(&gate.left, FOUR_ITEMS));
+    let told = b"terms 1:2\n";
+    tells(rt, alloc, service.front(), &mut seat, 1, b"terms a\n", told);
+    let Closing {
+        access,
         handed,
         waiting,
-    } = ground.end(rt);
+    } = service.close(rt);
     drop(waiting);
     let nodes = nodes_of(rt, alloc, handed);
     all_know_two(rt, &nodes);
-    finish_known(rt, &mut table, &nodes);
+    are_known(rt, &*access, seat, &nodes);
+    (access, nodes)
+}
+
+// Files the reports of four nodes once more. Stops the test if one was not known.
+fn finish_known<E: RingElection>(rt: &impl Abort, table: Table<E>, nodes: Vec<Node<E>>) {
+    let mut table = table;
+    let [calls, news, known, stale] = tally(&table);
+    assert!(rt; table.finish(&nodes).is_ok());
     drop(nodes);
+    let found = tally(&table);
     drop(table);
+    let wanted = [calls, news, known.saturating_add(4), stale];
+    equal(rt, "calls, and reports", found, wanted);
 }
 
-// Two workers decide a term of four members that a session starts, with inboxes of this capacity.
-fn decide<R: Abort + Threads + Wait + Clock + Copy + Send + Sync + Drop + 'static>(
-    rt: &R,
-    alloc: Global,
-    inbox: usize,
-)
-    requires { (1 ≤ inbox) × (inbox ≤ 65536) }
-{
-    let gate = new_meeting(rt, alloc);
-    let copy = Arc::try_clone(&gate).expect(rt, "no copy");
-    let mut ground = Ground::open(rt, alloc, 2, inbox, copy).expect(rt, "no service");
-    ground.tells(rt, alloc, 1, FOUR, FOUR_TOLD);
-    end_decided(rt, alloc, ground, gate);
-}
-
-#[test]
-fn two_workers_decide_a_term_by_a_lock(rt: HostRuntime) {
-    let alloc = rt.alloc();
-    for inbox in [64, 1] {
-        decide(&rt, alloc, inbox);
-    }
-}
-
-// The lines by which the group of the term of four members is made.
+// The lines by which a group of four members is made.
 const FOUR_MADE: [&[u8]; 5] = [
     b"create a peterson",
     b"join a 4",
@@ -101,7 +142,7 @@ const FOUR_MADE: [&[u8]; 5] = [
     b"join a 2",
 ];
 
-// A table in which the term of four members was started, with its charter.
+// A table in which a term of four members was started, and its charter.
 fn started<E: Spelled>(rt: &impl Abort, alloc: Global) -> (Table<E>, Vec<Arc<Charter<E>>>) {
     let mut table = Table::new(alloc);
     for line in FOUR_MADE {
@@ -111,110 +152,34 @@ fn started<E: Spelled>(rt: &impl Abort, alloc: Global) -> (Table<E>, Vec<Arc<Cha
     let group = GroupName::from_bytes(b"a").expect(rt, "no name");
     let (reply, charters) = table.begin(1, group, 1);
     drop(reply);
-    assert_eq!(rt; charters.len(), 1);
+    equal(rt, "charters", charters.len(), 1);
     (table, charters)
 }
 
-// Two workers decide a term that was running when its table was given to their service.
+// Two workers decide a term by a locked table, with inboxes of this capacity. The table knows what
+// the nodes know, also if they are filed once more at the end.
+fn decide_locked<R>(rt: &R, alloc: Global, inbox: usize, is_running: bool)
+where
+    R: Abort + Threads + Wait + Clock + Copy + Send + Sync + Drop + 'static,
+    requires { (1 ≤ inbox) × (inbox ≤ 65536) }
+{
+    let (table, running) = if is_running {
+        started(rt, alloc)
+    } else {
+        (Table::new(alloc), Vec::new(alloc))
+    };
+    let gate = new_meeting(rt, alloc, LOOKS);
+    let made = open_locked(rt, alloc, table, 2, inbox, &gate);
+    let opened = made.expect(rt, "no service");
+    let (access, nodes) = decide(rt, alloc, opened, &gate, running);
+    drop(gate);
+    finish_known(rt, table_of(rt, access), nodes);
+}
+
 #[test]
-fn two_workers_decide_a_term_that_was_running(rt: HostRuntime) {
+fn two_workers_decide_a_term_by_a_lock(rt: HostRuntime) {
     let alloc = rt.alloc();
-    let (table, charters) = started::<Any>(&rt, alloc);
-    let gate = new_meeting(&rt, alloc);
-    let copy = Arc::try_clone(&gate).expect(&rt, "no copy");
-    let ground = Ground::over(&rt, alloc, table, 2, 64, copy).expect(&rt, "no service");
-    assert!(rt; ground.service.resume(&rt, charters).is_ok());
-    end_decided(&rt, alloc, ground, gate);
-}
-
-// The lines by which twenty groups of the members 1 and 2 are made, and each is started once.
-fn twenty_groups(rt: &impl Abort, alloc: Global) -> Vec<u8> {
-    let mut lines = Vec::new(alloc);
-    for number in 0..20 {
-        let line = format!(in alloc;
-            "create g{number} chang\njoin g{number} 1\njoin g{number} 2\nstart g{number}\n"
-        ).expect(rt, "no memory");
-        lines
-            .extend_from_slice(line.as_bytes())
-            .expect(rt, "no memory");
-        drop(line);
+    for (inbox, is_running) in [(64, false), (1, false), (64, true)] {
+        decide_locked(&rt, alloc, inbox, is_running);
     }
-    lines
-}
-
-// Whether a node is that of a group's member whose worker, of two, has this number.
-fn is_node_of<E: RingElection>(node: &Node<E>, group: GroupName, worker: u32) -> bool {
-    let charter = node.charter();
-    match charter.roster().at(node.position()) {
-        Some(member) => charter.group() == group && member.get() % 2 == worker,
-        None => false,
-    }
-}
-
-// Whether a worker of two has the node of its member of this group.
-fn has_node<E: RingElection>(nodes: &[Node<E>], group: GroupName, worker: u32) -> bool {
-    for node in nodes {
-        if is_node_of(node, group, worker) {
-            return true;
-        }
-    }
-    false
-}
-
-// Whether the begin of this group waits for a worker.
-fn waits(waiting: &VecDeque<Waiting>, group: GroupName, worker: u32) -> bool {
-    for begin in waiting {
-        if begin.worker == worker as usize && begin.charter.group() == group {
-            return true;
-        }
-    }
-    false
-}
-
-// The group with this number of the twenty.
-fn group_of(rt: &impl Abort, alloc: Global, number: u32) -> GroupName {
-    let name = format!(in alloc; "g{number}").expect(rt, "no memory");
-    let group = GroupName::from_bytes(name.as_bytes()).expect(rt, "no name");
-    drop(name);
-    group
-}
-
-// Both workers have begun each of the twenty groups, or its begin waits.
-fn all_begun<E: RingElection>(
-    rt: &impl Abort,
-    alloc: Global,
-    nodes: &[Node<E>],
-    waiting: &VecDeque<Waiting>,
-) {
-    for number in 0..20 {
-        let group = group_of(rt, alloc, number);
-        for worker in [0, 1] {
-            let is_begun = has_node(nodes, group, worker) || waits(waiting, group, worker);
-            assert!(rt; is_begun, "group {number}, worker {worker}");
-        }
-    }
-}
-
-// Twenty groups are started while each inbox holds one item: no begin is lost, and nobody shares the table any more when
-// the service is ended.
-#[test]
-fn no_begin_is_lost(rt: HostRuntime) {
-    let alloc = rt.alloc();
-    let lines = twenty_groups(&rt, alloc);
-    let told = repeated(&rt, alloc, b"ok\nok\nok\nterm 1\n", 20);
-    let gate = shared(&rt, alloc, OpenGate);
-    let mut ground = Ground::open(&rt, alloc, 2, 1, gate).expect(&rt, "no service");
-    ground.tells(&rt, alloc, 1, &lines, &told);
-    drop(lines);
-    drop(told);
-    let Ended {
-        table,
-        handed,
-        waiting,
-    } = ground.end(&rt);
-    drop(table);
-    let nodes = nodes_of(&rt, alloc, handed);
-    all_begun(&rt, alloc, &nodes, &waiting);
-    drop(nodes);
-    drop(waiting);
 }

@@ -1,11 +1,10 @@
-//! A service over an access, with the seats of its callers, and the ground of the rows by a locked table.
+//! Services over an access, with the seats of their callers.
 ghost use Rattle.std.specs.Prelude.{◌≤◌, All};
 
 use crate::memory::shared;
 use ring_any::Any;
-use ring_lines::{FromRead, Intake, LineFault, Outlet, ToWrite};
 use ring_service::{Closing, Service, StartFault, Waiting};
-use ring_table::{Access, LockedSeat, LockedTable, Table};
+use ring_table::{Access, LockedTable, Table};
 use ring_workers::{Gate, Handed};
 use std::alloc::Global;
 use std::collections::VecDeque;
@@ -15,7 +14,7 @@ use std::sync::{Arc, Wait};
 use std::thread::Threads;
 use std::time::Clock;
 
-/// A service at a table that had no groups, and the seats of two callers.
+/// A service, and the seats of two callers.
 #[derive(Drop)]
 pub struct Opened<A: Access<Any> + Drop> {
     /// The service.
@@ -31,17 +30,19 @@ impl<A: Access<Any> + Drop> Model for Opened<A> {
 
     ghost view = { λ opened. opened.service };
 
-    ghost invariant = { λ opened. A.has_seat opened.service opened.one × A.has_seat opened.service opened.other };
+    ghost invariant = { λ opened.
+        A.has_seat opened.service opened.one × A.has_seat opened.service opened.other };
 }
 
-/// The service at an access, the last two of whose seats are the callers' and the others the workers'.
+/// Starts the service at an access. Its last two seats are the callers', and the others the
+/// workers'.
 pub fn open<A, G, R>(
     rt: &R,
     alloc: Global,
     access: A,
     seats: Vec<A::Seat>,
     inbox: usize,
-    gate: Arc<G>,
+    gate: &Arc<G>,
 ) -> Result<Opened<A>, StartFault>
 where
     A: Access<Any> + Send + Sync + Drop + 'static,
@@ -57,7 +58,8 @@ where
     let workers = seats.len();
     assert!(rt; workers >= 1 && workers <= 8);
     let access = shared(rt, alloc, access);
-    match Service::gated(rt, alloc, access, seats, workers, inbox, gate) {
+    let copy = Arc::try_clone(gate).expect(rt, "no copy");
+    match Service::gated(rt, alloc, access, seats, workers, inbox, copy) {
         Ok(service) => Ok(Opened {
             service,
             one,
@@ -67,120 +69,54 @@ where
     }
 }
 
-/// A service at a locked table that had no groups, and a seat by which all its sessions are served.
-#[derive(Drop)]
-pub struct Ground {
-    /// The service.
-    pub service: Service<LockedTable<Any>>,
-    /// The seat.
-    pub seat: LockedSeat<Any>,
+/// A service at a locked table.
+pub type Ground = Opened<LockedTable<Any>>;
+
+/// Starts a service with `workers` workers over this table, under a lock.
+pub fn open_locked<G, R>(
+    rt: &R,
+    alloc: Global,
+    table: Table<Any>,
+    workers: usize,
+    inbox: usize,
+    gate: &Arc<G>,
+) -> Result<Ground, StartFault>
+where
+    G: Gate + Send + Sync + Drop + 'static,
+    R: Abort + Threads + Wait + Clock + Copy + Send + Drop + 'static,
+    requires workers { workers ≤ 8 }
+    requires inbox { (1 ≤ inbox) × (inbox ≤ 65536) }
+{
+    let Ok((table, seats)) = LockedTable::new(alloc, table, workers + 2) else {
+        return Err(StartFault::NoMemory);
+    };
+    open(rt, alloc, table, seats, inbox, gate)
 }
 
-/// What a service leaves that was ended.
-#[derive(Drop)]
-pub struct Ended {
-    /// The table, which nobody shares any more.
-    pub table: Table<Any>,
-    /// What the workers handed over.
-    pub handed: Vec<Handed<Any>>,
-    /// The begins that no inbox stored.
-    pub waiting: VecDeque<Waiting>,
+/// Returns the table of an access that nobody shares any more.
+pub fn table_of(rt: &impl Abort, access: Arc<LockedTable<Any>>) -> Table<Any> {
+    Arc::into_inner(access)
+        .expect(rt, "somebody shares the table still")
+        .into_table()
 }
 
-impl Ground {
-    /// A service with `workers` workers over a table without groups.
-    pub fn open<G, R>(
-        rt: &R,
-        alloc: Global,
-        workers: usize,
-        inbox: usize,
-        gate: Arc<G>,
-    ) -> Result<Ground, StartFault>
-    where
-        G: Gate + Send + Sync + Drop + 'static,
-        R: Abort + Threads + Wait + Clock + Copy + Send + Drop + 'static,
-        requires workers { workers ≤ 8 }
-        requires inbox { (1 ≤ inbox) × (inbox ≤ 65536) }
-    {
-        Ground::over(rt, alloc, Table::new(alloc), workers, inbox, gate)
-    }
-
-    /// The same over this table.
-    pub fn over<G, R>(
-        rt: &R,
-        alloc: Global,
-        table: Table<Any>,
-        workers: usize,
-        inbox: usize,
-        gate: Arc<G>,
-    ) -> Result<Ground, StartFault>
-    where
-        G: Gate + Send + Sync + Drop + 'static,
-        R: Abort + Threads + Wait + Clock + Copy + Send + Drop + 'static,
-        requires workers { workers ≤ 8 }
-        requires inbox { (1 ≤ inbox) × (inbox ≤ 65536) }
-    {
-        let Ok((table, seats)) = LockedTable::new(alloc, table, workers + 2) else {
-            return Err(StartFault::NoMemory);
-        };
-        match open(rt, alloc, table, seats, inbox, gate) {
-            Ok(
-                Opened {
-                    service,
-                    one: seat,
-                    other,
-                },
-            ) => {
-                drop(other);
-                Ok(Ground { service, seat })
-            }
-            Err(fault) => Err(fault),
-        }
-    }
-
-    /// What a session over these ends comes to, with so many read calls.
-    pub fn serves<R: Wait, I: Intake, O: Outlet>(
-        &mut self,
-        rt: &R,
-        session: u32,
-        reader: &mut I,
-        writer: &mut O,
-        reads: u32,
-    ) -> Result<u64, LineFault> {
-        let front = self.service.front();
-        front.serve(rt, &mut self.seat, session, reader, writer, reads)
-    }
-
-    /// A session over memory comes to its end and is told this.
-    pub fn tells<R: Abort + Wait>(
-        &mut self,
-        rt: &R,
-        alloc: Global,
-        session: u32,
-        lines: &[u8],
-        told: &[u8],
-    ) {
-        let mut writer = ToWrite(Vec::new(alloc));
-        let served = self.serves(rt, session, &mut FromRead(lines), &mut writer, 1000);
-        assert!(rt; served.is_ok());
-        assert_eq!(rt; writer.0.as_slice(), told);
-        drop(writer);
-    }
-
-    /// Ends the service: what it leaves. Nobody shares the table then.
-    pub fn end<R: Abort + Threads + Wait>(self, rt: &R) -> Ended {
-        let Ground { service, seat } = self;
-        drop(seat);
-        let Closing {
-            access,
-            handed,
-            waiting,
-        } = service.close(rt);
-        let locked = Arc::into_inner(access).expect(rt, "somebody shares the table still");
-        Ended {
-            table: locked.into_table(),
-            handed,
-            waiting,
-        }
-    }
+/// Ends a service. Returns its table, the results of the workers, and the begins that no inbox
+/// stored.
+pub fn end<R: Abort + Threads + Wait>(
+    rt: &R,
+    ground: Ground,
+) -> (Table<Any>, Vec<Handed<Any>>, VecDeque<Waiting>) {
+    let Opened {
+        service,
+        one,
+        other,
+    } = ground;
+    drop(one);
+    drop(other);
+    let Closing {
+        access,
+        handed,
+        waiting,
+    } = service.close(rt);
+    (table_of(rt, access), handed, waiting)
 }

@@ -1,13 +1,27 @@
-//! Worked rows of tables. Of one that a caller has alone: its calls, its reports and its history. Of one that many share,
-//! by a locked table: the places of a seat's calls, what sessions are told, the elections that workers decide, the begins
-//! that wait, and how a service ends. By a turn lock: the places of a seat's calls, its threads, its sessions and its
-//! workers. Each is a run with the values that it must come to.
+//! Test cases of tables, of the locks by which callers share them, and of services and campaigns
+//! over them. Each is a run with the values that it must come to.
+//!
+//! Of a table: its calls, its reports and its history, if a caller has it alone. By a turn lock and
+//! by a locked table: the places of a seat's calls, two threads, sessions, and workers that decide
+//! terms. Of services: begins that wait, and what is left at the end.
+//! Of campaigns: what a client is told and what it leaves, whichever call of its reader or writer
+//! fails.
 #![tactic(auto)]
 
 #[cfg(test)]
+mod beginning_rows;
+#[cfg(test)]
+mod campaign_rows;
+#[cfg(test)]
 mod closing_rows;
 #[cfg(test)]
+mod desks;
+#[cfg(test)]
 mod election_rows;
+#[cfg(test)]
+mod equal;
+#[cfg(test)]
+mod fields;
 #[cfg(test)]
 mod grounds;
 #[cfg(test)]
@@ -18,8 +32,6 @@ mod meetings;
 mod memory;
 #[cfg(test)]
 mod rings_of_one;
-#[cfg(test)]
-mod seat_rows;
 #[cfg(test)]
 mod service_rows;
 #[cfg(test)]

@@ -9,28 +9,32 @@ use std::sync::atomic::{AtomicU64, Ordering};
 use std::thread;
 use std::time::{Clock, Duration};
 
-// How often a gate looks for what it waits for, a millisecond apart.
-const LOOKS: u32 = 10000;
+/// Looks enough for two workers that run: ten seconds of them.
+pub const LOOKS: u32 = 10000;
 
-/// Holds each of two workers' first item until the other has entered its first, and counts the items.
+/// Holds the first item of each of two workers until the other has its first item, for `looks`
+/// looks. Then the worker is halted, with no looks at once. Counts the items.
 #[derive(Drop)]
 pub struct Meeting<R> {
     rt: R,
-    /// How many first items were entered.
+    looks: u32,
+    /// The number of first items that were entered.
     pub entered: AtomicU64,
-    /// How many items were left.
+    /// The number of items that were left.
     pub left: AtomicU64,
 }
 
-/// Whether a number is reached within so many looks.
-pub fn reaches<R: Clock>(rt: &R, number: &AtomicU64, goal: u64) -> bool {
-    for _ in 0..LOOKS {
-        if goal <= number.load(Ordering::SeqCst) {
-            return true;
+impl<R: Clock> Meeting<R> {
+    /// Returns whether a number comes to `goal` within the looks, which are a millisecond apart.
+    pub fn reaches(&self, number: &AtomicU64, goal: u64) -> bool {
+        for _ in 0..self.looks {
+            if goal <= number.load(Ordering::SeqCst) {
+                return true;
+            }
+            thread::sleep(&self.rt, Duration::from_millis(1));
         }
-        thread::sleep(rt, Duration::from_millis(1));
+        false
     }
-    false
 }
 
 impl<R: Clock> Gate for Meeting<R> {
@@ -39,7 +43,7 @@ impl<R: Clock> Gate for Meeting<R> {
             return Pass::Go;
         }
         self.entered.fetch_add(1, Ordering::SeqCst);
-        if reaches(&self.rt, &self.entered, 2) {
+        if self.reaches(&self.entered, 2) {
             Pass::Go
         } else {
             Pass::Halt
@@ -51,10 +55,11 @@ impl<R: Clock> Gate for Meeting<R> {
     }
 }
 
-/// A gate that nobody has entered.
-pub fn new_meeting<R: Abort + Copy>(rt: &R, alloc: Global) -> Arc<Meeting<R>> {
+/// Returns a gate that nobody has entered.
+pub fn new_meeting<R: Abort + Copy>(rt: &R, alloc: Global, looks: u32) -> Arc<Meeting<R>> {
     let gate = Meeting {
         rt: *rt,
+        looks,
         entered: AtomicU64::new(0),
         left: AtomicU64::new(0),
     };

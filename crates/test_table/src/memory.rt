@@ -1,14 +1,15 @@
-//! What is refused memory is asked for once more. Where it is refused twice, the test ends.
+//! Allocations that are repeated once if they fail. If one fails twice, the test stops.
 ghost use Rattle.std.specs.Prelude.{◌≡◌, [], vec_capacity, vec_len};
 
+use ring_lines::DripOut;
 use std::alloc::{AllocFailed, Global};
 use std::process::Abort;
 use std::sync::Arc;
 
-/// What a test says that stops where memory was refused twice.
+/// The panic message of a test that ran out of memory twice.
 pub const TWICE: &str = "memory was refused twice";
 
-/// An empty list that has room for so many items.
+/// Returns an empty list that has room for `room` items.
 pub fn with_room<T>(rt: &impl Abort, alloc: Global, room: usize) -> Vec<T>
     ensures items { result.items ≡ [] }
     ensures len { vec_len result ≡ 0 }
@@ -20,7 +21,7 @@ pub fn with_room<T>(rt: &impl Abort, alloc: Global, room: usize) -> Vec<T>
     }
 }
 
-/// A value that many own.
+/// Returns a value that many own.
 pub fn shared<T>(rt: &impl Abort, alloc: Global, value: T) -> Arc<T>
     ensures { result.value ≡ value }
 {
@@ -30,13 +31,22 @@ pub fn shared<T>(rt: &impl Abort, alloc: Global, value: T) -> Arc<T>
     }
 }
 
-// Whether two texts begin alike, as far as the shorter one goes, which is not empty.
+/// Returns a writer of one byte per call, whose call with this number fails.
+pub fn writer(rt: &impl Abort, alloc: Global, fault_at: u64) -> DripOut {
+    match DripOut::new(alloc, 200, fault_at) {
+        Ok(writer) => writer,
+        Err(_) => DripOut::new(alloc, 200, fault_at).expect(rt, TWICE),
+    }
+}
+
+// Returns whether the shorter of two texts is not empty and is a prefix of the longer one.
 fn begin_alike(one: &[u8], other: &[u8]) -> bool {
     let len = one.len().min(other.len());
     len > 0 && one[..len] == other[..len]
 }
 
-/// Whether a text of replies says that memory was refused, or its last line is cut and may go on so.
+/// Returns whether a text of replies says that an allocation failed, or its last line is cut and
+/// may go on so.
 pub fn tells_of_memory(text: &[u8]) -> bool {
     let mut start = 0usize;
     for at in 0..text.len() {

@@ -1,21 +1,22 @@
-//! What the rows of tables and of seats share: how something is spelled, and the election of a ring of one member. What
-//! is refused memory is asked for once more; whatever else goes wrong stops the test where it does.
+//! Elections of one member, and how their commands and replies are spelled. A call that ran out of
+//! memory is repeated once.
 
+use crate::equal::equal;
 use crate::memory::{TWICE, with_room};
 use ring_any::Any;
 use ring_election::RingElection;
 use ring_events::Command;
-use ring_id::{NoMemory, Side};
+use ring_id::Side;
 use ring_lines::{Spell, parse_command};
 use ring_node::{Charter, Node, Report, TakeFault};
 use std::alloc::Global;
 use std::process::Abort;
 use std::sync::Arc;
 
-/// An election whose commands lines spell. Rows are for any such election: so their proofs don't see what `Any` consists
-/// of.
+/// An election whose commands are spelled by lines. Test cases are for any such election, so that
+/// their proofs do not see the parts of `Any`.
 pub trait Spelled: RingElection {
-    /// The command that a line spells, if it spells one.
+    /// Returns the command that a line spells, if it spells one.
     fn parse(line: &[u8]) -> Option<Command<Self>>;
 }
 
@@ -25,33 +26,28 @@ impl Spelled for Any {
     }
 }
 
-/// Stops the test if a reply or an answer is spelled by another line.
-pub fn is_line<S: Spell>(rt: &impl Abort, alloc: Global, told: &S, line: &[u8]) {
+/// Stops the test if the reply or the answer to a line is spelled by something else than `wanted`.
+pub fn is_line<S: Spell>(rt: &impl Abort, alloc: Global, line: &[u8], told: &S, wanted: &[u8]) {
     let mut text = with_room(rt, alloc, 64);
-    assert_eq!(rt; told.spell(&mut text), Ok(()));
-    assert_eq!(rt; text.as_slice(), line);
+    let spelled = told.spell(&mut text);
+    let found = (line, spelled, text.as_slice());
+    equal(rt, "a line, and its reply", found, (line, Ok(()), wanted));
     drop(text);
 }
 
-/// The node of the one member of a charter's ring, which has received nothing.
-fn seated_once<E: RingElection>(
-    rt: &impl Abort,
-    alloc: Global,
-    charter: &Arc<Charter<E>>,
-) -> Result<Node<E>, NoMemory> {
-    assert_eq!(rt; charter.roster().len(), 1);
-    Node::seat(alloc, Arc::try_clone(charter).expect(rt, "no copy"), 0)
-}
-
-/// The same, asked for once more where memory was refused.
+// Returns the node of the one member of a charter's ring, which has received nothing.
 fn seated<E: RingElection>(rt: &impl Abort, alloc: Global, charter: &Arc<Charter<E>>) -> Node<E> {
-    match seated_once(rt, alloc, charter) {
-        Ok(node) => node,
-        Err(NoMemory) => seated_once(rt, alloc, charter).expect(rt, TWICE),
+    equal(rt, "members", charter.roster().len(), 1);
+    for _ in 0..2 {
+        let copy = Arc::try_clone(charter).expect(rt, "no copy");
+        if let Ok(node) = Node::seat(alloc, copy, 0) {
+            return node;
+        }
     }
+    panic!(rt; "{TWICE}")
 }
 
-/// The node of the one member of a charter's ring, once it knows that it leads.
+/// Returns the node of the one member of a charter's ring, which knows that it leads.
 pub fn elect<E: RingElection>(
     rt: &impl Abort,
     alloc: Global,
@@ -59,8 +55,8 @@ pub fn elect<E: RingElection>(
 ) -> Node<E> {
     let mut node = seated(rt, alloc, charter);
     let copy = Arc::try_clone(node.charter()).expect(rt, "no copy");
-    let envelope = node.envelope(copy, Side::Right, 0);
-    let taken = match node.take(envelope.expect(rt, "nothing was sent")) {
+    let sent = node.envelope(copy, Side::Right, 0);
+    let taken = match node.take(sent.expect(rt, "nothing was sent")) {
         Err((TakeFault::NoMemory, back)) => node.take(back),
         taken => taken,
     };
@@ -69,7 +65,7 @@ pub fn elect<E: RingElection>(
     node
 }
 
-/// What a node tells that knows the leader.
+/// Returns the report of a node that knows its leader.
 pub fn told_by<E: RingElection>(rt: &impl Abort, node: &Node<E>) -> Report<E> {
     let copy = Arc::try_clone(node.charter()).expect(rt, "no copy");
     node.report(copy).expect(rt, "it knows no leader")

@@ -1,11 +1,14 @@
-//! Rows of sessions over ends of one byte for each call: what each line is answered, at the end of the input and at a
-//! fault. Each session runs twice, over these ends themselves and over them as a reader and a writer of std. One that is
-//! refused memory runs once more.
+//! Test cases of sessions over ends of one byte for each call: what each line is answered, at the
+//! end of the input and at a fault. Each session runs twice: over these ends themselves, and over
+//! them as a reader and a writer of std. A session that ran out of memory is repeated once.
 
-use crate::grounds::Ground;
-use crate::memory::{TWICE, shared, tells_of_memory};
-use crate::telling::{FIRST, FIRST_TOLD, ShutGate};
+use crate::equal::equal;
+use crate::grounds::{end, open_locked};
+use crate::meetings::new_meeting;
+use crate::memory::{tells_of_memory, writer};
+use crate::telling::{FIRST, FIRST_TOLD};
 use ring_lines::{DripIn, DripOut, FromRead, Intake, LineFault, Outlet, ToWrite};
+use ring_table::Table;
 use std::alloc::Global;
 use std::process::Abort;
 use std::sync::Wait;
@@ -14,8 +17,8 @@ use std::time::Clock;
 
 const LINES: &[u8] = b"create a chang\njoin a 5\nstart a\nwho a 5\n";
 
-/// The input of a session and the calls of its ends: those of these numbers fail, a read and a write, and so many read
-/// calls are granted.
+/// The input of a session, the numbers of the read call and the write call that fail, and how many
+/// read calls it may make. A call with the number 0 is none.
 #[derive(Clone, Copy)]
 struct Drip<'a> {
     lines: &'a [u8],
@@ -26,16 +29,8 @@ struct Drip<'a> {
 // What a session comes to, and its writer.
 type Came = (Result<u64, LineFault>, DripOut);
 
-// A writer that fails at the call with this number. Asked for once more where memory was refused.
-fn writer(rt: &impl Abort, alloc: Global, fault_at: u64) -> DripOut {
-    match DripOut::new(alloc, 100, fault_at) {
-        Ok(writer) => writer,
-        Err(_) => DripOut::new(alloc, 100, fault_at).expect(rt, TWICE),
-    }
-}
-
-// What a session over these ends is answered, by a service of its own whose worker does nothing. Refused memory where
-// that service is.
+// Serves a session by a service of its own, whose worker does nothing. Returns what it comes to;
+// `NoMemory` if there is no memory for the service.
 fn served<R, I: Intake, O: Outlet>(
     rt: &R,
     alloc: Global,
@@ -44,152 +39,127 @@ fn served<R, I: Intake, O: Outlet>(
     reads: u32,
 ) -> Result<u64, LineFault>
 where
-    R: Abort + Threads + Wait + Clock + Copy + Send + Drop + 'static,
+    R: Abort + Threads + Wait + Clock + Copy + Send + Sync + Drop + 'static,
 {
-    let Ok(mut ground) = Ground::open(rt, alloc, 1, 64, shared(rt, alloc, ShutGate)) else {
+    let gate = new_meeting(rt, alloc, 0);
+    let made = open_locked(rt, alloc, Table::new(alloc), 1, 64, &gate);
+    drop(gate);
+    let Ok(mut ground) = made else {
         return Err(LineFault::NoMemory);
     };
-    let served = ground.serves(rt, 1, reader, writer, reads);
-    drop(ground.end(rt));
+    let (front, seat) = (ground.service.front(), &mut ground.one);
+    let served = front.serve(rt, seat, 1, reader, writer, reads);
+    drop(end(rt, ground));
     served
 }
 
-// Whether a session that came to something else than this ran out of memory.
+// Returns whether a session ran out of memory and so came to something else than this.
 fn is_refused(came: &Came, wanted: Result<u64, LineFault>, replies: &[u8]) -> bool {
     let is_starved = came.0 == Err(LineFault::NoMemory) || tells_of_memory(came.1.taken());
     is_starved && (came.0 != wanted || came.1.taken() != replies)
 }
 
-// Such a session by the ends themselves.
-fn by_ends<R>(rt: &R, alloc: Global, drip: Drip) -> Came
+// Runs a session over the ends themselves, or over them as a reader and a writer of std.
+fn run<R>(rt: &R, alloc: Global, drip: Drip, by_std: bool) -> Came
 where
-    R: Abort + Threads + Wait + Clock + Copy + Send + Drop + 'static,
+    R: Abort + Threads + Wait + Clock + Copy + Send + Sync + Drop + 'static,
 {
     let mut out = writer(rt, alloc, drip.faults[1]);
     let mut reader = DripIn::new(drip.lines, drip.faults[0]);
-    let answer = served(rt, alloc, &mut reader, &mut out, drip.reads);
-    (answer, out)
+    if by_std {
+        let mut out = ToWrite(out);
+        let result = served(rt, alloc, &mut FromRead(reader), &mut out, drip.reads);
+        (result, out.0)
+    } else {
+        let result = served(rt, alloc, &mut reader, &mut out, drip.reads);
+        (result, out)
+    }
 }
 
-// The same by a reader and a writer of std.
-fn by_std<R>(rt: &R, alloc: Global, drip: Drip) -> Came
-where
-    R: Abort + Threads + Wait + Clock + Copy + Send + Drop + 'static,
-{
-    let mut out = ToWrite(writer(rt, alloc, drip.faults[1]));
-    let mut reader = FromRead(DripIn::new(drip.lines, drip.faults[0]));
-    let answer = served(rt, alloc, &mut reader, &mut out, drip.reads);
-    (answer, out.0)
-}
-
-// Stops the test if a session came to something else than this.
-fn assert_came(rt: &impl Abort, came: Came, wanted: Result<u64, LineFault>, replies: &[u8]) {
-    assert_eq!(rt; came.0, wanted);
-    assert_eq!(rt; came.1.taken(), replies);
-    drop(came);
-}
-
-// Such a session is answered so and told this, by these ends and by std. One that ran out of memory runs once more.
+// Stops the test if such a session comes to something else, or is told something else.
 fn assert_comes<R>(rt: &R, drip: Drip, wanted: Result<u64, LineFault>, replies: &[u8])
 where
-    R: Abort + AllocGlobal + Threads + Wait + Clock + Copy + Send + Drop + 'static,
+    R: Abort + AllocGlobal + Threads + Wait + Clock + Copy + Send + Sync + Drop + 'static,
 {
-    let mut came = by_ends(rt, rt.alloc(), drip);
-    if is_refused(&came, wanted, replies) {
+    for by_std in [false, true] {
+        let mut came = run(rt, rt.alloc(), drip, by_std);
+        if is_refused(&came, wanted, replies) {
+            drop(came);
+            came = run(rt, rt.alloc(), drip, by_std);
+        }
+        let found = (came.0, came.1.taken());
+        equal(rt, "lines, and replies", found, (wanted, replies));
         drop(came);
-        came = by_ends(rt, rt.alloc(), drip);
     }
-    assert_came(rt, came, wanted, replies);
-    let mut came = by_std(rt, rt.alloc(), drip);
-    if is_refused(&came, wanted, replies) {
-        drop(came);
-        came = by_std(rt, rt.alloc(), drip);
-    }
-    assert_came(rt, came, wanted, replies);
 }
 
-// The first bytes of a text.
+// Returns the first `len` bytes of a text.
 fn front(text: &[u8], len: usize) -> &[u8] {
     text.get(..len).unwrap_or(text)
 }
 
-// How many lines end in a text.
-fn lines_in(text: &[u8]) -> usize {
-    let mut count = 0usize;
-    for byte in text {
-        if *byte == b'\n' {
-            count = count.saturating_add(1);
-        }
-    }
-    count
-}
+// The numbers of bytes up to the end of each line of `FIRST`, and up to that of its reply.
+const ENDS: [(usize, usize); 5] = [(15, 3), (24, 6), (32, 13), (42, 23), (52, 35)];
 
-// The first lines of a text.
-fn first_lines(text: &[u8], count: usize) -> &[u8] {
-    let mut ended = 0usize;
-    for len in 0..text.len() {
-        if ended == count {
-            return &text[..len];
-        }
-        if text[len] == b'\n' {
-            ended = ended.saturating_add(1);
+// Returns the replies to the lines of `FIRST` that end within its first `len` bytes.
+fn told_after(len: usize) -> &'static [u8] {
+    let mut told = 0_usize;
+    for (line, reply) in ENDS {
+        if line <= len {
+            told = reply;
         }
     }
-    text
+    front(FIRST_TOLD, told)
 }
 
 #[test]
-fn a_session_counts_its_lines(rt: HostRuntime) {
-    let whole = Drip {
-        lines: LINES,
-        faults: [0, 0],
-        reads: 1000,
-    };
+fn a_session_counts_its_lines_and_ends_after_its_reads(rt: HostRuntime) {
     let replies = b"ok\nok\nterm 1\nundecided 1\n".as_slice();
-    assert_comes(&rt, whole, Ok(4), replies);
+    for (reads, wanted, told) in [
+        (1000, Ok(4), replies),
+        (15, Err(LineFault::Endless), b"ok\n"),
+    ] {
+        let drip = Drip {
+            lines: LINES,
+            faults: [0, 0],
+            reads,
+        };
+        assert_comes(&rt, drip, wanted, told);
+    }
 }
 
-#[test]
-fn a_session_ends_after_its_reads(rt: HostRuntime) {
-    let few = Drip {
-        lines: LINES,
-        faults: [0, 0],
-        reads: 15,
-    };
-    assert_comes(&rt, few, Err(LineFault::Endless), b"ok\n");
-}
-
+// The session makes 53 read calls.
 #[test]
 fn a_failed_read_ends_a_session_at_its_last_whole_line(rt: HostRuntime) {
-    for call in 1..55u64 {
+    for call in 1..55_u64 {
         let drip = Drip {
             lines: FIRST,
             faults: [call, 0],
             reads: 1000,
         };
-        if call == 54 {
-            assert_comes(&rt, drip, Ok(5), FIRST_TOLD);
+        let (wanted, told) = if call == 54 {
+            (Ok(5), FIRST_TOLD)
         } else {
-            let ended = lines_in(front(FIRST, call as usize - 1));
-            let told = first_lines(FIRST_TOLD, ended);
-            assert_comes(&rt, drip, Err(LineFault::Read), told);
-        }
+            (Err(LineFault::Read), told_after(call as usize - 1))
+        };
+        assert_comes(&rt, drip, wanted, told);
     }
 }
 
+// The session makes 35 write calls.
 #[test]
-fn a_failed_write_ends_a_session_with_a_front_of_its_replies(rt: HostRuntime) {
-    for call in 1..37u64 {
+fn a_failed_write_ends_a_session_with_a_prefix_of_its_replies(rt: HostRuntime) {
+    for call in 1..37_u64 {
         let drip = Drip {
             lines: FIRST,
             faults: [0, call],
             reads: 1000,
         };
-        if call == 36 {
-            assert_comes(&rt, drip, Ok(5), FIRST_TOLD);
+        let (wanted, told) = if call == 36 {
+            (Ok(5), FIRST_TOLD)
         } else {
-            let told = front(FIRST_TOLD, call as usize - 1);
-            assert_comes(&rt, drip, Err(LineFault::Write), told);
-        }
+            (Err(LineFault::Write), front(FIRST_TOLD, call as usize - 1))
+        };
+        assert_comes(&rt, drip, wanted, told);
     }
 }

@@ -1,15 +1,19 @@
-//! A row of a service in which an allocation may fail, wherever it is made. Sessions get their replies, and the worker is
-//! starved with its item in hand, or keeps the report that the table refused. A service that can't be started says so.
+//! A test case of a service in which any one allocation may fail. Sessions get their replies. The
+//! worker is starved with its item in hand, or keeps the report that the table refused. A service
+//! that cannot be started says so.
 //!
-//! A session that is refused memory is served once more. So the row comes to its end whichever allocation fails, if it is
-//! one alone: a sweep fails each in turn.
+//! A session that ran out of memory is repeated once. So the test passes if one allocation fails,
+//! whichever that is. A sweep fails each in turn.
 
-use crate::grounds::{Ended, Ground};
+use crate::equal::equal;
+use crate::grounds::{Ground, Opened, end, open_locked};
 use crate::memory::{TWICE, shared, with_room};
+use crate::telling::tally;
 use ring_any::Any;
+use ring_election::RingElection;
 use ring_lines::{FromRead, LineFault, ToWrite};
 use ring_service::StartFault;
-use ring_table::{Entry, Table};
+use ring_table::{Access, Table};
 use ring_workers::{Handed, OpenGate, Why};
 use std::alloc::Global;
 use std::process::Abort;
@@ -18,39 +22,39 @@ use std::thread;
 use std::thread::Threads;
 use std::time::{Clock, Duration};
 
-// How often is asked whether the member knows its leader, a millisecond apart.
+// At most this often a session asks whether the member knows its leader, a millisecond apart.
 const LOOKS: u32 = 1000;
 
-// What a session of one line is told. None where it was refused memory.
-fn told_once<R: Abort + Wait>(
-    rt: &R,
-    alloc: Global,
-    ground: &mut Ground,
-    line: &[u8],
-) -> Option<Vec<u8>> {
-    let mut writer = ToWrite(with_room(rt, alloc, 64));
-    let served = ground.serves(rt, 1, &mut FromRead(line), &mut writer, 1000);
-    let told = writer.0;
-    if served == Err(LineFault::NoMemory) || told.as_slice() == b"no no-memory\n".as_slice() {
+// Returns what a session of one line is told.
+fn told<R, A>(rt: &R, alloc: Global, opened: &mut Opened<A>, line: &[u8]) -> Vec<u8>
+where
+    R: Abort + Wait,
+    A: Access<Any> + Send + Sync + Drop + 'static,
+    A::Seat: Send + 'static,
+{
+    for _ in 0..2 {
+        let mut writer = ToWrite(with_room(rt, alloc, 64));
+        let (front, seat) = (opened.service.front(), &mut opened.one);
+        let served = front.serve(rt, seat, 1, &mut FromRead(line), &mut writer, 1000);
+        let told = writer.0;
+        if served != Err(LineFault::NoMemory) && told.as_slice() != b"no no-memory\n".as_slice() {
+            equal(rt, "lines", served, Ok(1));
+            return told;
+        }
         drop(told);
-        return None;
     }
-    assert_eq!(rt; served, Ok(1));
-    Some(told)
+    panic!(rt; "{TWICE}")
 }
 
-// What a session of one line is told, though it may be refused memory once.
-fn told<R: Abort + Wait>(rt: &R, alloc: Global, ground: &mut Ground, line: &[u8]) -> Vec<u8> {
-    match told_once(rt, alloc, ground, line) {
-        Some(told) => told,
-        None => told_once(rt, alloc, ground, line).expect(rt, TWICE),
-    }
-}
-
-// Whether the one member comes to know that it leads.
-fn comes_to_know<R: Abort + Wait + Clock>(rt: &R, alloc: Global, ground: &mut Ground) -> bool {
+// Returns whether the one member comes to know that it leads.
+fn comes_to_know<R, A>(rt: &R, alloc: Global, opened: &mut Opened<A>) -> bool
+where
+    R: Abort + Wait + Clock,
+    A: Access<Any> + Send + Sync + Drop + 'static,
+    A::Seat: Send + 'static,
+{
     for _ in 0..LOOKS {
-        let reply = told(rt, alloc, ground, b"who a 5\n");
+        let reply = told(rt, alloc, opened, b"who a 5\n");
         let knows = reply.as_slice() == b"leader 1 5\n".as_slice();
         drop(reply);
         if knows {
@@ -61,26 +65,39 @@ fn comes_to_know<R: Abort + Wait + Clock>(rt: &R, alloc: Global, ground: &mut Gr
     false
 }
 
-// How many reports a table has filed.
-fn filed(table: &Table<Any>) -> usize {
-    let mut filed = 0usize;
-    for entry in table.history() {
-        if matches!(entry, Entry::Filing { .. }) {
-            filed = filed.saturating_add(1);
-        }
-    }
-    filed
-}
-
-// Whether a worker hands over what it must: its item, if it is starved, and the one report, if the table has not filed it.
-fn is_whole(handed: &Handed<Any>, filed: usize) -> bool {
+// Returns whether a worker hands over what it must: its item, if it is starved, and the one report,
+// if the table has not filed it.
+fn is_whole<E: RingElection>(handed: &Handed<E>, filed: usize) -> bool {
     let is_starved = handed.why == Why::Starved && handed.held.is_some();
     let is_stopped = handed.why == Why::Stopped && handed.held.is_none();
     let reports = filed.saturating_add(handed.unfiled.len());
     handed.dropped == 0 && (is_stopped && reports == 1 || is_starved && reports <= 1)
 }
 
-// The lines by which a term of one member is started, and what each is told.
+// Stops the test if the one worker does not hand over what it must. If the member knows its leader,
+// its report must be filed.
+fn ends_whole<E: RingElection>(
+    rt: &impl Abort,
+    table: Table<E>,
+    handed: Vec<Handed<E>>,
+    knows: bool,
+) {
+    let [_, news, known, stale] = tally(&table);
+    drop(table);
+    let filed = news.saturating_add(known).saturating_add(stale);
+    let mut whole = 0_usize;
+    for one in &handed {
+        if is_whole(one, filed) {
+            whole = whole.saturating_add(1);
+        }
+    }
+    let found = (handed.len(), whole, filed);
+    drop(handed);
+    let wanted = if knows { 1 } else { filed };
+    equal(rt, "workers, whole, and filed", found, (1, 1, wanted));
+}
+
+// The lines by which a term of one member is started, with their replies.
 const STARTED: [(&[u8], &[u8]); 4] = [
     (b"create a chang\n", b"ok\n"),
     (b"join a 5\n", b"ok\n"),
@@ -88,7 +105,7 @@ const STARTED: [(&[u8], &[u8]); 4] = [
     (b"members a\n", b"members 5\n"),
 ];
 
-// Elects the one member of a group by a service with one worker, and ends the service.
+// Elects the one member of a group by a service with one worker. Then ends the service.
 fn elect<R>(rt: &R, alloc: Global, ground: Ground)
 where
     R: Abort + Threads + Wait + Clock,
@@ -96,31 +113,23 @@ where
     let mut ground = ground;
     for (line, wanted) in &STARTED {
         let reply = told(rt, alloc, &mut ground, line);
-        assert_eq!(rt; reply.as_slice(), *wanted);
+        equal(rt, "a reply", reply.as_slice(), *wanted);
         drop(reply);
     }
     let knows = comes_to_know(rt, alloc, &mut ground);
-    let Ended {
-        table,
-        handed,
-        waiting,
-    } = ground.end(rt);
-    let filed = filed(&table);
-    assert!(rt; filed == 1 || !knows, "{filed} reports");
-    for one in &handed {
-        assert!(rt; is_whole(one, filed));
-    }
-    assert_eq!(rt; handed.len(), 1);
-    drop(table);
-    drop(handed);
+    let (table, handed, waiting) = end(rt, ground);
     drop(waiting);
+    ends_whole(rt, table, handed, knows);
 }
 
 #[test]
 fn a_service_that_is_refused_memory_says_where(rt: HostRuntime) {
     let alloc = rt.alloc();
-    match Ground::open(&rt, alloc, 1, 64, shared(&rt, alloc, OpenGate)) {
+    let gate = shared(&rt, alloc, OpenGate);
+    let made = open_locked(&rt, alloc, Table::new(alloc), 1, 64, &gate);
+    drop(gate);
+    match made {
         Ok(ground) => elect(&rt, alloc, ground),
-        Err(fault) => assert_eq!(rt; fault, StartFault::NoMemory),
+        Err(fault) => equal(&rt, "a fault", fault, StartFault::NoMemory),
     }
 }

@@ -1,22 +1,22 @@
-//! What the rows of both accesses share: what a session is told, and the nodes that workers hand over. Where memory is
-//! refused, the test ends.
-
+//! Sessions over memory, their lines, the nodes that workers hand over, and what a table's entries
+//! are. A test that runs out of memory stops.
 ghost use Rattle.std.specs.Prelude.{◌≤◌, ◌^◌};
 
+use crate::equal::equal;
 use ring_any::Any;
 use ring_election::RingElection;
-use ring_id::NodeId;
+use ring_events::Command;
 use ring_lines::{FromRead, ToWrite};
 use ring_node::Node;
 use ring_service::Front;
-use ring_table::Access;
-use ring_workers::{Gate, Handed, Pass, Why};
-use ring_world::{Settlement, settle};
+use ring_table::{Access, Entry, Kept, Table};
+use ring_terms::Noting;
+use ring_workers::{Handed, Why};
 use std::alloc::Global;
 use std::process::Abort;
 use std::sync::Wait;
 
-/// A session over memory, by a seat, comes to its end and is told this.
+/// Stops the test if a session over memory, by this seat, is told something else.
 pub fn tells<R: Abort + Wait, A: Access<Any> + Drop>(
     rt: &R,
     alloc: Global,
@@ -31,12 +31,12 @@ pub fn tells<R: Abort + Wait, A: Access<Any> + Drop>(
 {
     let mut writer = ToWrite(Vec::new(alloc));
     let served = front.serve(rt, seat, session, &mut FromRead(lines), &mut writer, 1000);
-    assert!(rt; served.is_ok());
-    assert_eq!(rt; writer.0.as_slice(), told);
+    let found = (served.is_ok(), writer.0.as_slice());
+    equal(rt, "served, and told", found, (true, told));
     drop(writer);
 }
 
-/// The same, where each reply is told with its place.
+/// Stops the test if a session over memory is told something else, with the places of its replies.
 pub fn tells_placed<R: Abort + Wait, A: Access<Any> + Drop>(
     rt: &R,
     alloc: Global,
@@ -60,24 +60,24 @@ pub fn tells_placed<R: Abort + Wait, A: Access<Any> + Drop>(
         &mut writer,
         1000,
     );
-    assert!(rt; served.is_ok());
-    assert_eq!(rt; writer.0.as_slice(), told);
+    let found = (served.is_ok(), writer.0.as_slice());
+    equal(rt, "served, and told", found, (true, told));
     drop(writer);
 }
 
-/// The lines of a first session, of which a session doesn't know the last one.
+/// The lines of a first session. The last one is no command of a client.
 pub const FIRST: &[u8] = b"create a chang\njoin a 5\nstart a\nmembers a\ndrain a 1\n";
 
-/// What they are told.
+/// Their replies.
 pub const FIRST_TOLD: &[u8] = b"ok\nok\nterm 1\nmembers 5\nno bad-line\n";
 
 /// The lines of a second session.
 pub const SECOND: &[u8] = b"join a 5\ncut a 5 left\ngroups";
 
-/// What they are told.
+/// Their replies.
 pub const SECOND_TOLD: &[u8] = b"no member\nno bad-line\ngroups a\n";
 
-/// A text so many times.
+/// Returns a text `times` times.
 pub fn repeated(rt: &impl Abort, alloc: Global, text: &[u8], times: u32) -> Vec<u8> {
     let mut all = Vec::new(alloc);
     for _ in 0..times {
@@ -86,7 +86,7 @@ pub fn repeated(rt: &impl Abort, alloc: Global, text: &[u8], times: u32) -> Vec<
     all
 }
 
-/// The nodes that all workers handed over, each of which was told to stop.
+/// Returns the nodes that the workers handed over. Stops the test if a worker was not told to stop.
 pub fn nodes_of<E: RingElection>(
     rt: &impl Abort,
     alloc: Global,
@@ -94,7 +94,7 @@ pub fn nodes_of<E: RingElection>(
 ) -> Vec<Node<E>> {
     let mut nodes = Vec::new(alloc);
     for one in handed {
-        assert_eq!(rt; one.why, Why::Stopped);
+        equal(rt, "why it ends", one.why, Why::Stopped);
         match one.append_to(&mut nodes) {
             Ok(rest) => drop(rest),
             Err(_) => panic!(rt; "no memory"),
@@ -103,34 +103,32 @@ pub fn nodes_of<E: RingElection>(
     nodes
 }
 
-/// The lines by which a term of four members is started.
-pub const FOUR: &[u8] = b"create a peterson\njoin a 4\njoin a 1\njoin a 3\njoin a 2\nstart a\n";
-
-/// What they are told.
-pub const FOUR_TOLD: &[u8] = b"ok\nok\nok\nok\nok\nterm 1\n";
-
-/// How many items two workers handle in that term: a begin each, 24 messages and 4 announcements.
-pub const FOUR_ITEMS: u64 = 30;
-
-/// These are the four nodes of that term, settled, which all know 2.
-pub fn all_know_two<E: RingElection>(rt: &impl Abort, nodes: &[Node<E>]) {
-    let first = nodes.first().expect(rt, "no node");
-    assert_eq!(rt; nodes.len(), 4);
-    assert_eq!(rt; settle(first.charter(), nodes), Settlement::Settled);
-    let two = NodeId::new(2);
-    for node in nodes {
-        assert_eq!(rt; node.known(), two);
+/// Returns the session and the number of a call that is a join, and whether it is done.
+pub fn joined<E>(entry: Option<&Entry<E>>) -> Option<(u32, u32, bool)> {
+    match entry {
+        Some(
+            Entry::Call {
+                session,
+                command: Command::Join(_, node),
+                reply,
+            },
+        ) => Some((*session, node.get(), matches!(reply.as_kept(), Kept::Done))),
+        _ => None,
     }
 }
 
-/// A gate at which each worker halts.
-#[derive(Drop)]
-pub struct ShutGate;
-
-impl Gate for ShutGate {
-    fn enter(&self, _worker: usize, _turn: u64) -> Pass {
-        Pass::Halt
+/// Returns the numbers of calls in a history, and of reports that were news, known and stale.
+pub fn tally<E: RingElection>(table: &Table<E>) -> [usize; 4] {
+    let (mut calls, mut news, mut known, mut stale) = (0_usize, 0_usize, 0_usize, 0_usize);
+    for entry in table.history() {
+        match entry {
+            Entry::Call { .. } => calls = calls.saturating_add(1),
+            Entry::Filing { noting, .. } => match noting {
+                Noting::Noted => news = news.saturating_add(1),
+                Noting::Known => known = known.saturating_add(1),
+                Noting::Stale => stale = stale.saturating_add(1),
+            },
+        }
     }
-
-    fn leave(&self, _worker: usize, _turn: u64) {}
+    [calls, news, known, stale]
 }

@@ -1,79 +1,87 @@
-//! Rows of a service over a turn lock: what two sessions are told, when a seat is spent, and that two workers decide a term in
-//! turn. Where memory is refused, the test ends.
+//! Test cases of a service over a turn lock: what two sessions are told, when a seat is spent, and
+//! that two workers decide a term in turn. A test that runs out of memory stops.
 ghost use Rattle.std.specs.Prelude.{◌<◌, ◌≤◌, ◌^◌, All};
 
+use crate::election_rows::decide;
 use crate::grounds::{Opened, open};
-use crate::meetings::{Meeting, new_meeting, reaches};
-use crate::memory::shared;
+use crate::meetings::{LOOKS, new_meeting};
 use crate::sharing_rows::share;
-use crate::telling::{
-    FIRST, FIRST_TOLD, FOUR, FOUR_ITEMS, FOUR_TOLD, SECOND, SECOND_TOLD, ShutGate, all_know_two,
-    nodes_of, tells, tells_placed,
-};
+use crate::telling::{FIRST, FIRST_TOLD, SECOND, SECOND_TOLD, tells, tells_placed};
 use ring_any::Any;
-use ring_node::Node;
-use ring_service::Closing;
-use ring_table::{Access, Filed, Table};
+use ring_table::{Access, Table};
 use ring_turn::TurnLock;
-use ring_workers::Gate;
 use std::alloc::Global;
 use std::process::Abort;
-use std::sync::{Arc, Wait};
+use std::sync::Wait;
 use std::thread::Threads;
 use std::time::Clock;
 
 /// What is done with a service over an access.
 #[derive(Drop)]
-pub enum Deed<'a, R> {
+pub enum Deed {
     /// Two sessions, one after the other, by one seat.
-    TellTwo,
-    /// Sessions by two seats with two turns each.
+    Talk,
+    /// Two sessions by two seats with two turns each. Each further line is told that the seat is
+    /// spent, and adds no entry.
     Spend,
     /// Two sessions in two threads.
     Share,
-    /// Two workers that meet at this gate decide a term.
-    Decide(&'a Meeting<R>),
+    /// Two workers decide a term.
+    Decide,
 }
 
-// Does it with the service at an access, of which the last two seats are the callers' and the others the workers'.
-fn run<A, G, R>(
+// The lines of two sessions that spend their seats.
+const SPENDING: [&[u8]; 2] = [
+    b"create a chang\njoin a 5\nmembers a\nstart a\n",
+    b"members a\ngroups\nstart a\n",
+];
+
+// What they are told, the second one with the places of its replies.
+const SPENT_TOLD: [&[u8]; 2] = [
+    b"ok\nok\nno seat-spent\nno seat-spent\n",
+    b"3 members 5\n4 groups a\n- no seat-spent\n",
+];
+
+// Does it with the service at an access, by a gate with this number of looks. The last two seats
+// are the callers', and the others the workers'.
+fn run<A, R>(
     rt: &R,
     alloc: Global,
     access: A,
     seats: Vec<A::Seat>,
     inbox: usize,
-    gate: Arc<G>,
-    deed: Deed<R>,
+    looks: u32,
+    deed: Deed,
 )
 where
     A: Access<Any> + Send + Sync + Drop + 'static,
     A::Seat: Send + 'static,
-    G: Gate + Send + Sync + Drop + 'static,
     R: Abort + Threads + Wait + Clock + Copy + Send + Sync + Drop + 'static,
     requires seats { All (A.has_seat access) seats.items }
     requires inbox { (1 ≤ inbox) × (inbox ≤ 65536) }
     requires most { A.most ≤ 2 ^ 64 }
 {
-    let opened = open(rt, alloc, access, seats, inbox, gate).expect(rt, "no service");
+    let gate = new_meeting(rt, alloc, looks);
+    let opened = open(rt, alloc, access, seats, inbox, &gate).expect(rt, "no service");
     match deed {
-        Deed::TellTwo => tell_two(rt, alloc, opened),
-        Deed::Spend => spend(rt, alloc, opened),
+        Deed::Talk => converse(
+            rt,
+            alloc,
+            opened,
+            [FIRST, SECOND],
+            [FIRST_TOLD, SECOND_TOLD],
+            false,
+        ),
+        Deed::Spend => converse(rt, alloc, opened, SPENDING, SPENT_TOLD, true),
         Deed::Share => drop(share(rt, alloc, opened)),
-        Deed::Decide(gate) => decide(rt, alloc, opened, gate),
+        Deed::Decide => drop(decide(rt, alloc, opened, &gate, Vec::new(alloc))),
     }
+    drop(gate);
 }
 
-/// Does it with a service with two workers at a turn lock, each of whose seats has so many turns.
-pub fn run_in_turn<G, R>(
-    rt: &R,
-    alloc: Global,
-    turns: u64,
-    inbox: usize,
-    gate: Arc<G>,
-    deed: Deed<R>,
-)
+/// Does it with a service with two workers at a turn lock, each of whose seats has `turns` turns.
+pub fn run_in_turn<R>(rt: &R, alloc: Global, turns: u64, inbox: usize, looks: u32, deed: Deed)
 where
-    G: Gate + Send + Sync + Drop + 'static,
     R: Abort + Threads + Wait + Clock + Copy + Send + Sync + Drop + 'static,
     requires turns { (0 < turns) × (turns ≤ 1000) }
     requires inbox { (1 ≤ inbox) × (inbox ≤ 65536) }
@@ -81,46 +89,19 @@ where
     let Ok((lock, seats)) = TurnLock::new(alloc, Table::new(alloc), 4, turns) else {
         panic!(rt; "no lock")
     };
-    run(rt, alloc, lock, seats, inbox, gate, deed);
+    run(rt, alloc, lock, seats, inbox, looks, deed);
 }
 
-// Two sessions, one after the other, by one seat.
-fn tell_two<R, A>(rt: &R, alloc: Global, opened: Opened<A>)
-where
-    R: Abort + Threads + Wait,
-    A: Access<Any> + Send + Sync + Drop + 'static,
-    A::Seat: Send + 'static,
-{
-    let Opened {
-        service,
-        mut one,
-        other,
-    } = opened;
-    drop(other);
-    let front = service.front();
-    tells(rt, alloc, front, &mut one, 1, FIRST, FIRST_TOLD);
-    tells(rt, alloc, front, &mut one, 2, SECOND, SECOND_TOLD);
-    drop(one);
-    drop(service.close(rt));
-}
-
-#[test]
-fn a_second_session_finds_what_the_first_one_left(rt: HostRuntime) {
-    let alloc = rt.alloc();
-    let gate = shared(&rt, alloc, ShutGate);
-    run_in_turn(&rt, alloc, 100, 64, gate, Deed::TellTwo);
-}
-
-const SPENDING: &[u8] = b"create a chang\njoin a 5\nmembers a\nstart a\n";
-
-const SPENT_TOLD: &[u8] = b"ok\nok\nno seat-spent\nno seat-spent\n";
-
-const LAST: &[u8] = b"members a\ngroups\nstart a\n";
-
-const LAST_TOLD: &[u8] = b"3 members 5\n4 groups a\n- no seat-spent\n";
-
-// Sessions by two seats with two turns each: each further line is told that the seat is spent, and adds no entry.
-fn spend<R, A>(rt: &R, alloc: Global, opened: Opened<A>)
+// Two sessions, one after the other. The second one is by the seat of the first one, or by another
+// seat and is told the places of its replies.
+fn converse<R, A>(
+    rt: &R,
+    alloc: Global,
+    opened: Opened<A>,
+    lines: [&[u8]; 2],
+    told: [&[u8]; 2],
+    by_other: bool,
+)
 where
     R: Abort + Threads + Wait,
     A: Access<Any> + Send + Sync + Drop + 'static,
@@ -133,88 +114,30 @@ where
         mut other,
     } = opened;
     let front = service.front();
-    tells(rt, alloc, front, &mut one, 1, SPENDING, SPENT_TOLD);
-    tells_placed(rt, alloc, front, &mut other, 2, LAST, LAST_TOLD);
+    tells(rt, alloc, front, &mut one, 1, lines[0], told[0]);
+    if by_other {
+        tells_placed(rt, alloc, front, &mut other, 2, lines[1], told[1]);
+    } else {
+        tells(rt, alloc, front, &mut one, 2, lines[1], told[1]);
+    }
     drop(one);
     drop(other);
     drop(service.close(rt));
 }
 
 #[test]
+fn a_second_session_finds_what_the_first_one_left(rt: HostRuntime) {
+    run_in_turn(&rt, rt.alloc(), 100, 64, 0, Deed::Talk);
+}
+
+#[test]
 fn a_spent_seat_is_told_so(rt: HostRuntime) {
-    let alloc = rt.alloc();
-    let gate = shared(&rt, alloc, ShutGate);
-    run_in_turn(&rt, alloc, 2, 64, gate, Deed::Spend);
-}
-
-// The reports of all nodes are known already.
-fn are_known<R: Abort + Wait, A: Access<Any> + Drop>(
-    rt: &R,
-    access: &A,
-    seat: A::Seat,
-    nodes: &[Node<Any>],
-)
-    requires { A.has_seat access.now seat }
-{
-    let mut seat = seat;
-    for node in nodes {
-        let copy = Arc::try_clone(node.charter()).expect(rt, "no copy");
-        let report = node.report(copy).expect(rt, "no report");
-        assert_eq!(rt; access.report(rt, &mut seat, &report), Filed::Known);
-        drop(report);
-    }
-    drop(seat);
-}
-
-// Two workers that must both run decide a term of four members: all come to rest, and the table knows what they know, by
-// a seat that was kept.
-fn decide<R, A>(rt: &R, alloc: Global, opened: Opened<A>, gate: &Meeting<R>)
-where
-    R: Abort + Threads + Wait + Clock,
-    A: Access<Any> + Send + Sync + Drop + 'static,
-    A::Seat: Send + 'static,
-{
-    let Opened {
-        service,
-        one: mut seat,
-        other,
-    } = opened;
-    drop(other);
-    let front = service.front();
-    tells(rt, alloc, front, &mut seat, 1, FOUR, FOUR_TOLD);
-    assert!(rt; reaches(rt, &gate.left, FOUR_ITEMS));
-    tells(rt, alloc, front, &mut seat, 1, b"terms a\n", b"terms 1:2\n");
-    let Closing {
-        access,
-        handed,
-        waiting,
-    } = service.close(rt);
-    drop(waiting);
-    let nodes = nodes_of(rt, alloc, handed);
-    all_know_two(rt, &nodes);
-    are_known(rt, &*access, seat, &nodes);
-    drop(nodes);
-    drop(access);
-}
-
-// The same by a turn lock, with inboxes of this capacity.
-fn decide_in_turn<R: Abort + Threads + Wait + Clock + Copy + Send + Sync + Drop + 'static>(
-    rt: &R,
-    alloc: Global,
-    inbox: usize,
-)
-    requires { (1 ≤ inbox) × (inbox ≤ 65536) }
-{
-    let gate = new_meeting(rt, alloc);
-    let copy = Arc::try_clone(&gate).expect(rt, "no copy");
-    run_in_turn(rt, alloc, 100, inbox, copy, Deed::Decide(&gate));
-    drop(gate);
+    run_in_turn(&rt, rt.alloc(), 2, 64, 0, Deed::Spend);
 }
 
 #[test]
 fn two_workers_decide_a_term_in_turn(rt: HostRuntime) {
-    let alloc = rt.alloc();
     for inbox in [64, 1] {
-        decide_in_turn(&rt, alloc, inbox);
+        run_in_turn(&rt, rt.alloc(), 100, inbox, LOOKS, Deed::Decide);
     }
 }

@@ -1,12 +1,16 @@
-//! Rows of begins that an inbox could not store: when they are tried again. Where memory is refused, the test ends.
+//! Test cases of begins that an inbox could not store: when they are tried again. A test that runs
+//! out of memory stops.
 
-use crate::grounds::{Ended, Ground};
-use crate::meetings::{Meeting, new_meeting, reaches};
-use crate::telling::nodes_of;
+use crate::equal::equal;
+use crate::grounds::{Opened, end, open_locked};
+use crate::meetings::{LOOKS, Meeting, new_meeting};
+use crate::telling::{nodes_of, tells};
+use ring_any::Any;
+use ring_table::{Access, Table};
 use std::alloc::Global;
 use std::process::Abort;
+use std::sync::Wait;
 use std::sync::atomic::Ordering;
-use std::sync::{Arc, Wait};
 use std::thread::Threads;
 use std::time::Clock;
 
@@ -18,68 +22,59 @@ const BEHIND: &[u8] = b"create b chang\njoin b 1\nstart b\ncreate c chang\njoin 
 
 const BEHIND_TOLD: &[u8] = b"ok\nok\nterm 1\nok\nok\nterm 1\n";
 
-// A service with one worker over an inbox of one item, by this gate. The gate waits for a second worker, which there is
-// not: the caller lets the worker go on.
-fn held<R: Abort + Threads + Wait + Clock + Copy + Send + Sync + Drop + 'static>(
+// Starts three terms of one member each. The gate holds the worker at the begin of the first term.
+// The inbox holds the begin of the second term, and the begin of the third term waits. Then the
+// worker may go on: it handles a begin, a message and an announcement of each of the first two.
+// If another session gives a command, the begin that waits is tried before it.
+fn fall_behind<R, A>(
     rt: &R,
     alloc: Global,
-    gate: &Arc<Meeting<R>>,
-) -> Ground {
-    let copy = Arc::try_clone(gate).expect(rt, "no copy");
-    Ground::open(rt, alloc, 1, 1, copy).expect(rt, "no service")
-}
-
-// Starts three terms of one member each: the worker is held at the begin of the first, while its inbox holds the begin
-// of the second, and that of the third waits. Then the worker may go on: the first two terms take their begin, a
-// message and an announcement each.
-fn fall_behind<R: Abort + Wait + Clock>(
-    rt: &R,
-    alloc: Global,
-    ground: &mut Ground,
+    opened: &mut Opened<A>,
     gate: &Meeting<R>,
-) {
-    ground.tells(rt, alloc, 1, AHEAD, AHEAD_TOLD);
-    assert!(rt; reaches(rt, &gate.entered, 1));
-    ground.tells(rt, alloc, 1, BEHIND, BEHIND_TOLD);
+    is_asked: bool,
+)
+where
+    R: Abort + Wait + Clock,
+    A: Access<Any> + Send + Sync + Drop + 'static,
+    A::Seat: Send + 'static,
+{
+    let (front, seat) = (opened.service.front(), &mut opened.one);
+    tells(rt, alloc, front, seat, 1, AHEAD, AHEAD_TOLD);
+    assert!(rt; gate.reaches(&gate.entered, 1));
+    tells(rt, alloc, front, seat, 1, BEHIND, BEHIND_TOLD);
     gate.entered.fetch_add(1, Ordering::SeqCst);
-    assert!(rt; reaches(rt, &gate.left, 6));
+    assert!(rt; gate.reaches(&gate.left, 6));
+    if is_asked {
+        tells(rt, alloc, front, seat, 2, b"groups\n", b"groups a b c\n");
+        assert!(rt; gate.reaches(&gate.left, 9));
+    }
 }
 
-// Ends a service with one worker: no begin waits any more, and the worker hands over three nodes.
-fn end_whole<R: Abort + Threads + Wait>(rt: &R, alloc: Global, ground: Ground) {
-    let Ended {
-        table,
-        handed,
-        waiting,
-    } = ground.end(rt);
+// Has the begin of a third term wait, and ends the service, whose one worker has an inbox of one
+// item. The gate waits for a second worker, which there is not: the caller lets the worker go on.
+// At the end no begin waits any more, and the worker hands over three nodes.
+fn wait<R>(rt: &R, alloc: Global, is_asked: bool)
+where
+    R: Abort + Threads + Wait + Clock + Copy + Send + Sync + Drop + 'static,
+{
+    let gate = new_meeting(rt, alloc, LOOKS);
+    let made = open_locked(rt, alloc, Table::new(alloc), 1, 1, &gate);
+    let mut ground = made.expect(rt, "no service");
+    fall_behind(rt, alloc, &mut ground, &gate, is_asked);
+    drop(gate);
+    let (table, handed, waiting) = end(rt, ground);
     drop(table);
-    assert_eq!(rt; waiting.len(), 0);
+    let begins = waiting.len();
     drop(waiting);
     let nodes = nodes_of(rt, alloc, handed);
-    assert_eq!(rt; nodes.len(), 3);
+    let found = (begins, nodes.len());
     drop(nodes);
+    equal(rt, "begins that wait, and nodes", found, (0, 3));
 }
 
-// The begin that waits is tried again before the command of another session.
 #[test]
-fn a_begin_that_waits_is_tried_before_a_command(rt: HostRuntime) {
-    let alloc = rt.alloc();
-    let gate = new_meeting(&rt, alloc);
-    let mut ground = held(&rt, alloc, &gate);
-    fall_behind(&rt, alloc, &mut ground, &gate);
-    ground.tells(&rt, alloc, 2, b"groups\n", b"groups a b c\n");
-    assert!(rt; reaches(&rt, &gate.left, 9));
-    end_whole(&rt, alloc, ground);
-    drop(gate);
-}
-
-// The begin that waits is tried once more where the service ends.
-#[test]
-fn a_begin_that_waits_is_tried_at_the_end(rt: HostRuntime) {
-    let alloc = rt.alloc();
-    let gate = new_meeting(&rt, alloc);
-    let mut ground = held(&rt, alloc, &gate);
-    fall_behind(&rt, alloc, &mut ground, &gate);
-    end_whole(&rt, alloc, ground);
-    drop(gate);
+fn a_begin_that_waits_is_tried_before_a_command_and_at_the_end(rt: HostRuntime) {
+    for is_asked in [true, false] {
+        wait(&rt, rt.alloc(), is_asked);
+    }
 }

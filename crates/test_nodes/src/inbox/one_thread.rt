@@ -22,22 +22,17 @@ fn opened(
     (receiver, first, second)
 }
 
-// A sender stores an item.
-fn stores<R: Abort + Wait>(rt: &R, sender: &mut SenderPass<u64>, item: u64) {
-    equal(rt, "room", sender.put(rt, item), Put::Stored);
+// A put of an item comes to this.
+fn puts<R: Abort + Wait>(rt: &R, sender: &mut SenderPass<u64>, item: u64, wanted: Put<u64>) {
+    equal(rt, "a put", sender.put(rt, item), wanted);
 }
 
-// A sender gets an item back, since the inbox is full.
-fn gets_back<R: Abort + Wait>(rt: &R, sender: &mut SenderPass<u64>, item: u64) {
-    equal(rt, "no room", sender.put(rt, item), Put::Full(item));
+// A take comes to this.
+fn takes<R: Abort + Wait>(rt: &R, receiver: &mut ReceiverPass<u64>, wanted: Take<u64>) {
+    equal(rt, "a take", receiver.take(rt), wanted);
 }
 
-// The receiver takes this item of the sender with this number.
-fn takes<R: Abort + Wait>(rt: &R, receiver: &mut ReceiverPass<u64>, sender: usize, item: u64) {
-    equal(rt, "an item", receiver.take(rt), Take::Taken(sender, item));
-}
-
-// The receiver, where it doesn't wait, takes this.
+// A take that does not wait comes to this.
 fn tries<R: Abort + Wait>(rt: &R, receiver: &mut ReceiverPass<u64>, wanted: TryTake<u64>) {
     equal(rt, "what there is", receiver.try_take(rt), wanted);
 }
@@ -47,11 +42,11 @@ fn a_full_inbox_gives_back_and_an_empty_one_has_nothing(rt: HostRuntime) {
     let (mut receiver, mut first, mut second) = opened(&rt, rt.alloc(), 2);
     for item in 0..5 {
         tries(&rt, &mut receiver, TryTake::Empty);
-        stores(&rt, &mut first, item);
-        stores(&rt, &mut second, 10);
-        gets_back(&rt, &mut first, 11);
+        puts(&rt, &mut first, item, Put::Stored);
+        puts(&rt, &mut second, 10, Put::Stored);
+        puts(&rt, &mut first, 11, Put::Full(11));
         tries(&rt, &mut receiver, TryTake::Taken(0, item));
-        takes(&rt, &mut receiver, 1, 10);
+        takes(&rt, &mut receiver, Take::Taken(1, 10));
     }
     drop(receiver);
     drop(first);
@@ -62,11 +57,11 @@ fn a_full_inbox_gives_back_and_an_empty_one_has_nothing(rt: HostRuntime) {
 fn an_inbox_of_one_item_is_full_for_each_sender(rt: HostRuntime) {
     let (mut receiver, mut first, mut second) = opened(&rt, rt.alloc(), 1);
     tries(&rt, &mut receiver, TryTake::Empty);
-    stores(&rt, &mut first, 7);
-    gets_back(&rt, &mut second, 8);
-    takes(&rt, &mut receiver, 0, 7);
-    stores(&rt, &mut second, 8);
-    takes(&rt, &mut receiver, 1, 8);
+    puts(&rt, &mut first, 7, Put::Stored);
+    puts(&rt, &mut second, 8, Put::Full(8));
+    takes(&rt, &mut receiver, Take::Taken(0, 7));
+    puts(&rt, &mut second, 8, Put::Stored);
+    takes(&rt, &mut receiver, Take::Taken(1, 8));
     drop(receiver);
     drop(first);
     drop(second);
@@ -75,15 +70,15 @@ fn an_inbox_of_one_item_is_full_for_each_sender(rt: HostRuntime) {
 #[test]
 fn a_call_says_that_the_other_end_is_gone(rt: HostRuntime) {
     let (mut receiver, mut sender) = alone::<u64>(&rt, rt.alloc());
-    stores(&rt, &mut sender, 5);
+    puts(&rt, &mut sender, 5, Put::Stored);
     drop(sender);
-    takes(&rt, &mut receiver, 0, 5);
-    equal(&rt, "none is left", receiver.take(&rt), Take::Closed);
+    takes(&rt, &mut receiver, Take::Taken(0, 5));
+    takes(&rt, &mut receiver, Take::Closed);
     tries(&rt, &mut receiver, TryTake::Empty);
     drop(receiver);
     let (receiver, mut sender) = alone::<u64>(&rt, rt.alloc());
     drop(receiver);
-    equal(&rt, "no receiver", sender.put(&rt, 6), Put::Gone(6));
+    puts(&rt, &mut sender, 6, Put::Gone(6));
     drop(sender);
 }
 

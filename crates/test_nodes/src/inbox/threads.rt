@@ -2,6 +2,7 @@ ghost use Rattle.std.specs.Prelude.{◌≡◌, ◌<◌};
 
 use crate::equal::equal;
 use crate::inbox::alone;
+use crate::memory::add;
 use ring_inbox::{Put, ReceiverPass, SenderPass, Take, TryTake, inbox};
 use std::alloc::Global;
 use std::process::Abort;
@@ -24,7 +25,7 @@ fn new_item(rt: &impl Abort, alloc: Global, number: u64) -> Item {
     Arc::new(alloc, number).expect(rt, "no memory")
 }
 
-// Puts the item until it is stored or the receiver is gone, and answers whether it was stored.
+// Puts the item until it is stored or the receiver is gone, and returns whether it was stored.
 fn put_once<T: Drop, R: Wait>(rt: &R, pass: &mut SenderPass<T>, item: T) -> bool
     ensures { pass.new.inbox ≡ pass.old.inbox }
 {
@@ -51,7 +52,7 @@ fn put_all<R: Abort + Wait>(rt: &R, alloc: Global, mut pass: SenderPass<Item>) -
     pass
 }
 
-// The next item, where it is awaited if there is none.
+// The next item. If there is none, it is awaited.
 fn take_next<T: Drop, R: Wait>(rt: &R, receiver: &mut ReceiverPass<T>) -> Option<(usize, T)>
     ensures { receiver.new.inbox ≡ receiver.old.inbox }
 {
@@ -64,7 +65,7 @@ fn take_next<T: Drop, R: Wait>(rt: &R, receiver: &mut ReceiverPass<T>) -> Option
     }
 }
 
-// Counts an item of this number if it is the next one of its sender, and answers whether it is.
+// Counts an item of this number if it is the next one of its sender, and returns whether it is.
 fn is_next(counts: &mut Counts, sender: usize, number: u64) -> bool {
     match counts.get_mut(sender) {
         Some(count) if *count == number && *count < ITEMS => {
@@ -75,7 +76,7 @@ fn is_next(counts: &mut Counts, sender: usize, number: u64) -> bool {
     }
 }
 
-// Takes until so many were taken, or all senders are gone, or an item comes out of its turn.
+// Takes until `most` items were taken, or all senders are gone, or an item comes out of its turn.
 fn take_all<R: Wait>(rt: &R, receiver: &mut ReceiverPass<Item>, most: u64) -> Counts
     ensures { receiver.new.inbox ≡ receiver.old.inbox }
 {
@@ -102,19 +103,13 @@ fn start<R: Abort + Threads + Wait + Copy + Send + 'static>(
     let mut workers = Vec::new(alloc);
     for pass in senders {
         let worker = thread::spawn(&rt, move || drop(put_all(&rt, alloc, pass)));
-        assert!(rt; workers.push(worker.expect(&rt, "no thread")).is_ok());
+        add(&rt, &mut workers, worker.expect(&rt, "no thread"));
     }
     workers
 }
 
-// Waits until these threads have ended.
-fn join_all<R: Threads>(rt: &R, workers: Vec<JoinHandle<()>>) {
-    for worker in workers {
-        worker.join(rt);
-    }
-}
-
-// Each of three threads stores its items in an inbox of this capacity, and this one takes them in the order of each.
+// Each of three threads stores its items in an inbox of this capacity. This thread takes them,
+// those of each sender in order.
 fn passes_through<R: Abort + Threads + Wait + Copy + Send + 'static>(
     rt: R,
     alloc: Global,
@@ -127,7 +122,9 @@ fn passes_through<R: Abort + Threads + Wait + Copy + Send + 'static>(
     let workers = start(rt, alloc, senders);
     let counts = take_all(&rt, &mut receiver, u64::MAX);
     drop(receiver);
-    join_all(&rt, workers);
+    for worker in workers {
+        worker.join(&rt);
+    }
     equal(&rt, "how many of each", counts, [ITEMS; SENDERS]);
 }
 
@@ -144,8 +141,8 @@ fn pass_one<R: Abort + Wait>(
     sender: &mut SenderPass<Item>,
     receiver: &mut ReceiverPass<Item>,
 ) {
-    let wanted = TryTake::Taken(0, new_item(rt, alloc, 3));
     assert!(rt; put_once(rt, sender, new_item(rt, alloc, 3)));
+    let wanted = TryTake::Taken(0, new_item(rt, alloc, 3));
     equal(rt, "the one", receiver.try_take(rt), wanted);
     equal(rt, "none", receiver.try_take(rt), TryTake::Empty);
 }

@@ -1,14 +1,14 @@
-//! Courses of one worker, in one thread: what comes to it, when it ends, and what it comes to. What is refused memory
-//! outside the worker is asked for once more.
+//! Courses of one worker, in one thread: the items that come to it, and its end. If an allocation
+//! outside the worker fails, the call is made once more.
 ghost use Rattle.std.specs.Prelude.{◌<◌};
 
 use crate::memory::TWICE;
-use crate::workers::gates::{Answers, EndGate, Until};
+use crate::workers::gates::{Answers, EndGate};
 use crate::workers::items::{Ring, charter, first_packet, stores};
 use ring_election::RingElection;
 use ring_inbox::{ReceiverPass, SenderPass, inbox};
 use ring_node::Node;
-use ring_workers::{Filed, Gate, Handed, Item, OpenGate, Rest, Why, Worker, run_worker};
+use ring_workers::{Filed, Gate, Handed, Item, OpenGate, Why, Worker, run_worker};
 use ring_world::{Settlement, settle};
 use std::alloc::Global;
 use std::process::Abort;
@@ -29,18 +29,12 @@ pub enum Comes {
 pub struct Course<'a> {
     /// What comes, in order.
     pub items: &'a [Comes],
-    /// When it ends.
-    pub until: Until,
+    /// The item at which it is halted; 0 for none.
+    pub halt: u64,
+    /// The item after which the gate sends it a stop; 0 for none.
+    pub stop: u64,
     /// What its desk answers.
     pub filed: Filed,
-}
-
-/// An item of an election, as it comes to a worker.
-fn item<E: RingElection>(rt: &impl Abort, alloc: Global, algorithm: E, comes: Comes) -> Item<E> {
-    match comes {
-        Comes::Begin(ring) => Item::Begin(charter(rt, alloc, algorithm, ring)),
-        Comes::Packet(ring) => first_packet(rt, alloc, charter(rt, alloc, algorithm, ring)),
-    }
 }
 
 /// Puts what comes to a worker into its inbox.
@@ -48,11 +42,15 @@ fn fill<E: RingElection, R: Abort + Wait>(
     rt: &R,
     alloc: Global,
     algorithm: E,
-    course: &Course,
+    items: &[Comes],
     to: &mut SenderPass<Item<E>>,
 ) {
-    for comes in course.items {
-        assert!(rt; stores(rt, to, item(rt, alloc, algorithm, *comes)));
+    for comes in items {
+        let item = match comes {
+            Comes::Begin(ring) => Item::Begin(charter(rt, alloc, algorithm, *ring)),
+            Comes::Packet(ring) => { first_packet(rt, alloc, charter(rt, alloc, algorithm, *ring)) }
+        };
+        assert!(rt; stores(rt, to, item));
     }
 }
 
@@ -64,7 +62,7 @@ pub struct Place<E: RingElection> {
 }
 
 impl<E: RingElection> Place<E> {
-    /// An inbox of this capacity, and so many passes, all to itself. Asked for once more where memory was refused.
+    /// An inbox of this capacity, and `senders` passes, all to this inbox.
     pub fn opened(rt: &impl Abort, alloc: Global, capacity: usize, senders: usize) -> Place<E>
         requires capacity { 0 < capacity }
         requires senders { 0 < senders }
@@ -77,7 +75,7 @@ impl<E: RingElection> Place<E> {
     }
 }
 
-/// Runs the worker of this number, one of as many as it has passes.
+/// Runs the worker of this number. There are as many workers as it has passes.
 pub fn worked<E: RingElection, R: Abort + Wait + Clock, G: Gate>(
     rt: &R,
     alloc: Global,
@@ -110,21 +108,11 @@ fn handed<E: RingElection, R: Abort + Wait + Clock + Copy>(
 ) -> Handed<E> {
     let mut place = Place::opened(rt, alloc, 64, 2);
     let mut own = place.senders.pop().expect(rt, "two passes");
-    fill(rt, alloc, algorithm, course, &mut own);
-    let gate = EndGate::new(*rt, course.until, own);
+    fill(rt, alloc, algorithm, course.items, &mut own);
+    let gate = EndGate::new(*rt, 0, course.halt, course.stop, own);
     let handed = worked(rt, alloc, 0, place, &gate, course.filed);
     drop(gate);
     handed
-}
-
-/// Why a worker ended that handed this over.
-fn why_of<E: RingElection>(rt: &impl Abort, alloc: Global, handed: Handed<E>) -> Why {
-    let mut nodes = Vec::new(alloc);
-    let rest = moved(rt, handed, &mut nodes);
-    let why = rest.why;
-    drop(rest);
-    drop(nodes);
-    why
 }
 
 /// Why a worker ends whose inbox has no senders left. Its own pass is to another inbox.
@@ -137,41 +125,41 @@ pub fn why_alone<E: RingElection, R: Abort + Wait + Clock>(rt: &R, alloc: Global
     } = Place::<E>::opened(rt, alloc, 1, 1);
     let place = Place { receiver, senders };
     let handed = worked(rt, alloc, 0, place, &OpenGate, Filed::Noted);
-    let why = why_of(rt, alloc, handed);
+    let why = handed.why;
+    drop(handed);
     drop(other);
     why
 }
 
-/// Moves the nodes of a worker behind a list, and gives the rest. Asked for once more where memory was refused.
+/// Moves the nodes of a worker to the end of a list. Returns why it ended, how many items it
+/// dropped, and how many reports and packets it hands over.
 pub fn moved<E: RingElection>(
     rt: &impl Abort,
     handed: Handed<E>,
     nodes: &mut Vec<Node<E>>,
-) -> Rest<E> {
-    match handed.append_to(nodes) {
+) -> (Why, u64, usize, usize) {
+    let rest = match handed.append_to(nodes) {
         Ok(rest) => rest,
-        Err(back) => match back.append_to(nodes) {
-            Ok(rest) => rest,
-            Err(_) => panic!(rt; "{TWICE}"),
-        },
-    }
+        Err(back) => back.append_to(nodes).ok().expect(rt, TWICE),
+    };
+    let left = (
+        rest.why,
+        rest.dropped,
+        rest.unfiled.len(),
+        rest.outbox.len(),
+    );
+    drop(rest);
+    left
 }
 
-/// What a worker comes to.
-#[derive(Clone, Copy, Debug, PartialEq)]
-pub struct End {
+/// A worker's run: why it ended, how much it hands over, and whether its nodes have settled.
+#[derive(Drop)]
+pub struct Run<E: RingElection> {
     pub why: Why,
     pub dropped: u64,
     pub unfiled: usize,
     pub outbox: usize,
-    pub nodes: usize,
     pub settlement: Settlement,
-}
-
-/// A worker's run: its end, and its nodes.
-#[derive(Drop)]
-pub struct Run<E: RingElection> {
-    pub end: End,
     pub nodes: Vec<Node<E>>,
 }
 
@@ -183,18 +171,18 @@ pub fn ran<E: RingElection, R: Abort + Wait + Clock + Copy>(
     course: &Course,
     ring: Ring,
 ) -> Run<E> {
-    let charter = charter(rt, alloc, algorithm, ring);
     let mut nodes = Vec::new(alloc);
-    let rest = moved(rt, handed(rt, alloc, algorithm, course), &mut nodes);
-    let end = End {
-        why: rest.why,
-        dropped: rest.dropped,
-        unfiled: rest.unfiled.len(),
-        outbox: rest.outbox.len(),
-        nodes: nodes.len(),
-        settlement: settle(&charter, &nodes),
-    };
-    drop(rest);
+    let handed = handed(rt, alloc, algorithm, course);
+    let (why, dropped, unfiled, outbox) = moved(rt, handed, &mut nodes);
+    let charter = charter(rt, alloc, algorithm, ring);
+    let settlement = settle(&charter, &nodes);
     drop(charter);
-    Run { end, nodes }
+    Run {
+        why,
+        dropped,
+        unfiled,
+        outbox,
+        settlement,
+        nodes,
+    }
 }

@@ -1,4 +1,4 @@
-//! Gates that end a worker at one of its items, and desks that answer alike.
+//! Gates that end a worker at one of its items, and a desk that answers all reports alike.
 
 use crate::workers::items::stores;
 use ring_election::RingElection;
@@ -18,54 +18,76 @@ pub fn wait_for_a_look<R: Clock>(rt: &R) {
     thread::sleep(rt, Duration::from_millis(1));
 }
 
-/// When a worker ends. Its items are counted from 1 on.
-#[derive(Clone, Copy)]
-pub enum Until {
-    /// Its gate halts it at this item.
-    Halt(u64),
-    /// The word to stop is put into its inbox once it has handled so many items.
-    Stop(u64),
-}
-
-/// Ends a worker.
+/// Ends a worker, and counts how often it is called with the worker's own number, and with another.
 #[derive(Drop)]
 pub struct EndGate<E: RingElection, R> {
     rt: R,
-    until: Until,
+    number: usize,
+    halt: u64,
+    stop: u64,
     to: Mutex<SenderPass<Item<E>>>,
+    own: AtomicU64,
+    others: AtomicU64,
 }
 
 impl<E: RingElection, R: Wait> EndGate<E, R> {
-    /// The gate that ends a worker then, over a pass to the worker's inbox.
-    pub fn new(rt: R, until: Until, to: SenderPass<Item<E>>) -> EndGate<E, R> {
+    /// The gate of the worker with this number. It halts the worker at item `halt`, and puts the
+    /// word to stop into the worker's inbox after item `stop`. Items count from 1 on.
+    pub fn new(
+        rt: R,
+        number: usize,
+        halt: u64,
+        stop: u64,
+        to: SenderPass<Item<E>>,
+    ) -> EndGate<E, R> {
         EndGate {
             rt,
-            until,
+            number,
+            halt,
+            stop,
             to: Mutex::new(to),
+            own: AtomicU64::new(0),
+            others: AtomicU64::new(0),
+        }
+    }
+
+    /// How often it was called with the worker's own number, and how often with another.
+    pub fn told(&self) -> (u64, u64) {
+        (
+            self.own.load(Ordering::SeqCst),
+            self.others.load(Ordering::SeqCst),
+        )
+    }
+
+    fn count(&self, worker: usize) {
+        if worker == self.number {
+            self.own.fetch_add(1, Ordering::SeqCst);
+        } else {
+            self.others.fetch_add(1, Ordering::SeqCst);
         }
     }
 }
 
 impl<E: RingElection, R: Wait> Gate for EndGate<E, R> {
-    fn enter(&self, _worker: usize, turn: u64) -> Pass {
-        match self.until {
-            Until::Halt(at) if at == turn => Pass::Halt,
-            _ => Pass::Go,
+    fn enter(&self, worker: usize, turn: u64) -> Pass {
+        self.count(worker);
+        if turn == self.halt {
+            Pass::Halt
+        } else {
+            Pass::Go
         }
     }
 
-    fn leave(&self, _worker: usize, turn: u64) {
-        match self.until {
-            Until::Stop(after) if after == turn => {
-                stores(&self.rt, &mut self.to.lock(&self.rt), Item::Stop);
-            }
-            _ => {}
+    fn leave(&self, worker: usize, turn: u64) {
+        self.count(worker);
+        if turn == self.stop {
+            stores(&self.rt, &mut self.to.lock(&self.rt), Item::Stop);
         }
     }
 }
 
-/// Lets no worker handle its first item before all workers have one, and counts the items that were handled. A worker
-/// that looks in vain for the others is halted.
+/// Lets no worker handle its first item before all workers have one, and counts the items that were
+/// handled. A worker that looks in vain for the others is halted.
 #[derive(Drop)]
 pub struct Meeting<R> {
     rt: R,
@@ -75,7 +97,7 @@ pub struct Meeting<R> {
 }
 
 impl<R: Clock> Meeting<R> {
-    /// The gate at which so many workers meet.
+    /// The gate at which `workers` workers meet.
     pub fn new(rt: R, workers: u64) -> Meeting<R> {
         Meeting {
             rt,
@@ -85,13 +107,13 @@ impl<R: Clock> Meeting<R> {
         }
     }
 
-    /// Looks until so many items were handled, and answers whether they were.
+    /// Looks until `items` items were handled, and returns whether they were.
     pub fn waits_for(&self, items: u64) -> bool {
         comes_to(&self.rt, &self.handled, items)
     }
 }
 
-/// Looks until a count is so great, and answers whether it is.
+/// Looks until a count is at least `least`, and returns whether it is.
 fn comes_to<R: Clock>(rt: &R, count: &AtomicU64, least: u64) -> bool {
     for _ in 0..LOOKS {
         if count.load(Ordering::SeqCst) >= least {
@@ -117,52 +139,6 @@ impl<R: Clock> Gate for Meeting<R> {
 
     fn leave(&self, _worker: usize, _turn: u64) {
         self.handled.fetch_add(1, Ordering::SeqCst);
-    }
-}
-
-/// Lets each item pass, and counts how often it is told the worker's own number, and how often another.
-#[derive(Drop)]
-pub struct Counting {
-    number: usize,
-    own: AtomicU64,
-    others: AtomicU64,
-}
-
-impl Counting {
-    /// The gate of the worker of this number.
-    pub fn new(number: usize) -> Counting {
-        Counting {
-            number,
-            own: AtomicU64::new(0),
-            others: AtomicU64::new(0),
-        }
-    }
-
-    /// How often it was told the worker's own number, and how often another.
-    pub fn told(&self) -> (u64, u64) {
-        (
-            self.own.load(Ordering::SeqCst),
-            self.others.load(Ordering::SeqCst),
-        )
-    }
-
-    fn count(&self, worker: usize) {
-        if worker == self.number {
-            self.own.fetch_add(1, Ordering::SeqCst);
-        } else {
-            self.others.fetch_add(1, Ordering::SeqCst);
-        }
-    }
-}
-
-impl Gate for Counting {
-    fn enter(&self, worker: usize, _turn: u64) -> Pass {
-        self.count(worker);
-        Pass::Go
-    }
-
-    fn leave(&self, worker: usize, _turn: u64) {
-        self.count(worker);
     }
 }
 

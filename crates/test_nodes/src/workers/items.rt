@@ -1,20 +1,19 @@
-//! What comes to the workers of the rows: the rings, and items of them. Whatever goes wrong stops the test where it does.
+//! The rings of the workers' test cases, and items of them.
 
+use crate::nodes::{envelope, seated};
 use crate::rings;
 use ring_election::RingElection;
-use ring_id::Side;
 use ring_inbox::{Put, SenderPass};
-use ring_node::{Charter, Node};
+use ring_node::Charter;
 use ring_workers::Item;
 use std::alloc::Global;
 use std::process::Abort;
 use std::sync::{Arc, Wait};
 
 /// The ring of a term of group `a`: its term, and the numbers of its members.
-#[derive(Clone, Copy)]
-pub struct Ring(pub u16, pub &'static [u32]);
+pub type Ring = (u16, &'static [u32]);
 
-/// The charter of an election on a ring. Asked for once more where memory was refused.
+/// The charter of an election on a ring.
 pub fn charter<E: RingElection>(
     rt: &impl Abort,
     alloc: Global,
@@ -30,15 +29,14 @@ pub fn first_packet<E: RingElection>(
     alloc: Global,
     charter: Arc<Charter<E>>,
 ) -> Item<E> {
-    assert!(rt; 0 < charter.roster().len());
-    let copy = Arc::try_clone(&charter).expect(rt, "no copy");
-    let node = Node::seat(alloc, copy, 0).expect(rt, "no memory");
-    let envelope = node.envelope(charter, Side::Right, 0);
+    let node = seated(rt, alloc, &charter, 0);
+    drop(charter);
+    let envelope = envelope(rt, &node, 0);
     drop(node);
     Item::Packet(envelope.expect(rt, "nothing was sent there"))
 }
 
-/// Puts an item into an inbox, and answers whether it was stored.
+/// Puts an item into an inbox, and returns whether it was stored.
 pub fn stores<E: RingElection, R: Wait>(
     rt: &R,
     to: &mut SenderPass<Item<E>>,

@@ -1,16 +1,16 @@
-//! Two workers, each in its own thread, on Peterson's election on 4, 1, 3, 2: worker 0 owns 4 and 2, worker 1 owns 1
-//! and 3.
+//! Two workers, each in its own thread, on Peterson's election on 4, 1, 3, 2. Worker 0 owns 4 and
+//! 2, and worker 1 owns 1 and 3.
 ghost use Rattle.std.specs.Prelude.{◌<◌};
 
 use crate::equal::equal;
 use crate::workers::courses::{Place, moved, worked};
 use crate::workers::gates::{LOOKS, Meeting, wait_for_a_look};
-use crate::workers::items::{Ring, charter, stores};
+use crate::workers::items::{charter, stores};
 use ring_election::RingElection;
 use ring_inbox::SenderPass;
 use ring_node::{Charter, Node};
 use ring_peterson::Peterson;
-use ring_workers::{Filed, Handed, Item, Why};
+use ring_workers::{Filed, Item, Why};
 use ring_world::{Settlement, settle};
 use std::alloc::Global;
 use std::process::Abort;
@@ -47,16 +47,8 @@ fn watch<E: RingElection, R: Abort + Wait + Clock>(
     stop(rt, one);
 }
 
-/// Moves the nodes of a worker behind a list, which stopped with nothing left.
-fn take_nodes<E: RingElection>(rt: &impl Abort, handed: Handed<E>, nodes: &mut Vec<Node<E>>) {
-    let rest = moved(rt, handed, nodes);
-    let end = (rest.why, rest.dropped, rest.outbox.len());
-    drop(rest);
-    equal(rt, "why, dropped, and left", end, (Why::Stopped, 0, 0));
-}
-
-/// A place with two passes to its own inbox, which has this capacity and holds the item by which a charter begins; and
-/// one more pass to that inbox.
+/// A place with two passes to its own inbox, and one more pass to that inbox. The inbox has this
+/// capacity, and holds the item by which a charter begins.
 fn begun<E: RingElection, R: Abort + Wait>(
     rt: &R,
     alloc: Global,
@@ -72,14 +64,17 @@ fn begun<E: RingElection, R: Abort + Wait>(
     (place, own)
 }
 
-/// Exchanges a pass of two workers that have two each, all to their own inbox: then each has one to each inbox.
+/// Exchanges a pass of two workers that have two passes each to their own inbox. After that each
+/// has one to each inbox.
 fn exchange<T>(rt: &impl Abort, zero: &mut Vec<T>, one: &mut Vec<T>) {
-    assert_eq!(rt; zero.len(), WORKERS);
-    assert_eq!(rt; one.len(), WORKERS);
-    mem::swap(&mut zero[1], &mut one[0]);
+    let passes = (zero.len(), one.len());
+    equal(rt, "passes", passes, (WORKERS, WORKERS));
+    let last = zero.get_mut(1).expect(rt, "two passes");
+    let first = one.get_mut(0).expect(rt, "two passes");
+    mem::swap(last, first);
 }
 
-/// Runs both workers, and gives their nodes.
+/// Runs both workers, which stop with nothing left, and returns their nodes.
 fn both<R: Abort + Threads + Wait + Clock + Copy + Send + Sync>(
     rt: &R,
     alloc: Global,
@@ -93,8 +88,9 @@ fn both<R: Abort + Threads + Wait + Clock + Copy + Send + Sync>(
         || worked(rt, alloc, 1, last, gate, Filed::Noted),
     );
     let mut nodes = Vec::new(alloc);
-    take_nodes(rt, zero, &mut nodes);
-    take_nodes(rt, one, &mut nodes);
+    let ends = (moved(rt, zero, &mut nodes), moved(rt, one, &mut nodes));
+    let wanted = ((Why::Stopped, 0, 0, 0), (Why::Stopped, 0, 0, 0));
+    equal(rt, "the ends", ends, wanted);
     nodes
 }
 
@@ -106,7 +102,7 @@ fn settles<R: Abort + Threads + Wait + Clock + Copy + Send + Sync>(
 )
     requires { 0 < capacity }
 {
-    let charter = charter(rt, alloc, Peterson, Ring(1, &[4, 1, 3, 2]));
+    let charter = charter(rt, alloc, Peterson, (1, &[4, 1, 3, 2]));
     let (mut first, mut to_first) = begun(rt, alloc, &charter, capacity);
     let (mut last, mut to_last) = begun(rt, alloc, &charter, capacity);
     exchange(rt, &mut first.senders, &mut last.senders);
@@ -116,12 +112,12 @@ fn settles<R: Abort + Threads + Wait + Clock + Copy + Send + Sync>(
         || both(rt, alloc, first, last, &gate),
         || watch(rt, &gate, &mut to_first, &mut to_last),
     );
-    let settlement = settle(&charter, &nodes);
-    equal(rt, "the nodes", settlement, Settlement::Settled);
     drop(to_first);
     drop(to_last);
+    let settlement = settle(&charter, &nodes);
     drop(charter);
     drop(nodes);
+    equal(rt, "the nodes", settlement, Settlement::Settled);
 }
 
 #[test]

@@ -1,6 +1,6 @@
-use Rattle.std.proofs.Common.{ℕ}
+use Rattle.ring_turn.specs.Seats.{IsSameSeat}
 use Rattle.test_table.proofs.thread_rows.join_hundred.Given as goal
 
 -- the seat stays the one of its number
-abbrev pub invariant-loop-ten : goal.invariant-loop-ten
-invariant-loop-ten g l = (number : ℕ) → g.S.Shared.sits l.fn.table number l.fn.seat → g.S.Shared.sits l.fn.table number l.seat
+abbrev pub invariant-loop-number : goal.invariant-loop-number
+invariant-loop-number g l = IsSameSeat l.fn.seat l.seat

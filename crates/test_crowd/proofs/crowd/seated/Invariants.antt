@@ -1,7 +1,0 @@
-use Rattle.std.proofs.Common.{All}
-use Rattle.test_crowd.proofs.crowd.seated.Given as goal
-
--- the seats that are left and those of the sessions so far are of the access
-abbrev pub invariant-loop-lines : goal.invariant-loop-lines
-invariant-loop-lines g l =
-    All (g.A.Access.has_seat l.front) l.rest.items × All (λ guest. g.A.Access.has_seat l.front guest.seat) l.guests.items

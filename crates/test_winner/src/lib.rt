@@ -1,5 +1,0 @@
-//! Winners of worked rings, which were worked out by hand.
-#![tactic(auto)]
-
-#[cfg(test)]
-mod winners;
