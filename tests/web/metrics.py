@@ -61,8 +61,12 @@ def of_groups(samples):
     return {name: value for name, value in samples.items() if name.partition("{")[0] in OF_GROUP}
 
 
+def install():
+    """Installs Prometheus' own reader if it is missing. Clients that are connected meanwhile may be let go as silent."""
+    debian.install(["promtool"], ["prometheus"], "no metric was read by promtool")
+
+
 def check_lint(text):
     """Prometheus' own reader has nothing to say."""
-    debian.install(["promtool"], ["prometheus"], "no metric was read by promtool")
     ran = subprocess.run(["promtool", "check", "metrics"], input=text, capture_output=True, timeout=PATIENCE)
     same("promtool check metrics", (ran.returncode, ran.stdout + ran.stderr), (0, b""))
