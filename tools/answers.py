@@ -8,6 +8,7 @@ COMMON = "Rattle.std.proofs.Common"
 LISTS = ("rules", "arith")
 DEFINED = re.compile(r"([^\s:]+) : ")
 HEAD = re.compile(r"(\S+(?: \w+)*) =")
+IMPORTS_RULES = re.compile(r"^use .*Common\.\{(.*, )?rules[,}]", re.M)
 WORD = re.compile(r"[^\s()\[\]{},]+")
 
 
@@ -63,6 +64,6 @@ def searched(text, failed, opened=()):
             gone += lines
         else:
             kept += searching(lines, lemmas) if name in failed else lines
-    if not re.search(r"^use .*Common\.\{(.*, )?rules[,}]", text, re.M):
+    if not IMPORTS_RULES.search(text):
         kept.insert(0, f"use {COMMON}.{{rules}}")
     return "\n".join([*kept, *answering(opened, gone, lemmas)])

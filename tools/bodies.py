@@ -6,13 +6,13 @@ import re
 import shutil
 
 from answers import searched
-from crates import TOP, copy_of
+from crates import TOP
 from edits import BadEdit, check
 from lanes import Lanes
 from sources import functions_of
-from verdicts import PASSED, REFUSED, UNCLEAR, UNJUDGED, Said, failed_answers, judged, judged_again
+from twins import PROOF_FILES, Copy, may_go_together
+from verdicts import PASSED, REFUSED, UNCLEAR, UNJUDGED, Said, failed_answers, judged, judged_again, refusals
 
-PROOF_FILES = ("Answers.antt", "Invariants.antt", "Proof.antt")
 # How much is printed of a reason.
 SHOWN = 400
 
@@ -20,9 +20,9 @@ SHOWN = 400
 class Bodies:
     """A crate's wrong bodies and controls, the functions that they change, a folder for the checks and their lanes.
 
-    Edits of different functions are tried in one check of a copy of the crate. It proves the changed functions alone: every
-    other function has no body there, and a hole in the place of its proof, so its callers take its contract as it is. What
-    is not judged in company is tried alone. If nothing failed except answers by hand that may fit no more, one more check
+    Edits are tried in one check of a copy of the crate, each in a function or a twin of its own. It proves the changed
+    functions alone: every other function has no body there, and a hole in the place of its proof, so its callers take its
+    contract as it is. What is not judged in company is tried alone. If nothing failed except answers by hand that may fit no more, one more check
     has a search in their place. An edit that changes other lines than those of bodies is tried alone, and in a check of
     its whole crate if it changes no body."""
 
@@ -46,8 +46,8 @@ class Bodies:
 
     def packs(self):
         """The edits in as few checks as their functions let them be; those that must not be judged are alone."""
-        paths = {it: {function.path for function in self.targets[it] if it not in self.alone} for it in self.edits}
-        goes = lambda a, b: paths[a] and paths[b] and not paths[a] & paths[b]
+        at = {it: self.targets[it] if it not in self.alone else [] for it in self.edits}
+        goes = lambda a, b: at[a] and at[b] and may_go_together(at[a], at[b])
         meets = {it: {other for other in self.edits if other is not it and not goes(it, other)} for it in self.edits}
         left = sorted(self.edits, key=lambda it: -len(meets[it]))
         return next(found for most in range(1, len(left) + 1) if (found := placed(left, meets, [], most)))
@@ -58,63 +58,61 @@ class Bodies:
             for edit, found in zip(pack, self.tried(pack) if is_changed else self.stays(pack)):
                 yield edit.label(), *outcome(edit, *found)
 
-    def leave_out(self, folder, kept):
-        """Leaves out the bodies of all functions except these, which no caller sees, and puts holes in place of their proofs."""
-        others = [it for it in self.functions.values() if it not in kept]
+    def leave_out(self, copy, kept):
+        """Leaves out the bodies of all functions of a copy except these, which no caller sees, and puts holes in place of
+        their proofs."""
+        others = [it for it in copy.functions.values() if it not in kept]
         for file in {it.file for it in others}:
-            without_bodies(folder / file, [it for it in others if it.file == file])
+            without_bodies(copy.folder / file, [it for it in others if it.file == file])
         for it in others:
-            at = folder / "proofs" / it.folder()
+            at = copy.folder / "proofs" / it.folder()
             at.mkdir(parents=True, exist_ok=True)
             for name in PROOF_FILES:
                 (at / name).unlink(missing_ok=True)
-            shutil.rmtree(folder / "proofs" / it.closures(), ignore_errors=True)
+            shutil.rmtree(copy.folder / "proofs" / it.closures(), ignore_errors=True)
             module = f"Rattle.{self.name}.proofs.{it.path.replace('::', '.')}.Statement"
             (at / "Proof.antt").write_text(f"use {module}.{{statement}}\n\npub {it.name()}_spec : {{M : Type 1}}"
                                            f" → statement M\n{it.name()}_spec = ?\n", encoding="utf-8")
 
     def checked(self, pack, is_changed=True, failed=()):
-        """Checks a copy with all edits of a pack, or as it stands, with a search in the place of each of these answers that
-        failed: what was said, and the copy. A check that was killed is done a second time."""
+        """Checks a copy with all edits of a pack, or as it stands, with a search in the place of those answers of an edit
+        that failed: what was said, and the copy. A check that was killed is done a second time."""
         for _ in range(2):
             self.checks += 1
-            folder = self.room / f"{self.checks}-with-{len(pack)}"
+            copy = Copy(self.name, self.room / f"{self.checks}-with-{len(pack)}", pack, self.targets, is_changed)
             with self.lanes.lane(len(self.edits)):
-                said = Said(*self.checked_now(folder, pack, is_changed, failed))
+                said = Said(*self.checked_now(copy, pack, failed))
             if said.status >= 0:
                 break
-        return said, folder
+        return said, copy
 
-    def checked_now(self, folder, pack, is_changed, failed):
-        """The status of one check in a new copy, and what was said."""
-        changed = [it for edit in pack for it in self.targets[edit]]
-        copy_of(self.name, folder)
-        for edit in pack if is_changed else []:
-            edit.apply(folder)
+    def checked_now(self, copy, pack, failed):
+        """The status of one check of a copy, and what was said."""
+        changed = [it for edit in pack for it in copy.targets[edit]]
         instead = pack[0].words.get("checker")
         if not changed:
-            return check(self.name, folder, library=self.lanes.library, instead=instead)
-        self.leave_out(folder, changed)
-        for function, names in failed:
-            at = folder / "proofs" / function.folder() / "Answers.antt"
-            at.write_text(searched(at.read_text(encoding="utf-8"), *names), encoding="utf-8")
+            return check(self.name, copy.folder, library=self.lanes.library, instead=instead)
+        self.leave_out(copy, changed)
+        for edit, at, names in failed:
+            file = f"proofs/{copy.targets[edit][at].folder()}/Answers.antt"
+            copy.write(file, searched(copy.text_of(file), *names))
         only = [word for it in changed for word in ("--only", it.path)]
         words = ["--allow-holes", "--short-goals", *only, "--incremental", str(self.room / "kept")]
-        return check(self.name, folder, *words, library=self.lanes.library, instead=instead)
+        return check(self.name, copy.folder, *words, library=self.lanes.library, instead=instead)
 
     def tried(self, pack):
         """What became of each edit of a pack: its verdict, and what to say."""
         try:
-            said, folder = self.checked(pack)
+            said, copy = self.checked(pack)
         except (BadEdit, OSError) as why:
             return self.apart(pack, {it: f"it can't be applied: {why}" if len(pack) == 1 else "" for it in pack})
         if said.stop:
-            return self.apart(pack, {it: said.stop if len(pack) == 1 else self.uncompiled(said, it) for it in pack})
-        elsewhere = self.elsewhere(said, pack)
-        found = {it: self.judge(it, said, folder) for it in pack}
+            return self.apart(pack, {it: said.stop if len(pack) == 1 else uncompiled(said, it, copy) for it in pack})
+        elsewhere = elsewhere_refused(said, pack, copy)
+        found = {it: judge(it, said, copy) for it in pack}
         unclear = [it for it in pack if found[it][0] == UNCLEAR]
         if unclear:
-            found.update(zip(unclear, self.tried_again(unclear, said, found)))
+            found.update(zip(unclear, self.tried_again(unclear, said, copy, found)))
         left = [it for it in pack if elsewhere or it not in unclear and found[it][0] == UNJUDGED]
         if left and len(pack) > 1:
             found.update({it: self.tried([it])[0] for it in left})
@@ -130,40 +128,50 @@ class Bodies:
         found = {edit: it for few in packs for edit, it in zip(few, self.tried(few))}
         return [found.get(it, (UNJUDGED, why[it])) for it in pack]
 
-    def tried_again(self, unclear, before, found):
+    def tried_again(self, unclear, before, copy, found):
         """What became of these edits in a check with a search in the place of each answer that failed in the check before."""
-        failed = [(it, names) for edit in unclear for it in self.of_edit(edit) if (names := failed_answers(before, it))[0]]
-        said, folder = self.checked(unclear, failed=failed)
+        failed = [(edit, at, names) for edit in unclear for at, it in enumerate(copy.targets[edit])
+                  if (names := failed_answers(before, it))[0]]
+        said, again = self.checked(unclear, failed=failed)
         if said.stop:
             return [(UNJUDGED, f"with a search in the place of an answer, {said.stop}") for _ in unclear]
-        return [self.judge(it, said, folder, functools.partial(judged_again, before=found[it][1])) for it in unclear]
+        return [judge(it, said, again, functools.partial(judged_again, before=found[it][1])) for it in unclear]
 
     def stays(self, pack):
         """The verdict on each edit of a pack in a check without the edits, where nothing may be refused."""
-        said, folder = self.checked(pack, is_changed=False)
+        said, copy = self.checked(pack, is_changed=False)
         if said.stop:
             return [(UNJUDGED, said.stop) for _ in pack]
-        return [self.judge(it, said, folder) for it in pack]
+        return [judge(it, said, copy) for it in pack]
 
-    def of_edit(self, edit):
-        """The functions in which an edit may be refused: all of the crate if it changes no body."""
-        return self.targets[edit] or list(self.functions.values())
 
-    def uncompiled(self, said, edit):
-        """What the compiler refuses in a function that an edit changes; nothing if there is none."""
-        return next(filter(None, map(said.uncompiled, self.targets[edit])), "")
+def of_edit(edit, copy):
+    """The functions of a copy in which an edit may be refused: all if it changes no body."""
+    return copy.targets[edit] or list(copy.functions.values())
 
-    def elsewhere(self, said, pack):
-        """What was refused outside of the functions that the edits of a pack change; nothing if there is none."""
-        functions = [it for edit in pack for it in self.of_edit(edit)]
-        other = [it for it in said.errors if not it.follows and not any(map(it.is_at, functions))]
-        return other[0].shown() if other else ""
 
-    def judge(self, edit, said, folder, judged_by=judged):
-        """The verdict on an edit, and what to say: refused if one function is that it changed, and judged if each is."""
-        text_of = lambda file: (folder / file).read_text(encoding="utf-8")
-        found = [judged_by(said, it, text_of) for it in self.of_edit(edit)]
-        return next(it for kind in (REFUSED, UNCLEAR, UNJUDGED, PASSED) for it in found if it[0] == kind)
+def uncompiled(said, edit, copy):
+    """What the compiler refuses in a function that an edit changes; nothing if there is none."""
+    return next(filter(None, map(said.uncompiled, copy.targets[edit])), "")
+
+
+def elsewhere_refused(said, pack, copy):
+    """What was refused outside of the functions that the edits of a pack change; nothing if there is none."""
+    functions = [it for edit in pack for it in of_edit(edit, copy)]
+    other = [it for it in said.errors if not it.follows and not any(map(it.is_at, functions))]
+    return other[0].shown() if other else ""
+
+
+def judge(edit, said, copy, judged_by=judged):
+    """The verdict on an edit, and what to say: refused if one function is that it changed, and judged if each is. An edit
+    that names its goal must be refused there."""
+    found = [judged_by(said, it, copy.text_of) for it in of_edit(edit, copy)]
+    verdict, why = next(it for kind in (REFUSED, UNCLEAR, UNJUDGED, PASSED) for it in found if it[0] == kind)
+    goal = copy.goals.get(edit)
+    if verdict != REFUSED or not goal:
+        return verdict, why
+    named = [it for it in refusals(said, copy.targets[edit][0], copy.text_of) if f": {goal}: " in it]
+    return (REFUSED, named[0]) if named else (UNJUDGED, f"it is refused at another goal than {goal}: {why}")
 
 
 def without_bodies(path, functions):

@@ -1,0 +1,147 @@
+"""Copies of a crate in which the prover judges several edits at a time.
+
+An edit of one function is made in a twin: a copy of the function, with its contract and its proof, under a name of its own.
+Nothing calls a twin. So one check judges all edits of a function, and what it does first is done once: it reads the
+libraries and what the crate states. A function that a trait names has no twin, and an edit of it is made in its place.
+
+`goal: NAME` in an edit names the goal that the prover must refuse it for. Its twin promises nothing but the clause of that
+goal, or nothing at all if the goal lies within the body. If the goal has no answer by hand, it has a search in the twin: the
+prover offers an answer for each goal that it leaves open without one, which takes as long as to prove a function.
+"""
+
+import re
+
+from answers import COMMON, IMPORTS_RULES, blocks_of
+from crates import copy_of
+from sources import FN, functions_of
+
+PROOF_FILES = ("Answers.antt", "Invariants.antt", "Proof.antt")
+ROOT = "src/main.rt"
+ENSURES = re.compile(r" *ensures (?:(\w+) )?\{")
+RETURNS = re.compile(r"(returns\S*?)(?:-clause-(\w+))?")
+
+
+def has_twin(functions):
+    """Whether an edit that changes the bodies of these functions is made in a twin."""
+    return len(functions) == 1 and functions[0].may_have_twin
+
+
+def may_go_together(one, other):
+    """Whether one check can judge two edits that change the bodies of these functions."""
+    return has_twin(one) or has_twin(other) or not any(it in other for it in one)
+
+
+def promising(lines, clause):
+    """The lines of a function's head in which it promises this clause alone, or nothing."""
+    indent, found, is_kept = len(lines[0]) - len(lines[0].lstrip()) + 4, [], True
+    for line in lines:
+        if len(line) - len(line.lstrip()) <= indent:
+            named = ENSURES.match(line)
+            is_kept = not named or clause and named[1] == clause
+        found += [line] if is_kept else []
+    return found
+
+
+def answering(text, clause):
+    """The answers of a function that promises this clause alone, or nothing. The prover names a goal by its clause only if
+    there are several."""
+    lines = []
+    for name, block in blocks_of(text):
+        named = RETURNS.fullmatch(name)
+        if not named or clause and named[2] == clause:
+            lines += block
+    return re.sub(rf"\b(returns[\w-]*)-clause-{clause}(?![\w-])", r"\1", "\n".join(lines))
+
+
+class Twin:
+    """A function with an edit of it, or as it stands, in a copy of its crate."""
+
+    def __init__(self, crate, function, edit, is_changed):
+        self.of, self.edit, self.is_changed = function, edit, is_changed
+        self.name, self.path = f"{function.name()}_{edit.name}", f"{function.path}_{edit.name}"
+        self.proofs = f"Rattle.{crate}.proofs.{self.path.replace('::', '.')}"
+        self.goal, returns = edit.words.get("goal", ""), RETURNS.fullmatch(edit.words.get("goal", ""))
+        self.clause = returns and returns[2]
+        # the goal of a function's one clause has no name of a clause, and the function keeps that clause
+        self.is_whole = not self.goal or returns and not self.clause
+        if self.clause:
+            self.goal = returns[1]
+
+    def lines(self, own):
+        """Its lines, where these are those of the file without the edit."""
+        it = self.of
+        text = self.edit.texts[it.file].split("\n") if self.is_changed else own
+        at = next(at for at in range(it.first, it.body + 1) if FN.match(text[at]))
+        head = [re.sub(rf"\bfn {it.name()}\b", f"fn {self.name}", text[at], count=1), *text[at + 1 : it.body + 1]]
+        if not self.is_whole:
+            head = promising(head, self.clause)
+        return [*text[it.first : at], *head, *text[it.body + 1 : it.last + 1]]
+
+    def proof_of(self, name, text):
+        """The text of a file of its proof, where this is the function's."""
+        for place in (self.of.folder(), self.of.closures()):
+            named = re.escape(place.replace("/", "."))
+            text = re.sub(rf"(\.proofs\.{named})(?=[.\s;])", rf"\1_{self.edit.name}", text)
+        if not self.is_whole and name == "Answers.antt":
+            text = answering(text, self.clause)
+        return text.replace(f"{self.of.name()}_spec", f"{self.name}_spec")
+
+    def with_goal(self, text):
+        """The text of its answers with one for its goal."""
+        if not self.goal or any(name == self.goal for name, _ in blocks_of(text)):
+            return text
+        given = "g c" if self.of.is_generic else "c"
+        lines = [f"use {COMMON}.{{rules}}"] if not IMPORTS_RULES.search(text) else []
+        lines += [f"use {self.proofs}.Goals as goal"] if ".Goals as goal" not in text else []
+        return "\n".join([*lines, text, f"pub {self.goal} : goal.{self.goal}", f"{self.goal} {given} = search rules", ""])
+
+
+class Copy:
+    """A copy of a crate with the edits of a pack, or with the functions that they change, as they stand. It has the functions
+    of the copy; by `targets` those that each edit changes there, and by `goals` the goal that each twin's edit names."""
+
+    def __init__(self, crate, folder, pack, targets, is_changed):
+        self.folder, paths, twins = folder, {}, []
+        copy_of(crate, folder)
+        for edit in pack:
+            paths[edit] = [it.path for it in targets[edit]]
+            if has_twin(targets[edit]):
+                twins.append(Twin(crate, targets[edit][0], edit, is_changed))
+                paths[edit] = [twins[-1].path]
+            elif is_changed:
+                edit.apply(folder)
+        self.goals = {it.edit: it.goal for it in twins}
+        # the last of a file first, so that no line moves before its turn
+        for it in sorted(twins, key=lambda it: -it.of.last):
+            self.add(it)
+        self.be_library(paths.values())
+        self.functions = functions_of(folder)
+        self.targets = {edit: [self.functions[it] for it in paths[edit]] for edit in pack}
+
+    def text_of(self, file):
+        """The text of a file of the copy."""
+        return (self.folder / file).read_text(encoding="utf-8")
+
+    def write(self, file, text):
+        """Writes a file of the copy."""
+        (self.folder / file).parent.mkdir(parents=True, exist_ok=True)
+        (self.folder / file).write_text(text, encoding="utf-8")
+
+    def add(self, twin):
+        """Adds a twin with the proofs of its function and of its closures."""
+        it, own = twin.of, self.text_of(twin.of.file).split("\n")
+        self.write(it.file, "\n".join([*own[: it.last + 1], *twin.lines(own), *own[it.last + 1 :]]))
+        for place in (it.folder(), it.closures()):
+            proofs = self.folder / "proofs" / place
+            files = map(proofs.joinpath, PROOF_FILES) if place == it.folder() else proofs.rglob("*.antt")
+            for file in filter(lambda file: file.is_file(), files):
+                text = twin.proof_of(file.name, file.read_text(encoding="utf-8"))
+                self.write(f"proofs/{place}_{twin.edit.name}/{file.relative_to(proofs)}", text)
+        answers = self.folder / f"proofs/{it.folder()}_{twin.edit.name}/Answers.antt"
+        if text := twin.with_goal(answers.read_text(encoding="utf-8") if answers.exists() else ""):
+            self.write(answers.relative_to(self.folder), text)
+
+    def be_library(self, changed):
+        """Makes a program a library, unless its `main` is changed: its check links nothing, and takes a quarter of the time."""
+        if (self.folder / ROOT).exists() and all(paths and "main" not in paths for paths in changed):
+            self.write(ROOT, re.sub(r"^((?:pub )?fn main)\b", r"\1_of_it", self.text_of(ROOT), flags=re.M))
