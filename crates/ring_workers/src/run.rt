@@ -15,8 +15,8 @@ use std::sync::Wait;
 use std::thread;
 use std::time::{Clock, Duration};
 
-/// How often an idle worker looks into its inbox before it sleeps between two looks.
-const LOOKS_BEFORE_SLEEP: u32 = 100;
+/// How often an idle worker looks into its inbox before it waits, or sleeps between two looks.
+const LOOKS_BEFORE_WAIT: u32 = 100;
 
 /// How long an idle worker sleeps between two looks, in milliseconds.
 const SLEEP_MILLIS: u64 = 1;
@@ -39,9 +39,10 @@ enum Next<E: RingElection> {
 /// returns.
 ///
 /// If a packet cannot be stored, it stays at the front of the outbox, and the worker goes on with
-/// its own inbox. With an empty outbox an idle worker waits in its inbox. Else it looks again and
-/// again, and sleeps a millisecond between two looks after the first hundred. How it waits is
-/// neither proved nor tested.
+/// its own inbox. An idle worker looks into it a hundred times, and lets other threads run between
+/// two looks: to wake a thread that waits takes longer than most elections. After that it waits in
+/// its inbox if its outbox is empty, and else sleeps a millisecond between two looks. How it waits
+/// is neither proved nor tested.
 ///
 /// If an allocation fails for an envelope, the envelope is in hand at the end and is not counted as
 /// dropped: that is the contract of the inner function that handles an item. Tested, not proved:
@@ -64,7 +65,8 @@ pub fn run_worker<E: RingElection, G: Gate, D: Desk<E> + Drop, R: Wait + Clock>(
     for _ in rt.forever() {
         let owner = bench.nodes.owner();
         send(rt, &owner, &mut bench.outbox, senders);
-        let item = match next_item(rt, receiver, bench.outbox.is_empty()) {
+        let waits = bench.outbox.is_empty() && idle >= LOOKS_BEFORE_WAIT;
+        let item = match next_item(rt, receiver, waits) {
             Next::Item(item) => item,
             Next::Nothing => {
                 idle = rest(rt, idle);
@@ -130,7 +132,7 @@ fn next_item<E: RingElection, R: Wait>(
 /// Lets other threads run between two looks, and sleeps if there were many looks in vain. Returns
 /// how many there were.
 fn rest<R: Clock>(rt: &R, idle: u32) -> u32 {
-    if idle < LOOKS_BEFORE_SLEEP {
+    if idle < LOOKS_BEFORE_WAIT {
         thread::yield_now();
         return idle.saturating_add(1);
     }
