@@ -39,8 +39,8 @@ impl<A: Access<Any> + Drop, R: Wait> Caller<'_, A, R> {
 impl<A: Access<Any> + Drop, R: Wait + Clock> Caller<'_, A, R> {
     /// The reply to a command, which is given again until it is placed.
     ///
-    /// Each time it is given at the head of the queue. A start waits for its turn while it holds what tells
-    /// the workers, and a seat that keeps the table may wait for that.
+    /// Each time it is given at the head of the queue. A start waits for its turn while it holds
+    /// what tells the workers, and a seat that keeps the table may wait for that.
     pub(crate) fn insist(&self, seat: &mut A::Seat, command: &Command<Any>) -> Reply
         requires { A.has_seat self.now.access.now seat.old }
         ensures seat { A.has_seat self.now.access.now seat.new }

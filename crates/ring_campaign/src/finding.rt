@@ -97,8 +97,8 @@ impl<A: Access<Any> + Drop, R: Wait> Candidate<'_, A, R> {
         }
     }
 
-    // Looks whether this member joined before all others, and starts a term if so. Then nobody is left
-    // who may decide the last term.
+    // Looks whether this member joined before all others, and starts a term if so. Then nobody is
+    // left who may decide the last term.
     fn find_first(&self, seat: &mut A::Seat) -> Found
         requires { A.has_seat self.now.caller.access.now seat.old }
         ensures seat { A.has_seat self.now.caller.access.now seat.new }

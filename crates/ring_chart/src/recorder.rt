@@ -90,7 +90,8 @@ impl Recorder {
         }
     }
 
-    /// Returns whether no packet is in flight. If so and no link is cut, every node knows the leader.
+    /// Returns whether no packet is in flight. If so and no link is cut, every node knows the
+    /// leader.
     pub fn is_quiet(&self) -> bool
         ensures { IsTrue result → IsUncut self.now → AllKnow any_table any_winner self.now }
     {
@@ -128,8 +129,8 @@ impl Recorder {
         }
     }
 
-    /// Makes at most `count` deliveries, each at the first link with a packet in flight. Ends before
-    /// the first delivery to a member without a column. Fails only if an allocation fails.
+    /// Makes at most `count` deliveries, each at the first link with a packet in flight. Ends
+    /// before the first delivery to a member without a column. Fails only if an allocation fails.
     pub fn drain(&mut self, alloc: Global, count: u32) -> Result<(), AllocError> {
         for _ in 0..count {
             match self.world.ready() {
@@ -246,8 +247,8 @@ impl Recorder {
         })
     }
 
-    // Returns the arrows of the packets in flight or stuck that go from a column to a column, in the
-    // order of their receivers.
+    // Returns the arrows of the packets in flight or stuck that go from a column to a column, in
+    // the order of their receivers.
     fn flying(&self, alloc: Global) -> Result<Vec<Arrow>, AllocError> {
         let mut flying = Vec::new(alloc);
         for position in 0..self.world.nodes().len() {

@@ -108,7 +108,7 @@ pub record IsDrawn (response : Response) : Type 0 where
   pub says : Says 200 (codes "image/svg+xml") picture response
       ⊎ Says 404 reason_kind no_picture response
 
--- `last` is the last place that was told on the connection before, and `later` the last one after:
+-- `last` is the last place that the connection had before, and `later` the last one after:
 -- the place of what a response says is `later`, which is greater than `last`.
 module _ (base most session : ℕ) (mine : List (Entry Any)) (last : ℕ) (response : Response)
     (now : List (Entry Any)) (later : ℕ) where
@@ -119,7 +119,7 @@ module _ (base most session : ℕ) (mine : List (Entry Any)) (last : ℕ) (respo
     pub rises : last ≤ later
     pub says : Says (code lack) reason_kind (reason_of lack) response
 
-  -- The names of all groups were asked for. The response is told of their place and of them.
+  -- The names of all groups were asked for. The response has their place and the names.
   pub record ShowsNames (Told : ℕ → List (List ℕ) → Response → Type 0) : Type 0 where
     pub names : List (List ℕ)
     pub gained : now ≡ mine ++ Call session command.Groups (reply.Groups names) ∷ []

@@ -109,8 +109,8 @@ pub(crate) fn page_of(resource: &Resource) -> &'static str {
     }
 }
 
-/// Ends a response, whose text is of this type. If an allocation failed for the text or fails for the
-/// type, it is a 503 with neither.
+/// Ends a response, whose text is of this type. If an allocation failed for the text or fails for
+/// the type, it is a 503 with neither.
 pub(crate) fn end(put: Result<(), AllocError>, kind: &'static str, response: &mut Response)
     requires visible { IsTrue (is_visible_text kind.now) }
     requires begun { fields_of response.old ≡ policy_fields }

@@ -30,8 +30,8 @@ use std::time::Clock;
 impl<A: Access<Any> + Drop, R: Wait + Clock, B: Beside> Asker<'_, A, R, B> {
     /// Answers a request by questions of a seat, which change nothing. The response is made only
     /// after all entries that it shows are kept for good. `last` is the place of the last response
-    /// on the connection, or 0. A place in this response is greater, and is put there. Fails only if
-    /// an allocation fails, and then nothing was asked.
+    /// on the connection, or 0. A place in this response is greater, and is put there. Fails only
+    /// if an allocation fails, and then nothing was asked.
     ///
     /// `/healthz` is 503 if its question is not answered. The text says why: an allocation failed,
     /// or the seat has used up its turns. A journal that failed is no such reason: then the process

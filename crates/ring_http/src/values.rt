@@ -15,8 +15,8 @@ use ring_id::{GroupName, NodeId, NodeNo};
 use serde_json::{Value, json};
 use std::alloc::{AllocError, Global};
 
-/// Appends a line of JSON: the names of all groups, and the place of the answer. The line reads back
-/// as the same value. Fails only if an allocation fails.
+/// Appends a line of JSON: the names of all groups, and the place of the answer. The line reads
+/// back as the same value. Fails only if an allocation fails.
 pub fn put_names(
     alloc: Global,
     place: usize,

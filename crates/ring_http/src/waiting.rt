@@ -1,6 +1,6 @@
-//! How long a request waits for news, and what its client has seen. `seen=` alone says what is news:
-//! without it the group is compared with itself at the start of the request. Tested, not proved: it
-//! decides when a request is answered, and not how.
+//! How long a request waits for news, and what its client has seen. `seen=` alone says what is
+//! news: without it the group is compared with itself at the start of the request. Tested, not
+//! proved: it decides when a request is answered, and not how.
 ghost use Rattle.std.specs.Prelude.{◌≤◌};
 
 // How many seconds a request waits at most.

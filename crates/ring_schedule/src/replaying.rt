@@ -65,18 +65,19 @@ impl Answerer for Replayer {
 /// Answers a schedule: each line of the reader by one line to the writer, from no groups at all.
 ///
 /// A line that spells an event is answered by the reply of a step of the election object and of the
-/// worlds, and any other line by `no bad-line`. Before each read call exactly the replies to the lines
-/// that were read whole are written. `Ok` is the number of lines, and comes at the end of the input
-/// alone. At `Read` and at `Endless` the lines that an LF ends are answered; at `Write` a front of the
-/// replies was written; at `NoMemory` nothing was read. Unless writing failed, each reply is one of the
-/// grammar, so no two of them share a line. Makes at most `reads` read calls.
+/// worlds, and any other line by `no bad-line`. Before each read call exactly the replies to the
+/// lines that were read whole are written. `Ok` is the number of lines, and comes at the end of the
+/// input alone. At `Read` and at `Endless` the lines that an LF ends are answered; at `Write` a
+/// front of the replies was written; at `NoMemory` nothing was read. Unless writing failed, each
+/// reply is one of the grammar, so no two of them share a line. Makes at most `reads` read calls.
 pub fn replay<R: Intake, W: Outlet>(
     alloc: Global,
     reader: &mut R,
     writer: &mut W,
     reads: u32,
 ) -> Result<u64, LineFault>
-    ensures { Replays R.read_gives W.write_gives reader.old writer.old reads result reader.new writer.new }
+    ensures { Replays R.read_gives W.write_gives reader.old writer.old reads result reader.new
+        writer.new }
 {
     let Ok(mut mux) = Mux::new(alloc) else {
         return Err(LineFault::NoMemory);

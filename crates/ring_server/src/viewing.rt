@@ -47,8 +47,8 @@ pub(crate) struct Seated<'a, T: Tabled<Any> + Drop> {
     ghost of_front: { seat.lock ≡ front.now.id },
 }
 
-/// Returns a viewer for each seat. Its places are counted from `base`, and the names of header fields
-/// are hashed by `keys`. It shows what the watch knows. Fails only if an allocation fails.
+/// Returns a viewer for each seat. Its places are counted from `base`, and the names of header
+/// fields are hashed by `keys`. It shows what the watch knows. Fails only if an allocation fails.
 pub fn viewers<'a, T: Tabled<Any> + Drop>(
     alloc: Global,
     front: &'a Front<T>,

@@ -138,7 +138,8 @@ impl<T: Tabled<Any> + Drop> Access<Any> for Watched<T> {
     fn report<R: Wait>(&self, rt: &R, seat: &mut Seat<Any, T>, report: &Report<Any>) -> Filed
         requires { seat.old.lock ≡ self.now.id }
         ensures seat { seat.new.lock ≡ self.now.id }
-        ensures entry { Reports any_winner any_greatest report.now seat.old.mine result seat.new.mine }
+        ensures entry { Reports any_winner any_greatest report.now seat.old.mine result
+            seat.new.mine }
     {
         Access::report(&self.lock, rt, seat, report)
     }

@@ -60,7 +60,8 @@ impl<E: RingElection, H: Recorder<E> + Drop> Recorded<E, H> {
     /// Returns a table of this book over the recorder of its history. Does not allocate.
     pub fn resume(alloc: Global, book: Book<E>, recorder: H) -> Recorded<E, H>
         requires { IsLegal E.is_two_way E.is_greatest (H.entries recorder) book }
-        ensures { result ≡ record { book = book; history = H.entries recorder; sure = H.sure recorder } }
+        ensures { result
+            ≡ record { book = book; history = H.entries recorder; sure = H.sure recorder } }
     {
         Recorded {
             alloc,

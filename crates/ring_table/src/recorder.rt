@@ -48,7 +48,8 @@ pub trait Recorder<E: RingElection> {
     /// Records a session's command and its reply as the last entry. There must be room for it.
     fn record_call(&mut self, session: u32, command: Command<E>, reply: &Reply)
         requires { 0 < room self.old }
-        ensures added { entries self.new ≡ entries self.old ++ entry.Call session command reply.now ∷ [] }
+        ensures added { entries self.new
+            ≡ entries self.old ++ entry.Call session command reply.now ∷ [] }
         ensures sure { sure self.old ≤ sure self.new };
 
     /// Records a report and what became of it as the last entry. There must be room for it.
@@ -92,7 +93,10 @@ impl<E> Model for Unkept<E> {
 
     ghost Value = { UnkeptView E };
 
-    ghost view = { λ a. record { items = a.entries.items; room = vec_capacity a.entries - vec_len a.entries } };
+    ghost view = { λ a. record {
+      items = a.entries.items;
+      room = vec_capacity a.entries - vec_len a.entries;
+    } };
 }
 
 impl<E> Unkept<E> {
@@ -128,7 +132,8 @@ impl<E: RingElection> Recorder<E> for Unkept<E> {
 
     fn record_call(&mut self, session: u32, command: Command<E>, reply: &Reply)
         requires { 0 < self.old.room }
-        ensures added { self.new.items ≡ self.old.items ++ entry.Call session command reply.now ∷ [] }
+        ensures added { self.new.items
+            ≡ self.old.items ++ entry.Call session command reply.now ∷ [] }
         ensures sure { length self.old.items ≤ length self.new.items }
     {
         self.entries

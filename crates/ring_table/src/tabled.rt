@@ -70,7 +70,8 @@ pub trait Tabled<E: RingElection> {
     fn count(&self) -> usize
         ensures value { result ≡ length (shows self.now).history }
         ensures within { length (shows self.now).history < most }
-        ensures legal { IsLegal E.is_two_way E.is_greatest (shows self.now).history (shows self.now).book }
+        ensures legal { IsLegal E.is_two_way E.is_greatest (shows self.now).history
+            (shows self.now).book }
         ensures kept { IsKept E.winner (shows self.now).book };
 }
 

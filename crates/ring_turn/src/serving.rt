@@ -82,7 +82,8 @@ impl<E: RingElection, T: Tabled<E> + Drop> Access<E> for TurnLock<E, T> {
     fn report<R: Wait>(&self, rt: &R, seat: &mut Seat<E, T>, report: &Report<E>) -> Filed
         requires { seat.old.lock ≡ self.now.id }
         ensures seat { seat.new.lock ≡ self.now.id }
-        ensures entry { Reports E.winner E.is_greatest report.now seat.old.mine result seat.new.mine }
+        ensures entry { Reports E.winner E.is_greatest report.now seat.old.mine result
+            seat.new.mine }
     {
         TurnLock::report(self, rt, seat, report)
     }

@@ -16,8 +16,8 @@ use std::sync::Arc;
 
 /// The nodes of one term in the order of their ring, and which links between them are cut.
 ///
-/// It does not store the packets in flight or stuck. They follow from the packets that each node has
-/// sent and taken.
+/// It does not store the packets in flight or stuck. They follow from the packets that each node
+/// has sent and taken.
 #[derive(Drop)]
 pub struct Circle<E: RingElection> {
     charter: Arc<Charter<E>>,

@@ -154,7 +154,8 @@ where
     O: Outlet,
     ensures { MatchResult result
         (λ _. Wrote O.write_gives out.old (first.now ++ closed_line connections) out.new)
-        (λ fault. ServedAt O.write_gives out.old first.now (closed_line connections) fault out.new) }
+        (λ fault. ServedAt O.write_gives out.old first.now (closed_line connections) fault
+        out.new) }
 {
     let listener = listen(rt, place, mode, sockets)?;
     accept_loop(rt, listener, config, connections, first, out)
