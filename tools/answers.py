@@ -8,7 +8,6 @@ COMMON = "Rattle.std.proofs.Common"
 LISTS = ("rules", "arith")
 DEFINED = re.compile(r"([^\s:]+) : ")
 HEAD = re.compile(r"(\S+(?: \w+)*) =")
-IMPORTS_RULES = re.compile(r"^use .*Common\.\{(.*, )?rules[,}]", re.M)
 WORD = re.compile(r"[^\s()\[\]{},]+")
 
 
@@ -64,6 +63,6 @@ def searched(text, failed, opened=()):
             gone += lines
         else:
             kept += searching(lines, lemmas) if name in failed else lines
-    if not IMPORTS_RULES.search(text):
+    if not re.search(r"^use .*Common\.\{(.*, )?rules[,}]", text, re.M):
         kept.insert(0, f"use {COMMON}.{{rules}}")
     return "\n".join([*kept, *answering(opened, gone, lemmas)])

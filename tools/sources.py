@@ -5,18 +5,17 @@ import re
 FN = re.compile(r"( *)(?:pub(?:\([^)]*\))? )?(?:const |unsafe )*fn (\w+)")
 IMPL = re.compile(r"impl(?:<(?P<own>.*?)>)? (?:(?P<of>\w.*?) for )?(?P<for>[&\w].*?)(?: where .*)? \{\}?$")
 HEAD = re.compile(r"impl\b|(?:pub(?:\([^)]*\))? )?trait ")
-FN_OWN = re.compile(r"\bfn \w+<(?P<own>.*?)>\(")
 OWN = re.compile(r"(?:^|, )(\w+)(?=:|,|$)")
 TYPE = re.compile(r"^(?:pub(?:\([^)]*\))? )?(?:struct|enum) (\w+)(<[^{(;]*)?", re.M)
 WORD = re.compile(r"\w+")
 
 
 class Function:
-    """A function by its path below the crate, its lines in its file, from 0 and with its attributes, whether a copy under
-    another name may stand beside it, and whether it or its type takes types."""
+    """A function by its path below the crate, its lines in its file, from 0 and with its attributes, and whether a copy
+    under another name may stand beside it."""
 
-    def __init__(self, file, path, lines, may_have_twin, is_generic):
-        self.file, self.path, self.may_have_twin, self.is_generic = file, path, may_have_twin, is_generic
+    def __init__(self, file, path, lines, may_have_twin):
+        self.file, self.path, self.may_have_twin = file, path, may_have_twin
         self.first, self.body, self.last = lines
 
     def name(self):
@@ -96,12 +95,6 @@ def is_own(head):
     return bool(found) and not found["of"]
 
 
-def takes_types(head):
-    """Whether an `impl` or a function with this head takes types."""
-    found = IMPL.match(head) or FN_OWN.search(head)
-    return bool(found and OWN.findall(found["own"] or "")) or bool(re.search(r": (&(mut )?)?impl ", head))
-
-
 def head_of(lines, at):
     """The last line of the head of the function at a line: where its body begins, or where it ends without one."""
     depth = 0
@@ -137,9 +130,8 @@ def functions_in(file, text, types):
         while lines[first - 1].lstrip().startswith("#["):
             first -= 1
         # what a trait names has no copy, nor has a part of a cycle of calls, whose functions have one proof
-        whole_fn = " ".join(it.strip() for it in lines[at : body + 1])
         is_free = (not owner or is_own(item)) and "#[cycle" not in "".join(lines[first:at])
-        found.append(Function(file, path, (first, body, last), is_free, takes_types(item) or takes_types(whole_fn)))
+        found.append(Function(file, path, (first, body, last), is_free))
     return found
 
 

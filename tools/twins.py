@@ -4,14 +4,14 @@ An edit of one function is made in a twin: a copy of the function, with its cont
 Nothing calls a twin. So one check judges all edits of a function, and what it does first is done once: it reads the
 libraries and what the crate states. A function that a trait names has no twin, and an edit of it is made in its place.
 
-`goal: NAME` in an edit names the goal that the prover must refuse it for. Its twin promises nothing but the clause of that
-goal, or nothing at all if the goal lies within the body. If the goal has no answer by hand, it has a search in the twin: the
-prover offers an answer for each goal that it leaves open without one, which takes as long as to prove a function.
+`goal: NAME` in an edit names the goal that the prover must refuse it for. Its twin promises the clause of that goal and one
+more, since the prover names goals by their clauses only if there are several. It promises nothing if the goal lies within
+the body. Where an answer by hand is for several clauses, or another one cites it, the twin keeps all.
 """
 
 import re
 
-from answers import COMMON, IMPORTS_RULES, blocks_of
+from answers import WORD, blocks_of
 from crates import copy_of
 from sources import FN, functions_of
 
@@ -31,41 +31,48 @@ def may_go_together(one, other):
     return has_twin(one) or has_twin(other) or not any(it in other for it in one)
 
 
-def promising(lines, clause):
-    """The lines of a function's head in which it promises this clause alone, or nothing."""
+def promising(lines, kept):
+    """The lines of a function's head in which it promises these clauses alone."""
     indent, found, is_kept = len(lines[0]) - len(lines[0].lstrip()) + 4, [], True
     for line in lines:
         if len(line) - len(line.lstrip()) <= indent:
             named = ENSURES.match(line)
-            is_kept = not named or clause and named[1] == clause
+            is_kept = not named or named[1] in kept
         found += [line] if is_kept else []
     return found
 
 
-def answering(text, clause):
-    """The answers of a function that promises this clause alone, or nothing. The prover names a goal by its clause only if
-    there are several."""
-    lines = []
-    for name, block in blocks_of(text):
-        named = RETURNS.fullmatch(name)
-        if not named or clause and named[2] == clause:
-            lines += block
-    return re.sub(rf"\b(returns[\w-]*)-clause-{clause}(?![\w-])", r"\1", "\n".join(lines))
+def stay_together(text):
+    """Whether one of these answers is for all clauses at a place where the function returns, or another one cites it."""
+    blocks = blocks_of(text)
+    returns = [at for name, _ in blocks if (at := RETURNS.fullmatch(name))]
+    cited = [(name, word) for name, lines in blocks for line in lines for word in WORD.findall(line)]
+    return any(not at[2] or any(word == at[0] != name for name, word in cited) for at in returns)
+
+
+def answering(text, kept):
+    """The answers of a function that promises these clauses alone."""
+    found = []
+    for name, lines in blocks_of(text):
+        returns = RETURNS.fullmatch(name)
+        found += lines if not returns or returns[2] in kept else []
+    return "\n".join(found)
 
 
 class Twin:
     """A function with an edit of it, or as it stands, in a copy of its crate."""
 
-    def __init__(self, crate, function, edit, is_changed):
+    def __init__(self, function, edit, is_changed, answers):
         self.of, self.edit, self.is_changed = function, edit, is_changed
         self.name, self.path = f"{function.name()}_{edit.name}", f"{function.path}_{edit.name}"
-        self.proofs = f"Rattle.{crate}.proofs.{self.path.replace('::', '.')}"
-        self.goal, returns = edit.words.get("goal", ""), RETURNS.fullmatch(edit.words.get("goal", ""))
-        self.clause = returns and returns[2]
+        self.goal, self.kept = edit.words.get("goal", ""), []
+        returns = RETURNS.fullmatch(self.goal)
         # the goal of a function's one clause has no name of a clause, and the function keeps that clause
-        self.is_whole = not self.goal or returns and not self.clause
-        if self.clause:
-            self.goal = returns[1]
+        self.is_whole = not self.goal or returns and not returns[2] or stay_together(answers)
+        if returns:
+            head = edit.texts[function.file].split("\n")[function.first : function.body]
+            others = [at[1] for line in head if (at := ENSURES.match(line)) and at[1] != returns[2]]
+            self.kept = [returns[2], *others[:1]]
 
     def lines(self, own):
         """Its lines, where these are those of the file without the edit."""
@@ -74,7 +81,7 @@ class Twin:
         at = next(at for at in range(it.first, it.body + 1) if FN.match(text[at]))
         head = [re.sub(rf"\bfn {it.name()}\b", f"fn {self.name}", text[at], count=1), *text[at + 1 : it.body + 1]]
         if not self.is_whole:
-            head = promising(head, self.clause)
+            head = promising(head, self.kept)
         return [*text[it.first : at], *head, *text[it.body + 1 : it.last + 1]]
 
     def proof_of(self, name, text):
@@ -83,17 +90,8 @@ class Twin:
             named = re.escape(place.replace("/", "."))
             text = re.sub(rf"(\.proofs\.{named})(?=[.\s;])", rf"\1_{self.edit.name}", text)
         if not self.is_whole and name == "Answers.antt":
-            text = answering(text, self.clause)
+            text = answering(text, self.kept)
         return text.replace(f"{self.of.name()}_spec", f"{self.name}_spec")
-
-    def with_goal(self, text):
-        """The text of its answers with one for its goal."""
-        if not self.goal or any(name == self.goal for name, _ in blocks_of(text)):
-            return text
-        given = "g c" if self.of.is_generic else "c"
-        lines = [f"use {COMMON}.{{rules}}"] if not IMPORTS_RULES.search(text) else []
-        lines += [f"use {self.proofs}.Goals as goal"] if ".Goals as goal" not in text else []
-        return "\n".join([*lines, text, f"pub {self.goal} : goal.{self.goal}", f"{self.goal} {given} = search rules", ""])
 
 
 class Copy:
@@ -106,7 +104,9 @@ class Copy:
         for edit in pack:
             paths[edit] = [it.path for it in targets[edit]]
             if has_twin(targets[edit]):
-                twins.append(Twin(crate, targets[edit][0], edit, is_changed))
+                answers = folder / "proofs" / targets[edit][0].folder() / "Answers.antt"
+                text = answers.read_text(encoding="utf-8") if answers.exists() else ""
+                twins.append(Twin(targets[edit][0], edit, is_changed, text))
                 paths[edit] = [twins[-1].path]
             elif is_changed:
                 edit.apply(folder)
@@ -137,9 +137,6 @@ class Copy:
             for file in filter(lambda file: file.is_file(), files):
                 text = twin.proof_of(file.name, file.read_text(encoding="utf-8"))
                 self.write(f"proofs/{place}_{twin.edit.name}/{file.relative_to(proofs)}", text)
-        answers = self.folder / f"proofs/{it.folder()}_{twin.edit.name}/Answers.antt"
-        if text := twin.with_goal(answers.read_text(encoding="utf-8") if answers.exists() else ""):
-            self.write(answers.relative_to(self.folder), text)
 
     def be_library(self, changed):
         """Makes a program a library, unless its `main` is changed: its check links nothing, and takes a quarter of the time."""
