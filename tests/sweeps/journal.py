@@ -8,12 +8,16 @@ be. After that it is started once more, with no call going wrong. Each change wi
 without a reply is there whole, with all changes before it, or not at all.
 """
 
+import contextlib
 import errno
+import subprocess
 import zlib
 
 from serving import Client, Lost, serving
 from sweep import Bad, NO_MEMORY
 
+# How long a run in which a call went wrong has to end by itself before it is ended from outside.
+MOMENT = 0.2
 # The calls, and how each goes wrong: a word, and an error by its number.
 FAILING = [("fail", errno.EIO), ("fail", errno.ENOSPC)]
 ENDING = [("exit", 0), ("done", 0)]
@@ -153,7 +157,11 @@ def expect_states(shown, lines, told, sent):
 
 
 def expect_end(server, call, how):
-    """The program has ended as it has to, or it is there."""
+    """The program has ended as it has to, or it is there. If a call went wrong it may be about to end by itself, and gets
+    a moment for that."""
+    if server.told():
+        with contextlib.suppress(subprocess.TimeoutExpired):
+            server.run.wait(timeout=MOMENT)
     was_there, out, error = server.is_ended_by_us()
     status = server.run.returncode
     if was_there and not error:

@@ -14,8 +14,6 @@ from ports import HOST, next_port
 from sweep import Bad
 
 PATIENCE = 20
-# How long a program in which a call went wrong has to say so before it is ended from outside.
-MOMENT = 0.2
 # How often a program is started anew because somebody else took its port.
 TRIES = 5
 LISTEN_FAILED = b"ringd: listen failed\n"
@@ -170,11 +168,9 @@ class Server:
         return self.run.returncode, self.out, self.error
 
     def is_ended_by_us(self):
-        """Ends it from outside; what it said, and whether it was still there. If a call went wrong it may just be about to
-        end by itself. So it gets a moment for its line, and with a line on standard error it has to end."""
+        """Ends it from outside; what it said, and whether it was still there."""
         was_there = self.run.poll() is None
-        if not select.select([self.run.stderr], [], [], MOMENT if self.told() else 0)[0]:
-            self.run.send_signal(signal.SIGTERM)
+        self.run.send_signal(signal.SIGTERM)
         status, out, error = self.ends()
         return was_there and status == -signal.SIGTERM, out, error
 
