@@ -90,8 +90,7 @@ impl Recorder {
         }
     }
 
-    /// Returns whether no packet is in flight. If so and no link is cut, every node knows the
-    /// leader.
+    /// Returns whether no packet is in flight. Then, if no link is cut, every node knows the leader.
     pub fn is_quiet(&self) -> bool
         ensures { IsTrue result → IsUncut self.now → AllKnow any_table any_winner self.now }
     {

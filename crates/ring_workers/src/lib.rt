@@ -13,7 +13,6 @@
 //! which items arrive, nor that they arrive.
 #![tactic(auto)]
 
-mod bench;
 mod desk;
 mod gate;
 mod handed;
@@ -23,7 +22,8 @@ mod outbox;
 mod owner;
 mod post;
 mod run;
-mod seats;
+mod term_nodes;
+mod worker_state;
 
 pub use desk::Desk;
 pub use gate::{Gate, OpenGate, Pass};

@@ -8,7 +8,7 @@ ghost use Rattle.ring_workers.specs.Goings.{HasReceived};
 ghost use Rattle.ring_workers.specs.Owners.{owner_of, receiver_of};
 
 use crate::owner::Owner;
-use crate::seats::{Fate, Seats};
+use crate::term_nodes::{Fate, TermNodes};
 use indexmap::IndexMap;
 use ring_election::RingElection;
 use ring_id::{GroupName, NoMemory};
@@ -26,7 +26,7 @@ use std::sync::Arc;
 #[derive(Drop)]
 pub struct Nodes<E: RingElection> {
     owner: Owner,
-    groups: IndexMap<GroupName, Seats<E>>,
+    groups: IndexMap<GroupName, TermNodes<E>>,
 }
 
 impl<E: RingElection> Model for Nodes<E> {
@@ -199,7 +199,7 @@ impl<E: RingElection> Nodes<E> {
         ensures steps { Steps E.table charter.now.value self.old self.new [] [] }
         ensures place { OnOk result (HasGroupAt self.new.groups place charter.now.value) }
     {
-        let seats = Seats::new(alloc, self.owner, charter)?;
+        let seats = TermNodes::new(alloc, self.owner, charter)?;
         let Some(held) = self.groups.get_index_mut(place) else {
             unreachable!()
         };
@@ -215,7 +215,7 @@ impl<E: RingElection> Nodes<E> {
             (λ i. HasGroupAt self.new.groups i charter.now.value)) }
     {
         let place = self.groups.len();
-        let seats = Seats::new(alloc, self.owner, charter)?;
+        let seats = TermNodes::new(alloc, self.owner, charter)?;
         let Ok(_) = self.groups.insert(charter.group(), seats) else {
             return Err(NoMemory);
         };

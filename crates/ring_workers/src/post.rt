@@ -1,7 +1,8 @@
-ghost use Rattle.std.specs.Prelude.{◌≡◌, ◌+◌, ◌≤◌, ℕ, All, length, vec_len, IfErr, OnOk};
+ghost use Rattle.std.specs.Prelude.{◌≡◌, ◌+◌, ◌<◌, ◌≤◌, ℕ, All, length, vec_len, IfErr, OnOk};
 ghost use Rattle.std.specs.VecDeque.{deque_capacity, deque_len};
 ghost use Rattle.ring_id.specs.Sides.{other};
 ghost use Rattle.ring_node.specs.Nodes.{Gains, IsFault, envelope_of, sent_of};
+ghost use Rattle.ring_workers.specs.Owners.{position_of};
 ghost use Rattle.ring_workers.specs.private.Goings.{HandsTo};
 ghost use Rattle.ring_workers.specs.private.Posts.{Posts};
 
@@ -89,4 +90,14 @@ pub(crate) fn hand_to<E: RingElection>(
     post(node, Side::Left, left, copies, outbox);
     post(node, Side::Right, right, copies, outbox);
     Ok(report)
+}
+
+/// The position to which an envelope's link leads.
+pub(crate) fn position<E: RingElection>(envelope: &Envelope<E>) -> usize
+    ensures value { result ≡ position_of envelope.now }
+    ensures inside { result < length envelope.now.charter.roster }
+{
+    let _packet = envelope.packet();
+    let ring = envelope.charter().roster();
+    ring.neighbour(envelope.from(), envelope.side())
 }

@@ -2,13 +2,13 @@ ghost use Rattle.std.specs.Prelude.{◌≡◌, vec_len};
 ghost use Rattle.ring_workers.specs.Handed.{Hands};
 ghost use Rattle.ring_workers.specs.private.Runs.{EndsAt, Gives, Turns, held_of};
 
-use crate::bench::Bench;
 use crate::desk::Desk;
 use crate::gate::{Gate, Pass};
 use crate::handed::{Handed, Why};
 use crate::item::Item;
 use crate::outbox::send;
 use crate::owner::Worker;
+use crate::worker_state::WorkerState;
 use ring_election::RingElection;
 use ring_inbox::{ReceiverPass, SenderPass, Take, TryTake};
 use std::sync::Wait;
@@ -40,9 +40,9 @@ enum Next<E: RingElection> {
 ///
 /// If a packet cannot be stored, it stays at the front of the outbox, and the worker goes on with
 /// its own inbox. An idle worker looks into it a hundred times, and lets other threads run between
-/// two looks: to wake a thread that waits takes longer than most elections. After that it waits in
-/// its inbox if its outbox is empty, and else sleeps a millisecond between two looks. How it waits
-/// is neither proved nor tested.
+/// two looks, since to wake a thread that waits is dear. After that it waits in its inbox if its
+/// outbox is empty, and else sleeps a millisecond between two looks. How it waits is neither proved
+/// nor tested.
 ///
 /// If an allocation fails for an envelope, the envelope is in hand at the end and is not counted as
 /// dropped: that is the contract of the inner function that handles an item. Tested, not proved:
@@ -59,25 +59,25 @@ pub fn run_worker<E: RingElection, G: Gate, D: Desk<E> + Drop, R: Wait + Clock>(
     ensures { Hands E.table worker.owner.number worker.owner.workers
         receiver.old receiver.new senders.old.items senders.new.items result }
 {
-    let mut bench = Bench::new(worker);
+    let mut worker_state = WorkerState::new(worker);
     let mut turn: u64 = 0;
     let mut idle: u32 = 0;
     for _ in rt.forever() {
-        let owner = bench.nodes.owner();
-        send(rt, &owner, &mut bench.outbox, senders);
-        let waits = bench.outbox.is_empty() && idle >= LOOKS_BEFORE_WAIT;
+        let owner = worker_state.nodes.owner();
+        send(rt, &owner, &mut worker_state.outbox, senders);
+        let waits = worker_state.outbox.is_empty() && idle >= LOOKS_BEFORE_WAIT;
         let item = match next_item(rt, receiver, waits) {
             Next::Item(item) => item,
             Next::Nothing => {
-                idle = rest(rt, idle);
+                idle = pause(rt, idle);
                 continue;
             }
-            Next::Closed => return bench.hand_back(None, Why::Closed),
+            Next::Closed => return worker_state.hand_back(None, Why::Closed),
         };
         idle = 0;
         turn = turn.saturating_add(1);
-        if let Some((why, held)) = handle_at(&mut bench, item, turn, gate, &mut desk) {
-            return bench.hand_back(held, why);
+        if let Some((why, held)) = handle_at(&mut worker_state, item, turn, gate, &mut desk) {
+            return worker_state.hand_back(held, why);
         }
     }
     unreachable!()
@@ -86,22 +86,22 @@ pub fn run_worker<E: RingElection, G: Gate, D: Desk<E> + Drop, R: Wait + Clock>(
 /// Handles an item between the gate's two calls, unless the gate halts the worker. If the worker
 /// ends, the result says why, and has the item if it was not handled.
 fn handle_at<E: RingElection, G: Gate, D: Desk<E>>(
-    bench: &mut Bench<E>,
+    worker_state: &mut WorkerState<E>,
     item: Item<E>,
     turn: u64,
     gate: &G,
     desk: &mut D,
 ) -> Option<(Why, Option<Item<E>>)>
-    ensures turns { Turns E.table item bench.old.nodes bench.new.nodes
-        bench.old.outbox.items bench.new.outbox.items
-        bench.old.dropped bench.new.dropped (held_of result) }
+    ensures turns { Turns E.table item worker_state.old.nodes worker_state.new.nodes
+        worker_state.old.outbox.items worker_state.new.outbox.items
+        worker_state.old.dropped worker_state.new.dropped (held_of result) }
     ensures ends { EndsAt item result }
 {
-    let number = bench.nodes.owner().number;
+    let number = worker_state.nodes.owner().number;
     match gate.enter(number, turn) {
         Pass::Halt => Some((Why::Halted, Some(item))),
         Pass::Go => {
-            let ends = bench.handle(item, desk);
+            let ends = worker_state.handle(item, desk);
             gate.leave(number, turn);
             ends
         }
@@ -131,7 +131,7 @@ fn next_item<E: RingElection, R: Wait>(
 
 /// Lets other threads run between two looks, and sleeps if there were many looks in vain. Returns
 /// how many there were.
-fn rest<R: Clock>(rt: &R, idle: u32) -> u32 {
+fn pause<R: Clock>(rt: &R, idle: u32) -> u32 {
     if idle < LOOKS_BEFORE_WAIT {
         thread::yield_now();
         return idle.saturating_add(1);

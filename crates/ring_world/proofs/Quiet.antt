@@ -18,19 +18,19 @@ use Rattle.ring_node.specs.Journals.{algo_part, known_after, packets_after}
 use Rattle.ring_node.specs.private.Journals.{algos_of}
 use Rattle.ring_node.specs.Ports.{all_leaders}
 use Rattle.ring_node.proofs.Receipts.{algos_of-packets_after}
-use Rattle.ring_world.specs.declared.sort.Sort.{Sort}
-use Rattle.ring_world.specs.declared.sort.Sort.TheVariants.{Message, Announcement}
+use Rattle.ring_world.specs.declared.packet_kind.PacketKind.{PacketKind}
+use Rattle.ring_world.specs.declared.packet_kind.PacketKind.TheVariants.{Message, Announcement}
 use Rattle.ring_world.specs.Quiet.{AllKnow, IsEmptied, IsQuiet}
-use Rattle.ring_world.specs.Sorts.{of_sort}
+use Rattle.ring_world.specs.PacketKinds.{of_kind}
 use Rattle.ring_world.specs.Worlds.{IsReady, IsSoundWorld, IsUncut, Running, on_link, pending_below, pending_of, size_of, taken_at}
-use Rattle.ring_world.proofs.Announcements.{algos_of-of_sort, announced_right, decided_knows, taken_from-algo_part, unknown_took_none}
+use Rattle.ring_world.proofs.Announcements.{algos_of-of_kind, announced_right, decided_knows, taken_from-algo_part, unknown_took_none}
 use Rattle.ring_world.proofs.Cuts.{pending_stands, quiet_emptied}
 use Rattle.ring_world.proofs.Links.{each_side_below, no_length}
 
--- on each link of a ring, the packets of each sort that were taken are those that were sent
+-- on each link of a ring, the packets of each kind that were taken are those that were sent
 pub record IsMatched {S M : Type 0} (t : Table S M) (ring : List ℕ) (journals : ℕ → List (Side × Packet M)) : Type 0 where
-  pub each : (i : ℕ) (side : Side) (sort : Sort) → i < length ring →
-      of_sort sort (taken_from side (journals i)) ≡ of_sort sort (packets_after t (get_or ring (neighbour (length ring) i side) 0) (other side) (journals (neighbour (length ring) i side)))
+  pub each : (i : ℕ) (side : Side) (kind : PacketKind) → i < length ring →
+      of_kind kind (taken_from side (journals i)) ≡ of_kind kind (packets_after t (get_or ring (neighbour (length ring) i side) 0) (other side) (journals (neighbour (length ring) i side)))
 
 -- the position knows a leader
 pub record IsInformed {S M : Type 0} (t : Table S M) (ring : List ℕ) (journals : ℕ → List (Side × Packet M)) (i : ℕ) : Type 0 where
@@ -45,9 +45,9 @@ module _ {S M : Type 0} (t : Table S M) (fits : Fitting M) (ring : List ℕ) (jo
         let next : ℕ = neighbour (length ring) i from in
         let sent : List (Packet M) = packets_after t (get_or ring next 0) (other from) (journals next) in
         taken_from-algo_part from (journals i)
-        ∙ algos_of-of_sort (taken_from from (journals i))
+        ∙ algos_of-of_kind (taken_from from (journals i))
         ∙ ap algos_of (matched.each i from Message below)
-        ∙ sym (algos_of-of_sort sent)
+        ∙ sym (algos_of-of_kind sent)
         ∙ ap (λ (me : ℕ). algos_of (packets_after t me (other from) (journals next))) (get_or_from_slice_get ring next sender 0 there)
         ∙ algos_of-packets_after t sender (other from) (journals next);
   }
@@ -57,7 +57,7 @@ module _ {S M : Type 0} (t : Table S M) (fits : Fitting M) (ring : List ℕ) (jo
   informs_next i below informed =
       let next : ℕ = right_of (length ring) i in
       let me : ℕ = get_or ring next 0 in
-      let family : ℕ → Type 0 = λ (q : ℕ). of_sort Announcement (taken_from Left (journals next)) ≡ of_sort Announcement (packets_after t (get_or ring q 0) Right (journals q)) in
+      let family : ℕ → Type 0 = λ (q : ℕ). of_kind Announcement (taken_from Left (journals next)) ≡ of_kind Announcement (packets_after t (get_or ring q 0) Right (journals q)) in
       let took = subst family (left_of-right_of (length ring) i below) (matched.each next Left Announcement (neighbour-below (length ring) i Right below)) in
       let some = took ∙ announced_right t (get_or ring i 0) (journals i) ∙ ap all_leaders informed.knows in
       elim (known_after t me (journals next)) as (λ o. known_after t me (journals next) ≡ o → IsInformed t ring journals next) [
@@ -78,8 +78,8 @@ module _ {E S M : Type 0} (t : E → Table S M) (fits : E → Fitting M) (winner
   -- in a sound world where nothing stands on a link, all that was sent was taken
   emptied_matched : IsSoundWorld t fits winner world → IsEmptied t world → IsMatched (t world.charter.algorithm) world.charter.roster (λ i. get_or world.journals i [])
   emptied_matched sound emptied = record {
-    each = λ i side sort below.
-        ap (of_sort sort)
+    each = λ i side kind below.
+        ap (of_kind kind)
         (sym (append-nil (taken_at t world i side))
         ∙ ap (λ (l : List (Packet M)). taken_at t world i side ++ l) (sym (emptied.taken i side below))
         ∙ sound.links.taken_first i side below);

@@ -1,4 +1,4 @@
--- Settled terms: the comparison of a sort of packet, and why every node knows where all positions are
+-- Settled terms: the comparison of a kind of packet, and why every node knows where all positions are
 -- settled.
 use Rattle.std.proofs.Common.{◌≡◌, ◌≢◌, ◌+◌, ◌<◌, ◌≤◌, ◌==◌, ◌↔◌, ℕ, zero, suc, Bool, true, false, cond, IsTrue, List, [], ◌∷◌, length, drop, Option, Some, None, not, is_some, option_map, slice_get, slice_index, refl, sym, ap, ap₂, ◌∙◌, subst, arith, rules, inl, inr}
 use denote.Enum.Bare.{sameb, same_false, same_true}
@@ -20,60 +20,60 @@ use Rattle.ring_node.specs.declared.packet.Packet.{Packet}
 use Rattle.ring_node.specs.Journals.{algo_part}
 use Rattle.ring_node.specs.Nodes.{IsFaithful, Seated, known_of, member_of, sent_of, taken_of}
 use Rattle.ring_node.specs.Reports.{Told}
-use Rattle.ring_world.specs.declared.sort.Sort.{Sort}
-use Rattle.ring_world.specs.declared.sort.Sort.TheVariants.{Message, Announcement}
+use Rattle.ring_world.specs.declared.packet_kind.PacketKind.{PacketKind}
+use Rattle.ring_world.specs.declared.packet_kind.PacketKind.TheVariants.{Message, Announcement}
 use Rattle.ring_world.specs.private.Settlements.{AllFaithful, IsNextOf}
 use Rattle.ring_world.specs.Settlements.{EachKnows, EachReports, IsAlone, IsFed, IsSettled, IsSettledAt}
 use Rattle.ring_world.specs.private.Places.{IsShared}
-use Rattle.ring_world.specs.Sorts.{is_of, of_sort}
+use Rattle.ring_world.specs.PacketKinds.{is_of, of_kind}
 use Rattle.ring_world.proofs.Links.{same_or_not}
 use Rattle.ring_world.proofs.Quiet.{IsMatched, matched_informed}
 
--- ---- The packets of a sort
+-- ---- The packets of a kind
 
 drop_at : {A : Type 0} (xs : List A) (k : ℕ) (x : A) → slice_get xs k ≡ Some x → drop k xs ≡ x ∷ drop (k + 1) xs
 drop_at [] k x h = cc
 drop_at {A} (y ∷ xs) zero x h = let same : y ≡ x = cc in ap (λ (z : A). z ∷ xs) same
 drop_at (y ∷ xs) (suc k) x h = let more : suc k + 1 ≡ suc (k + 1) = omega arith in rw more (drop_at xs k x h)
 
--- a packet of the sort is the first of them from its place on
-pub of_sort_here : {M : Type 0} (sort : Sort) (ps : List (Packet M)) (k : ℕ) (p : Packet M) → slice_get ps k ≡ Some p → is_of sort p ≡ true → of_sort sort (drop k ps) ≡ p ∷ of_sort sort (drop (k + 1) ps)
-of_sort_here sort ps k p there is =
-    ap (of_sort sort) (drop_at ps k p there) ∙ ap (λ b. cond b (p ∷ of_sort sort (drop (k + 1) ps)) (of_sort sort (drop (k + 1) ps))) is
+-- a packet of the kind is the first of them from its place on
+pub of_kind_here : {M : Type 0} (kind : PacketKind) (ps : List (Packet M)) (k : ℕ) (p : Packet M) → slice_get ps k ≡ Some p → is_of kind p ≡ true → of_kind kind (drop k ps) ≡ p ∷ of_kind kind (drop (k + 1) ps)
+of_kind_here kind ps k p there is =
+    ap (of_kind kind) (drop_at ps k p there) ∙ ap (λ b. cond b (p ∷ of_kind kind (drop (k + 1) ps)) (of_kind kind (drop (k + 1) ps))) is
 
 -- past the last packet there is none
-pub of_sort_none : {M : Type 0} (sort : Sort) (ps : List (Packet M)) (k : ℕ) → slice_get ps k ≡ None → of_sort sort (drop k ps) ≡ []
-of_sort_none sort [] zero none = refl
-of_sort_none sort [] (suc k) none = refl
-of_sort_none sort (p ∷ ps) zero none = cc
-of_sort_none sort (p ∷ ps) (suc k) none = of_sort_none sort ps k none
+pub of_kind_none : {M : Type 0} (kind : PacketKind) (ps : List (Packet M)) (k : ℕ) → slice_get ps k ≡ None → of_kind kind (drop k ps) ≡ []
+of_kind_none kind [] zero none = refl
+of_kind_none kind [] (suc k) none = refl
+of_kind_none kind (p ∷ ps) zero none = cc
+of_kind_none kind (p ∷ ps) (suc k) none = of_kind_none kind ps k none
 
 -- another is passed over
-pub of_sort_past : {M : Type 0} (sort : Sort) (ps : List (Packet M)) (k : ℕ) (p : Packet M) → slice_get ps k ≡ Some p → is_of sort p ≡ false → of_sort sort (drop k ps) ≡ of_sort sort (drop (k + 1) ps)
-of_sort_past sort ps k p there is =
-    ap (of_sort sort) (drop_at ps k p there) ∙ ap (λ b. cond b (p ∷ of_sort sort (drop (k + 1) ps)) (of_sort sort (drop (k + 1) ps))) is
+pub of_kind_past : {M : Type 0} (kind : PacketKind) (ps : List (Packet M)) (k : ℕ) (p : Packet M) → slice_get ps k ≡ Some p → is_of kind p ≡ false → of_kind kind (drop k ps) ≡ of_kind kind (drop (k + 1) ps)
+of_kind_past kind ps k p there is =
+    ap (of_kind kind) (drop_at ps k p there) ∙ ap (λ b. cond b (p ∷ of_kind kind (drop (k + 1) ps)) (of_kind kind (drop (k + 1) ps))) is
 
-module _ {M : Type 0} (sort : Sort) (side : Side) (js : List (Side × Packet M)) (k : ℕ) (r : Side × Packet M) (there : slice_get js k ≡ Some r) where
+module _ {M : Type 0} (kind : PacketKind) (side : Side) (js : List (Side × Packet M)) (k : ℕ) (r : Side × Packet M) (there : slice_get js k ≡ Some r) where
   -- the packet of a receipt from the side is the next that was taken there
   taken_here : same_side side r.0 ≡ true → taken_from side (drop k js) ≡ r.1 ∷ taken_from side (drop (k + 1) js)
   taken_here here = ap (taken_from side) (drop_at js k r there) ∙ ap (λ b. cond b (r.1 ∷ taken_from side (drop (k + 1) js)) (taken_from side (drop (k + 1) js))) here
 
-  -- and it is the next of its sort
-  pub taken_next : same_side side r.0 ≡ true → is_of sort r.1 ≡ true → of_sort sort (taken_from side (drop k js)) ≡ r.1 ∷ of_sort sort (taken_from side (drop (k + 1) js))
+  -- and it is the next of its kind
+  pub taken_next : same_side side r.0 ≡ true → is_of kind r.1 ≡ true → of_kind kind (taken_from side (drop k js)) ≡ r.1 ∷ of_kind kind (taken_from side (drop (k + 1) js))
   taken_next here is =
-      ap (of_sort sort) (taken_here here)
-      ∙ ap (λ b. cond b (r.1 ∷ of_sort sort (taken_from side (drop (k + 1) js))) (of_sort sort (taken_from side (drop (k + 1) js)))) is
+      ap (of_kind kind) (taken_here here)
+      ∙ ap (λ b. cond b (r.1 ∷ of_kind kind (taken_from side (drop (k + 1) js))) (of_kind kind (taken_from side (drop (k + 1) js)))) is
 
-  -- one of the other sort is passed over
-  pub taken_other : same_side side r.0 ≡ true → is_of sort r.1 ≡ false → of_sort sort (taken_from side (drop k js)) ≡ of_sort sort (taken_from side (drop (k + 1) js))
+  -- one of the other kind is passed over
+  pub taken_other : same_side side r.0 ≡ true → is_of kind r.1 ≡ false → of_kind kind (taken_from side (drop k js)) ≡ of_kind kind (taken_from side (drop (k + 1) js))
   taken_other here is =
-      ap (of_sort sort) (taken_here here)
-      ∙ ap (λ b. cond b (r.1 ∷ of_sort sort (taken_from side (drop (k + 1) js))) (of_sort sort (taken_from side (drop (k + 1) js)))) is
+      ap (of_kind kind) (taken_here here)
+      ∙ ap (λ b. cond b (r.1 ∷ of_kind kind (taken_from side (drop (k + 1) js))) (of_kind kind (taken_from side (drop (k + 1) js)))) is
 
   -- so is a receipt from the other side
-  pub taken_elsewhere : same_side side r.0 ≡ false → of_sort sort (taken_from side (drop k js)) ≡ of_sort sort (taken_from side (drop (k + 1) js))
+  pub taken_elsewhere : same_side side r.0 ≡ false → of_kind kind (taken_from side (drop k js)) ≡ of_kind kind (taken_from side (drop (k + 1) js))
   taken_elsewhere away =
-      ap (of_sort sort)
+      ap (of_kind kind)
       (ap (taken_from side) (drop_at js k r there) ∙ ap (λ b. cond b (r.1 ∷ taken_from side (drop (k + 1) js)) (taken_from side (drop (k + 1) js))) away)
 
 -- what the comparison of two sides says
@@ -95,16 +95,16 @@ sides_differ Right Left differ = refl
 sides_differ Right Right differ = absurd (differ refl)
 
 -- where all receipts were passed, nothing is left that was taken
-pub passed_all : {M : Type 0} (sort : Sort) (side : Side) (js : List (Side × Packet M)) (k : ℕ) → length js ≤ k → of_sort sort (taken_from side (drop k js)) ≡ []
-passed_all {M = M} sort side js k all = ap (λ (l : List (Side × Packet M)). of_sort sort (taken_from side l)) (drop_all k js all)
+pub passed_all : {M : Type 0} (kind : PacketKind) (side : Side) (js : List (Side × Packet M)) (k : ℕ) → length js ≤ k → of_kind kind (taken_from side (drop k js)) ≡ []
+passed_all {M = M} kind side js k all = ap (λ (l : List (Side × Packet M)). of_kind kind (taken_from side l)) (drop_all k js all)
 
 -- then the packets are the same exactly where nothing is left that was sent
-pub none_left : {M : Type 0} (P : Type 0) (sort : Sort) (sent : List (Packet M)) (from : ℕ) (next : Option (ℕ × Packet M)) (ended : Bool) → P ↔ ([] ≡ of_sort sort (drop from sent)) → IsNextOf sort sent from next
+pub none_left : {M : Type 0} (P : Type 0) (kind : PacketKind) (sent : List (Packet M)) (from : ℕ) (next : Option (ℕ × Packet M)) (ended : Bool) → P ↔ ([] ≡ of_kind kind (drop from sent)) → IsNextOf kind sent from next
     → is_some next ≡ not ended → IsTrue ended ↔ P
-none_left P sort sent from None true exactly ends is = (λ ended. exactly.1 (sym ends), λ same. refl)
-none_left P sort sent from None false exactly ends is = cc
-none_left P sort sent from (Some next) true exactly more is = cc
-none_left P sort sent from (Some next) false exactly more is = (λ never. cc, λ same. let both = exactly.0 same ∙ more in cc)
+none_left P kind sent from None true exactly ends is = (λ ended. exactly.1 (sym ends), λ same. refl)
+none_left P kind sent from None false exactly ends is = cc
+none_left P kind sent from (Some next) true exactly more is = cc
+none_left P kind sent from (Some next) false exactly more is = (λ never. cc, λ same. let both = exactly.0 same ∙ more in cc)
 
 module _ {M : Type 0} (P : Type 0) (taken sent : List (Packet M)) (exactly : P ↔ (taken ≡ sent)) where
   -- a packet is left that was taken, and none that was sent
@@ -119,7 +119,7 @@ module _ {M : Type 0} (P : Type 0) (taken sent : List (Packet M)) (exactly : P �
   pub same_next : (p q : Packet M) (ps qs : List (Packet M)) → taken ≡ p ∷ ps → sent ≡ q ∷ qs → q ≡ p → P ↔ (ps ≡ qs)
   same_next p q ps qs some next is = (λ holds. let same = exactly.0 holds in cc, λ same. exactly.1 (let whole : taken ≡ sent = cc in whole))
 
-  -- one that was taken is of the other sort
+  -- one that was taken is of the other kind
   pub passed_over : (ps : List (Packet M)) → taken ≡ ps → P ↔ (ps ≡ sent)
   passed_over ps is = (λ holds. sym is ∙ exactly.0 holds, λ same. exactly.1 (is ∙ same))
 
@@ -136,18 +136,18 @@ module _ {E M : Type 0} (charter : Charter E) (nodes : List (Seated E M)) (posit
 
 module _ {E S M : Type 0} (t : E → Table S M) (charter : Charter E) (nodes : List (Seated E M)) where
   module _ (node : Seated E M) (side : Side) (sender : Seated E M) (only : IsAlone charter nodes (neighbour (length charter.roster) node.position side) sender) where
-    -- a node that has taken both sorts from its neighbour
-    pub fed_both : of_sort Message (taken_of node side) ≡ of_sort Message (sent_of t sender (other side)) → of_sort Announcement (taken_of node side) ≡ of_sort Announcement (sent_of t sender (other side)) → IsFed t charter nodes node side
+    -- a node that has taken both kinds from its neighbour
+    pub fed_both : of_kind Message (taken_of node side) ≡ of_kind Message (sent_of t sender (other side)) → of_kind Announcement (taken_of node side) ≡ of_kind Announcement (sent_of t sender (other side)) → IsFed t charter nodes node side
     fed_both messages announcements = record {
       sender = sender;
       alone = only;
       taken = elim [ Message ↦ messages | Announcement ↦ announcements ];
     }
 
-    pub fed_each : IsFed t charter nodes node side → (sort : Sort) → of_sort sort (taken_of node side) ≡ of_sort sort (sent_of t sender (other side))
-    fed_each fed sort =
-        fed.taken sort
-        ∙ ap (λ (x : Seated E M). of_sort sort (sent_of t x (other side))) (alone_same charter nodes (neighbour (length charter.roster) node.position side) fed.sender sender fed.alone only)
+    pub fed_each : IsFed t charter nodes node side → (kind : PacketKind) → of_kind kind (taken_of node side) ≡ of_kind kind (sent_of t sender (other side))
+    fed_each fed kind =
+        fed.taken kind
+        ∙ ap (λ (x : Seated E M). of_kind kind (sent_of t x (other side))) (alone_same charter nodes (neighbour (length charter.roster) node.position side) fed.sender sender fed.alone only)
 
   module _ (position : ℕ) (node : Seated E M) (only : IsAlone charter nodes position node) where
     pub settled_both : IsFed t charter nodes node Left → IsFed t charter nodes node Right → IsSettledAt t charter nodes position
@@ -190,14 +190,14 @@ module _ {E S M : Type 0} (t : E → Table S M) (fits : E → Fitting M) (winner
     -- all that was sent on a link was taken
     rest_matched : IsMatched (t charter.algorithm) charter.roster (λ i. (node_at i).journal)
     rest_matched = record {
-      each = λ i side sort below.
+      each = λ i side kind below.
           let next : ℕ = neighbour (length charter.roster) i side in
           let here = rest i below in
           let there = rest next (neighbour-below (length charter.roster) i side below) in
           let fed = here.fed side in
           let only = subst (λ (p : ℕ). IsAlone charter nodes (neighbour (length charter.roster) p side) fed.sender) here.alone.position_is fed.alone in
-          fed.taken sort
-          ∙ ap (λ (x : Seated E M). of_sort sort (sent_of t x (other side))) (alone_same charter nodes next fed.sender (node_at next) only there.alone ∙ node_alone charter nodes next (node_at next) there.alone);
+          fed.taken kind
+          ∙ ap (λ (x : Seated E M). of_kind kind (sent_of t x (other side))) (alone_same charter nodes next fed.sender (node_at next) only there.alone ∙ node_alone charter nodes next (node_at next) there.alone);
     }
 
     -- what each position took fits

@@ -18,14 +18,14 @@ use Rattle.ring_node.specs.private.Journals.{algos_of}
 use Rattle.ring_node.specs.Nodes.{member_of, known_of}
 use Rattle.ring_node.specs.Ports.{all_leaders}
 use Rattle.ring_node.proofs.Receipts.{algos_of-append, algos_of-packets_after}
-use Rattle.ring_world.specs.declared.sort.Sort.TheVariants.{Announcement}
-use Rattle.ring_world.specs.Sorts.{of_sort}
+use Rattle.ring_world.specs.declared.packet_kind.PacketKind.TheVariants.{Announcement}
+use Rattle.ring_world.specs.PacketKinds.{of_kind}
 use Rattle.ring_world.specs.Worlds.{IsSoundWorld, Running, announced_in, announcements_in, announcements_of, delivered_of, on_link, most_deliveries, node_at, receipts_in, sent_into, size_of, taken_at}
-use Rattle.ring_world.proofs.Announcements.{announced_left, announced_right, of_sort-append, taken_from-algo_part}
+use Rattle.ring_world.proofs.Announcements.{announced_left, announced_right, of_kind-append, taken_from-algo_part}
 use Rattle.ring_world.proofs.Links.{receipts_in-take}
 
 -- the announcements in a journal came from either side
-announced_sides : {M : Type 0} (js : List (Side × Packet M)) → announced_in js ≡ length (of_sort Announcement (taken_from Left js)) + length (of_sort Announcement (taken_from Right js))
+announced_sides : {M : Type 0} (js : List (Side × Packet M)) → announced_in js ≡ length (of_kind Announcement (taken_from Left js)) + length (of_kind Announcement (taken_from Right js))
 announced_sides [] = refl
 announced_sides ((Left, Algo m) ∷ js) = announced_sides js
 announced_sides ((Left, Leader v) ∷ js) = omega (arith, announced_sides js)
@@ -67,19 +67,19 @@ module _ {E S M : Type 0} (t : E → Table S M) (fits : E → Fitting M) (winner
   }
 
   -- no more announcements are taken from a link than were sent there
-  taken_announcements : (i : ℕ) (side : Side) → i < size_of world → length (of_sort Announcement (taken_at t world i side)) ≤ length (of_sort Announcement (sent_into t world i side))
+  taken_announcements : (i : ℕ) (side : Side) → i < size_of world → length (of_kind Announcement (taken_at t world i side)) ≤ length (of_kind Announcement (sent_into t world i side))
   taken_announcements i side below =
-      let whole : of_sort Announcement (taken_at t world i side) ++ of_sort Announcement (on_link t world i side) ≡ of_sort Announcement (sent_into t world i side) =
-      sym (of_sort-append Announcement (taken_at t world i side) (on_link t world i side)) ∙ ap (of_sort Announcement) (sound.links.taken_first i side below) in
-      omega (arith, ap length whole, length-append (of_sort Announcement (taken_at t world i side)) (of_sort Announcement (on_link t world i side)))
+      let whole : of_kind Announcement (taken_at t world i side) ++ of_kind Announcement (on_link t world i side) ≡ of_kind Announcement (sent_into t world i side) =
+      sym (of_kind-append Announcement (taken_at t world i side) (on_link t world i side)) ∙ ap (of_kind Announcement) (sound.links.taken_first i side below) in
+      omega (arith, ap length whole, length-append (of_kind Announcement (taken_at t world i side)) (of_kind Announcement (on_link t world i side)))
 
   -- a position has taken at most one announcement
   one_announcement : (i : ℕ) → i < size_of world → announced_in (get_or world.journals i []) ≤ 1
   one_announcement i below =
       let left = node_at world (neighbour (size_of world) i Left) in
       let right = node_at world (neighbour (size_of world) i Right) in
-      let from_left : length (of_sort Announcement (sent_into t world i Left)) ≡ length (all_leaders {M = M} (known_of t left)) = ap length (announced_right (t world.charter.algorithm) (member_of left) left.journal) in
-      let from_right : length (of_sort Announcement (sent_into t world i Right)) ≡ 0 = ap length (announced_left (t world.charter.algorithm) (member_of right) right.journal) in
+      let from_left : length (of_kind Announcement (sent_into t world i Left)) ≡ length (all_leaders {M = M} (known_of t left)) = ap length (announced_right (t world.charter.algorithm) (member_of left) left.journal) in
+      let from_right : length (of_kind Announcement (sent_into t world i Right)) ≡ 0 = ap length (announced_left (t world.charter.algorithm) (member_of right) right.journal) in
       omega (arith, announced_sides (get_or world.journals i []), taken_announcements i Left below, taken_announcements i Right below, from_left, from_right, one_leader M (known_of t left))
 
   announced_below : (n : ℕ) → n ≤ size_of world → announcements_in (take n world.journals) ≤ n

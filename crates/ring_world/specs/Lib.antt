@@ -1,5 +1,5 @@
 pub mod Quiet
 pub mod Settlements
-pub mod Sorts
+pub mod PacketKinds
 pub mod Worlds
 pub mod private

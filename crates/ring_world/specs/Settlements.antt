@@ -1,6 +1,6 @@
 -- Settled terms: nodes of a charter, one at each position of its ring, that have taken all packets
 -- that were sent to them. An announcement may be taken before messages that were sent earlier on
--- its link. So each sort of packet is compared by itself.
+-- its link. So each kind of packet is compared by itself.
 use Rattle.std.specs.Prelude.{◌≡◌, ◌<◌, ℕ, List, length, Some, slice_get}
 use Rattle.ring_id.specs.declared.side.Side.{Side}
 use Rattle.ring_id.specs.Sides.{other}
@@ -8,8 +8,8 @@ use Rattle.ring_roster.specs.Ring.{neighbour}
 use Rattle.ring_election.specs.Tables.{Table}
 use Rattle.ring_node.specs.declared.charter.Charter.{Charter}
 use Rattle.ring_node.specs.Nodes.{Seated, known_of, report_of, sent_of, taken_of}
-use Rattle.ring_world.specs.declared.sort.Sort.{Sort}
-use Rattle.ring_world.specs.Sorts.{of_sort}
+use Rattle.ring_world.specs.declared.packet_kind.PacketKind.{PacketKind}
+use Rattle.ring_world.specs.PacketKinds.{of_kind}
 
 -- this node of the charter is at a position, and no other of these nodes of the charter is
 pub record IsAlone {E M : Type 0} (charter : Charter E) (nodes : List (Seated E M)) (position : ℕ) (node : Seated E M) : Type 0 where
@@ -24,7 +24,7 @@ module _ {E S M : Type 0} (t : E → Table S M) where
   pub record IsFed (charter : Charter E) (nodes : List (Seated E M)) (node : Seated E M) (side : Side) : Type 0 where
     pub sender : Seated E M
     pub alone : IsAlone charter nodes (neighbour (length charter.roster) node.position side) sender
-    pub taken : (sort : Sort) → of_sort sort (taken_of node side) ≡ of_sort sort (sent_of t sender (other side))
+    pub taken : (kind : PacketKind) → of_kind kind (taken_of node side) ≡ of_kind kind (sent_of t sender (other side))
 
   -- a position has one node, which has taken all that was sent to it
   pub record IsSettledAt (charter : Charter E) (nodes : List (Seated E M)) (position : ℕ) : Type 0 where

@@ -3,12 +3,12 @@ ghost use Rattle.ring_id.specs.Sides.{other};
 ghost use Rattle.ring_roster.specs.Ring.{IsRing};
 ghost use Rattle.ring_node.specs.Nodes.{sent_of, taken_of};
 ghost use Rattle.ring_world.specs.private.Places.{IsPlaced};
-ghost use Rattle.ring_world.specs.Sorts.{of_sort};
+ghost use Rattle.ring_world.specs.PacketKinds.{of_kind};
 ghost use Rattle.ring_world.specs.Settlements.{EachKnows, EachReports, IsFed, IsSettled, IsSettledAt};
 ghost use Rattle.ring_world.specs.private.Settlements.{IsNextOf};
 
+use crate::packet_kind::PacketKind;
 use crate::places::Places;
-use crate::sort::Sort;
 use ring_election::RingElection;
 use ring_id::Side;
 use ring_node::{Charter, Node, Packet};
@@ -93,22 +93,27 @@ fn is_fed<E: RingElection>(
     let Some(sender) = places.find(nodes, position) else {
         return false;
     };
-    has_taken(node, sender, side, Sort::Message)
-        && has_taken(node, sender, side, Sort::Announcement)
+    has_taken(node, sender, side, PacketKind::Message)
+        && has_taken(node, sender, side, PacketKind::Announcement)
 }
 
-/// Whether the packets of this sort that a node took from a side are those that its neighbour there
+/// Whether the packets of this kind that a node took from a side are those that its neighbour there
 /// has sent to it, in order.
-fn has_taken<E: RingElection>(node: &Node<E>, sender: &Node<E>, side: Side, sort: Sort) -> bool
-    ensures { IsTrue result ↔ (of_sort sort (taken_of node.now side)
-        ≡ of_sort sort (sent_of E.table sender.now (other side))) }
+fn has_taken<E: RingElection>(
+    node: &Node<E>,
+    sender: &Node<E>,
+    side: Side,
+    kind: PacketKind,
+) -> bool
+    ensures { IsTrue result ↔ (of_kind kind (taken_of node.now side)
+        ≡ of_kind kind (sent_of E.table sender.now (other side))) }
 {
     let mut next = 0;
     let receipts = node.receipts();
     for receipt in receipts {
         let packet = receipt.1;
-        if receipt.0 == side && sort.has(packet) {
-            let Some((at, sent)) = next_of(sender, side.other(), sort, next) else {
+        if receipt.0 == side && kind.has(packet) {
+            let Some((at, sent)) = next_of(sender, side.other(), kind, next) else {
                 return false;
             };
             if !same_packet::<E>(sent, packet) {
@@ -117,7 +122,7 @@ fn has_taken<E: RingElection>(node: &Node<E>, sender: &Node<E>, side: Side, sort
             next = at + 1;
         }
     }
-    next_of(sender, side.other(), sort, next).is_none()
+    next_of(sender, side.other(), kind, next).is_none()
 }
 
 /// Whether two packets are the same.
@@ -127,21 +132,21 @@ fn same_packet<E: RingElection>(one: Packet<E::Msg>, another: Packet<E::Msg>) ->
     one == another
 }
 
-/// The first packet of this sort that a node sent to a side from this place on, with its place.
+/// The first packet of this kind that a node sent to a side from this place on, with its place.
 fn next_of<E: RingElection>(
     node: &Node<E>,
     side: Side,
-    sort: Sort,
+    kind: PacketKind,
     from: usize,
 ) -> Option<(usize, Packet<E::Msg>)>
-    ensures next { IsNextOf sort (sent_of E.table node.now side) from result }
+    ensures next { IsNextOf kind (sent_of E.table node.now side) from result }
     ensures few { IfSome result (λ next. next.0 + 1 < 2 ^ 64) }
 {
     for place in from..node.sent(side) {
         let Some(packet) = node.packet(side, place) else {
             return None;
         };
-        if sort.has(packet) {
+        if kind.has(packet) {
             return Some((place, packet));
         }
     }

@@ -4,8 +4,8 @@ use Rattle.ring_id.specs.Sides.{other}
 use Rattle.ring_node.specs.declared.charter.Charter.{Charter}
 use Rattle.ring_node.specs.Envelopes.{Sent}
 use Rattle.ring_node.specs.Nodes.{IsForNode, IsNext, Seated, taken_of}
-use Rattle.ring_workers.specs.declared.seats.Fate.{Fate}
-use Rattle.ring_workers.specs.declared.seats.Fate.TheVariants.{Done, Older, Strange}
+use Rattle.ring_workers.specs.declared.term_nodes.Fate.{Fate}
+use Rattle.ring_workers.specs.declared.term_nodes.Fate.TheVariants.{Done, Older, Strange}
 use Rattle.ring_workers.specs.Goings.{HasReceived}
 use Rattle.ring_workers.specs.Holdings.{AllSeated, Holding, charters_of, nodes_of}
 use Rattle.ring_workers.specs.Lists.{IsOneOf}

@@ -23,7 +23,7 @@ returns-in_default g c =
     let there : slice_get js k ≡ Some r = slice_get_read js _ k r refl c.loop-receipt-test.true c.receipt-item.is in
     let is = compared_same r.0 c.args.side c.if-eq.ensures in
     let here = ap (same_side c.args.side) is ∙ side_itself c.args.side in
-    let some = taken_next c.args.sort c.args.side js k r there here (sym c.if-has.ensures) in
+    let some = taken_next c.args.kind c.args.side js k r there here (sym c.if-has.ensures) in
     one_left _ _ _ c.loop-receipt.invariant r.1 _ some (rw (c.in_default.is, c.other.ensures) at c.next_of.ensures.next)
 
 pub returns-then-not-same_packet : goal.returns-then-not-same_packet
@@ -34,7 +34,7 @@ returns-then-not-same_packet g c =
     let there : slice_get js k ≡ Some r = slice_get_read js _ k r refl c.loop-receipt-test.true c.receipt-item.is in
     let is = compared_same r.0 c.args.side c.if-eq.ensures in
     let here = ap (same_side c.args.side) is ∙ side_itself c.args.side in
-    let some = taken_next c.args.sort c.args.side js k r there here (sym c.if-has.ensures) in
+    let some = taken_next c.args.kind c.args.side js k r there here (sym c.if-has.ensures) in
     let differ = λ (same : c.in-Some.sent ≡ r.1). let equal = c.if-not-same_packet.ensures.1 same in let never : ⊥ = cc in never in
     another_next _ _ _ c.loop-receipt.invariant r.1 c.in-Some.sent _ _ some (rw c.other.ensures at c.in-Some.ensures.next) differ
 
@@ -48,7 +48,7 @@ loop-receipt-preserved g c =
       | then-eq+then-has+in-Some+else-not-same_packet w ↦
           let is = compared_same r.0 c.args.side w.if-eq.ensures in
           let here = ap (same_side c.args.side) is ∙ side_itself c.args.side in
-          let some = taken_next c.args.sort c.args.side js k r there here (sym w.if-has.ensures) in
+          let some = taken_next c.args.kind c.args.side js k r there here (sym w.if-has.ensures) in
           let same = w.if-not-same_packet.ensures.0 refl in
           rw w.next-is (same_next _ _ _ c.loop-receipt.invariant r.1 w.in-Some.sent _ _ some (rw w.other.ensures at w.in-Some.ensures.next) same)
       | else-eq w ↦
@@ -57,15 +57,15 @@ loop-receipt-preserved g c =
             | else-eq-via-then-eq+else-has w' ↦
                 let is = compared_same r.0 c.args.side w'.if-eq.ensures in
                 let here = ap (same_side c.args.side) is ∙ side_itself c.args.side in
-                passed_over _ _ _ c.loop-receipt.invariant _ (taken_other c.args.sort c.args.side js k r there here (sym w'.if-has.ensures))
+                passed_over _ _ _ c.loop-receipt.invariant _ (taken_other c.args.kind c.args.side js k r there here (sym w'.if-has.ensures))
             | else-eq-via-else-eq w' ↦
                 let differ = compared_other r.0 c.args.side w'.if-eq.ensures in
-                passed_over _ _ _ c.loop-receipt.invariant _ (taken_elsewhere c.args.sort c.args.side js k r there (sides_differ c.args.side r.0 differ))
+                passed_over _ _ _ c.loop-receipt.invariant _ (taken_elsewhere c.args.kind c.args.side js k r there (sides_differ c.args.side r.0 differ))
           ])
     ]
 
 pub returns : goal.returns
 returns g c =
     let js = c.receipts-receipts.result.now in
-    let all = passed_all c.args.sort c.args.side js c.loop-receipt.receipt-index c.loop-receipt-test.false in
-    none_left _ c.args.sort _ c.loop-receipt.next c.next_of-2.result c.is_none.result (rw all at c.loop-receipt.invariant) (rw c.other-2.ensures at c.next_of-2.ensures.next) c.is_none.ensures
+    let all = passed_all c.args.kind c.args.side js c.loop-receipt.receipt-index c.loop-receipt-test.false in
+    none_left _ c.args.kind _ c.loop-receipt.next c.next_of-2.result c.is_none.result (rw all at c.loop-receipt.invariant) (rw c.other-2.ensures at c.next_of-2.ensures.next) c.is_none.ensures

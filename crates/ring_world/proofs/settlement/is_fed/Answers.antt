@@ -1,6 +1,6 @@
--- The sender is the one node of its position, and each sort is compared by itself.
+-- The sender is the one node of its position, and each kind is compared by itself.
 use Rattle.std.proofs.Common.{refl}
-use Rattle.ring_world.specs.declared.sort.Sort.TheVariants.{Message, Announcement}
+use Rattle.ring_world.specs.declared.packet_kind.PacketKind.TheVariants.{Message, Announcement}
 use Rattle.ring_world.proofs.Placing.{listed_alone, unlisted_none}
 use Rattle.ring_world.proofs.Settlements.{fed_both, fed_each}
 use Rattle.ring_world.proofs.settlement.is_fed.Goals as goal

@@ -1,9 +1,0 @@
-use Rattle.ring_workers.proofs.bench.Bench.begin.Goals as goal
-
-pub returns : goal.returns
-returns g c = record {
-  steps = c.begin.ensures.steps;
-  grows = c.dropped_after-self.ensures.grows;
-  begun = (c.in_ok-fate.fate, c.in_ok-fate.ensures.fate, c.dropped_after-self.ensures.counted);
-  uncounted = tt;
-}
