@@ -48,7 +48,7 @@ impl<A: Access<Any> + Drop, R: Wait + Clock> Caller<'_, A, R> {
             ≡ A.mine seat.old ++ entry.Call self.now.session command.now result ∷ [] }
     {
         for _ in self.rt.forever() {
-            let queued = self.access.queue(self.rt);
+            let queued = self.access.enter_queue(self.rt);
             let placed = self.ask(seat, command);
             drop(queued);
             if let Some(reply) = placed {

@@ -42,10 +42,10 @@ impl<A: Access<Any> + Drop, R: Wait> Candidate<'_, A, R> {
         ensures finds { Finds self.now.caller.session self.now.group self.now.number
             (A.mine seat.old) result (A.mine seat.new) }
     {
-        let queued = self.caller.access.queue(self.caller.rt);
-        self.caller.access.keep(seat);
+        let queued = self.caller.access.enter_queue(self.caller.rt);
+        self.caller.access.hold(seat);
         let found = self.find_now(seat);
-        self.caller.access.rest(seat);
+        self.caller.access.release(seat);
         drop(queued);
         found
     }

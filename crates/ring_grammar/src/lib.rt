@@ -8,10 +8,12 @@ mod parse;
 mod parts;
 mod print;
 mod sink;
+mod spell;
 mod spelling;
 mod values;
 
 pub use parse::{parse_command, parse_event};
 pub use print::{print_groups, print_members, print_reply, print_terms};
 pub use sink::{Sink, SinkFailed};
+pub use spell::Spell;
 pub use spelling::one_spelling;

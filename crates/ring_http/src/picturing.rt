@@ -77,10 +77,10 @@ impl<A: Access<Any> + Drop, R: Wait, B: Beside> Asker<'_, A, R, B> {
             (IsPlaceAfter self.now.base A.most place.old place.new) }
         ensures rises { place.old ≤ place.new }
     {
-        let queued = self.access.queue(self.rt);
-        self.access.keep(seat);
+        let queued = self.access.enter_queue(self.rt);
+        self.access.hold(seat);
         let picture = self.picture(seat, place, name);
-        self.access.rest(seat);
+        self.access.release(seat);
         drop(queued);
         picture
     }
@@ -102,10 +102,10 @@ impl<A: Access<Any> + Drop, R: Wait, B: Beside> Asker<'_, A, R, B> {
             (IsPlaceAfter self.now.base A.most place.old place.new) }
         ensures rises { place.old ≤ place.new }
     {
-        let queued = self.access.queue(self.rt);
-        self.access.keep(seat);
+        let queued = self.access.enter_queue(self.rt);
+        self.access.hold(seat);
         let pictures = self.all(seat, place);
-        self.access.rest(seat);
+        self.access.release(seat);
         drop(queued);
         pictures
     }

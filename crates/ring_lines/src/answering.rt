@@ -7,25 +7,22 @@ use crate::buffer::LineBuffer;
 use crate::ends::{Intake, Outlet};
 use crate::page::Page;
 use crate::passing::{close, pass_on, turn_to_next};
-use crate::spell::Spell;
+use ring_grammar::Spell;
 use std::alloc::Global;
-use std::sync::MutexGuard;
 
 /// How many bytes of answers a page has room for before it is written.
 const PAGE: usize = 65536;
 
-/// The head of the queue of the threads that answer in turns, as long as this is held; or none.
-pub type Queued<'a> = Option<MutexGuard<'a, ()>>;
-
 /// Answers lines, one after another.
 ///
-/// A line is read before it is answered: its question depends on its bytes alone. An answer changes
+/// A line is read before it is answered: its question depends on its bytes alone. Answers change
 /// the state, and never the answerer itself. A line is given without its LF.
 ///
-/// The ghost members say what a line asks, and what an answer needs of the state and keeps. They
-/// say which answer a line may get in which state, and what the state is after it.
+/// The ghost members say what a line asks, and what answers need of the state and keep. They say
+/// which answer a line may get in which state, and what the state is after it.
 pub trait Answerer {
-    ghost use Rattle.std.specs.Prelude.{List, ℕ, ◌<◌, length};
+    ghost use Rattle.std.specs.Prelude.{List, ℕ, ◌≡◌, ◌<◌, ◌≤◌, [], length, vec_capacity};
+    ghost use Rattle.ring_lines.specs.Batches.{AnswersAll};
 
     /// The state that answers change.
     type State;
@@ -42,9 +39,6 @@ pub trait Answerer {
 
     ghost answers: { Self → List ℕ → Self.State → Self.Answer → Self.State → Type 0 };
 
-    // how settling may change a state
-    ghost settles: { Self → Self.State → Self.State → Type 0 };
-
     // in this state the answers so far may be sent
     ghost may_tell: { Self → Self.State → Type 0 };
 
@@ -56,41 +50,26 @@ pub trait Answerer {
     fn read_long(&self) -> Self::Asked
         ensures { (line : List ℕ) → 128 < length line → asks line result };
 
-    /// Returns the answer to a question.
+    /// Puts the answers to the questions of a batch, in order, into an empty list with room for
+    /// them. Afterwards they may be sent.
     ///
-    /// If threads answer in turns, it may wait for the head of their queue. It leaves the head in
-    /// `queued`, where later answers find it.
-    fn answer<'a>(
-        &'a self,
+    /// It may wait, and does not return if the answers may never be sent.
+    fn answer_all(
+        &self,
         state: &mut Self::State,
         alloc: Global,
-        queued: &mut Queued<'a>,
-        asked: Self::Asked,
-    ) -> Self::Answer
-        requires { holds self.now state.old }
+        asked: &[Self::Asked],
+        given: &mut Vec<Self::Answer>,
+    )
+        requires holds { holds self.now state.old }
+        requires some { 0 < length asked.now }
+        requires none { given.old.items ≡ [] }
+        requires room { length asked.now ≤ vec_capacity given.old }
         ensures kept { holds self.now state.new }
-        ensures answer { (line : List ℕ) → asks line asked →
-            answers self.now line state.old result state.new };
-
-    /// Releases all that the answers so far hold for later ones, and changes nothing else. It is
-    /// called after the last answer of a batch, before the head of a queue is released.
-    fn rest(&self, state: &mut Self::State)
-        requires { holds self.now state.old }
-        ensures { state.new ≡ state.old };
-
-    /// Makes sure that the answers so far may be sent. It is called after `rest`, when the head of
-    /// a queue was released, and before any of these answers is spelled. It may wait. It does not
-    /// return if they may never be sent.
-    fn settle(&self, state: &mut Self::State)
-        requires { holds self.now state.old }
-        ensures kept { holds self.now state.new }
-        ensures settled { settles self.now state.old state.new }
-        ensures told { may_tell self.now state.new };
-
-    // an answer is still allowed when the state after it is settled
-    ghost settles_behind: { (a : Self) (line : List ℕ) (old : Self.State) (answer : Self.Answer)
-        (mid new : Self.State) →
-        answers a line old answer mid → settles a mid new → answers a line old answer new };
+        ensures told { may_tell self.now state.new }
+        ensures answered { AnswersAll asks (answers self.now) asked.now state.old
+            given.new.items state.new }
+        ensures room { vec_capacity given.new ≡ vec_capacity given.old };
 }
 
 /// Answers each line of the reader by the spelling of one answer to the writer, in order.
@@ -104,8 +83,7 @@ pub trait Answerer {
 /// line gets its answer in the state that the lines before it left.
 ///
 /// Lines are answered in batches of at most 64 buffered lines. All lines of a batch are read before
-/// the first is answered. All are answered before the first answer is spelled. In between the
-/// answerer rests, the head of a queue in `queued` is released, and the answerer settles. This
+/// the first is answered. All are answered, by one call, before the first answer is spelled. This
 /// order is tested, not proved.
 ///
 /// However the call ends, the state is as it was, or all answers that were given may be sent in the

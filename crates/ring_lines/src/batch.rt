@@ -1,8 +1,9 @@
 //! Lines that are answered together: all of them are read before the first is answered.
-ghost use Rattle.std.specs.Prelude.{◌≡◌, ◌<◌, ◌≤◌, ◌∷◌, [], length, vec_capacity};
-ghost use Rattle.ring_lines.specs.private.Batches.{AnswersAll, JoinsHeld};
+ghost use Rattle.std.specs.Prelude.{◌≡◌, ◌<◌, ◌≤◌, ◌∷◌, [], length};
+ghost use Rattle.ring_lines.specs.Batches.{AnswersAll};
+ghost use Rattle.ring_lines.specs.private.Batches.{JoinsHeld};
 
-use crate::answering::{Answerer, Queued};
+use crate::answering::Answerer;
 use crate::buffer::LineBuffer;
 use std::alloc::{AllocError, Global};
 use std::marker::Model;
@@ -61,8 +62,7 @@ impl<A: Answerer> Batch<A> {
         }
     }
 
-    /// Answers all questions, in order. Afterwards the answerer rests, the head of the queue is
-    /// released, and the answerer settles.
+    /// Answers all questions, in order. Afterwards the answers may be sent.
     pub(crate) fn answer(&mut self, answerer: &A, state: &mut A::State, alloc: Global)
         requires holds { A.holds answerer.now state.old }
         requires some { 0 < length self.old.asked }
@@ -72,7 +72,7 @@ impl<A: Answerer> Batch<A> {
             self.old.asked state.old self.new.given state.new }
     {
         self.given.clear();
-        answer_all(answerer, state, alloc, &self.asked, &mut self.given);
+        answerer.answer_all(state, alloc, &self.asked, &mut self.given);
     }
 
     /// Returns the answers of the last batch.
@@ -81,33 +81,4 @@ impl<A: Answerer> Batch<A> {
     {
         &self.given
     }
-}
-
-// Answers the questions of lines, one after another.
-fn answer_all<A: Answerer>(
-    answerer: &A,
-    state: &mut A::State,
-    alloc: Global,
-    asked: &[A::Asked],
-    given: &mut Vec<A::Answer>,
-)
-    requires holds { A.holds answerer.now state.old }
-    requires none { given.old.items ≡ [] }
-    requires room { length asked.now ≤ vec_capacity given.old }
-    requires some { 0 < length asked.now }
-    ensures kept { A.holds answerer.now state.new }
-    ensures told { A.may_tell answerer.now state.new }
-    ensures answered { AnswersAll A.asks (A.answers answerer.now)
-        asked.now state.old given.new.items state.new }
-    ensures room { vec_capacity given.new ≡ vec_capacity given.old }
-{
-    let mut queued = None;
-    for question in asked {
-        let answer = answerer.answer(state, alloc, &mut queued, *question);
-        given.push_reserved(answer);
-    }
-    answerer.rest(state);
-    // settling may wait, and other threads may answer meanwhile
-    drop(queued);
-    answerer.settle(state);
 }

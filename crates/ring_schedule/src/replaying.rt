@@ -1,10 +1,12 @@
-ghost use Rattle.ring_schedule.specs.Replay.{Replays};
+ghost use Rattle.std.specs.Prelude.{List, ℕ};
+ghost use Rattle.ring_schedule.specs.Replay.{RepliesTo, Replays};
+ghost use Rattle.ring_schedule.specs.private.Asking.{AsksEvent};
 
 use ring_any::Any;
 use ring_any_traffic::AnyTraffic;
 use ring_events::{Event, Reply};
 use ring_id::Refusal;
-use ring_lines::{Answerer, Intake, LineFault, Outlet, Queued, answer_lines, parse_event};
+use ring_lines::{Answerer, Intake, LineFault, Outlet, answer_lines, parse_event};
 use ring_mux::Mux;
 use std::alloc::Global;
 
@@ -14,7 +16,6 @@ struct Replayer;
 
 impl Answerer for Replayer {
     ghost use Rattle.std.specs.Prelude.{◌≡◌};
-    ghost use Rattle.ring_lines.specs.laws.Settling.{stays_settled};
     ghost use Rattle.ring_schedule.specs.Replay.{RepliesTo};
     ghost use Rattle.ring_schedule.specs.private.Asking.{AsksEvent};
 
@@ -30,8 +31,6 @@ impl Answerer for Replayer {
 
     ghost answers = { λ _. RepliesTo };
 
-    ghost settles = { λ _ old new. new ≡ old };
-
     ghost may_tell = { λ _ _. Unit {0} };
 
     fn read(&self, line: &[u8]) -> Option<Event<Any>> {
@@ -42,24 +41,28 @@ impl Answerer for Replayer {
         None
     }
 
-    fn answer<'a>(
-        &'a self,
+    fn answer_all(
+        &self,
         state: &mut Mux<Any, AnyTraffic>,
         alloc: Global,
-        _queued: &mut Queued<'a>,
-        asked: Option<Event<Any>>,
-    ) -> Reply {
-        match asked {
-            Some(event) => state.step(alloc, event),
-            None => Reply::Refused(Refusal::BadLine),
+        asked: &[Option<Event<Any>>],
+        given: &mut Vec<Reply>,
+    ) {
+        for question in asked {
+            given.push_reserved(reply_to(state, alloc, *question));
         }
     }
+}
 
-    fn rest(&self, _state: &mut Mux<Any, AnyTraffic>) {}
-
-    fn settle(&self, _state: &mut Mux<Any, AnyTraffic>) {}
-
-    ghost settles_behind = { λ _. stays_settled (λ mux. mux) RepliesTo };
+// Returns the reply to the question of a line.
+#[inline(always)]
+fn reply_to(mux: &mut Mux<Any, AnyTraffic>, alloc: Global, asked: Option<Event<Any>>) -> Reply
+    ensures { (line : List ℕ) → AsksEvent line asked → RepliesTo line mux.old result mux.new }
+{
+    match asked {
+        Some(event) => mux.step(alloc, event),
+        None => Reply::Refused(Refusal::BadLine),
+    }
 }
 
 /// Answers a schedule: each line of the reader by one line to the writer, from no groups at all.

@@ -1,4 +1,4 @@
--- A guest of a table may go to a thread: its seat, and the front that all sessions share.
+-- A handler of a table may go to a thread: its seat, and the front that all sessions share.
 use denote.RattleType.{RattleType}
 use denote.Param.Send.{AllSend, AllSync, IsSend, IsSync, recorded_send, recorded_sync, sendable, struct_send, struct_sync, view_send, view_sync}
 use denote.Struct.Declared.{Declared, shape}
@@ -13,8 +13,8 @@ use Rattle.ring_any.specs.contracts.any.AnyRingElection.TheImpl as election
 use Rattle.ring_any.specs.contracts.any.AnyPartialEq.TheImpl as same
 use Rattle.ring_any.specs.contracts.any.AnyMsgPartialEq.TheImpl as same_message
 use Rattle.ring_table.specs.declared.tabled.Tabled as tabled
-use Rattle.ring_server.specs.contracts.hosting.Host as host
-use Rattle.ring_server.specs.contracts.sessions.Guest as guest
+use Rattle.ring_server.specs.contracts.hosting.CampaignHandler as campaign_handler
+use Rattle.ring_server.specs.contracts.sessions.SessionHandler as handler
 use Rattle.ring_server.specs.contracts.viewing.Seated as seated
 use Rattle.ring_server.specs.contracts.viewing.Viewer as viewer
 use Rattle.ring_server.specs.contracts.watched.Watched as watched
@@ -59,21 +59,21 @@ module _ (T : RattleType) (shows : tabled.Ghosts T.Denot any.the_row.Denot messa
   pub front_sync : IsSend T → IsSync (front.the_row the_access)
   front_sync send = front_crosses.the_sync the_access (access_send send) (access_sync send)
 
-  -- a guest may go to a thread
-  pub guest_send : (a : NamedLft) → IsSend T → IsSend (guest.the_row a T shows)
-  guest_send a send =
+  -- a handler may go to a thread
+  pub handler_send : (a : NamedLft) → IsSend T → IsSend (handler.the_row a T shows)
+  handler_send a send =
       let fronts = front_sync send in
       let seats = seat_send send in
-      let D : Declared = guest.the_type a T shows in
+      let D : Declared = handler.the_type a T shows in
       let fields : AllSend (shape D).fields = (search (crosses, sendable, fronts) depth 20, (seats, search (crosses, sendable, watch_crosses.the_sync) depth 20)) in
       recorded_send (Struct (shape D)) D.D D.to D.to_one (struct_send (shape D) fields)
 
-  -- and so may a host
-  pub host_send : (a : NamedLft) → IsSend T → IsSend (host.the_row a T shows)
-  host_send a send =
+  -- and so may a handler of campaigns
+  pub campaign_send : (a : NamedLft) → IsSend T → IsSend (campaign_handler.the_row a T shows)
+  campaign_send a send =
       let fronts = front_sync send in
       let seats = seat_send send in
-      let D : Declared = host.the_type a T shows in
+      let D : Declared = campaign_handler.the_type a T shows in
       let fields : AllSend (shape D).fields = (search (crosses, sendable) depth 20, (search (crosses, sendable, fronts) depth 20, (seats, search (crosses, sendable, watch_crosses.the_sync) depth 20))) in
       recorded_send (Struct (shape D)) D.D D.to D.to_one (struct_send (shape D) fields)
 

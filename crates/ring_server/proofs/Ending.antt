@@ -2,8 +2,8 @@
 use Rattle.std.proofs.Common.{List, ℕ, Result, Ok, Err, inl, inr, refl, subst, sym}
 use Rattle.std.specs.Prelude.{IfErr, MatchResult}
 use Rattle.ring_lines.specs.Ends.{Writing, Wrote}
-use Rattle.ring_door.specs.declared.fault.ProgramFault.{ProgramFault}
-use Rattle.ring_door.specs.declared.fault.ProgramFault.TheVariants as program
+use Rattle.ring_accept.specs.declared.fault.ProgramFault.{ProgramFault}
+use Rattle.ring_accept.specs.declared.fault.ProgramFault.TheVariants as program
 use Rattle.ring_server.specs.Resuming.{ResumedAt}
 use Rattle.ring_server.specs.Running.{FirstOrNone}
 use Rattle.ring_server.specs.private.Resuming.{IsOfEnd}

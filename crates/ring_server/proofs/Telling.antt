@@ -3,8 +3,8 @@ use Rattle.std.proofs.Common.{◌≡◌, ◌++◌, List, ℕ, Result, Ok, Err, i
 use Rattle.std.specs.Prelude.{MatchResult}
 use Rattle.ring_lines.specs.Ends.{Writing, Wrote, WroteFront}
 use Rattle.ring_lines.specs.laws.Sequences.{wrote_front, wrote_next, wrote_then}
-use Rattle.ring_door.specs.declared.fault.ProgramFault.{ProgramFault}
-use Rattle.ring_door.specs.declared.fault.ProgramFault.TheVariants as program
+use Rattle.ring_accept.specs.declared.fault.ProgramFault.{ProgramFault}
+use Rattle.ring_accept.specs.declared.fault.ProgramFault.TheVariants as program
 use Rattle.ring_server.specs.Listening.{BothAt}
 use Rattle.ring_server.specs.private.Listening.{FirstAt}
 

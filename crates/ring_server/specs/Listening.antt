@@ -1,8 +1,8 @@
 -- The lines on standard output at a fault of a service for a given number of clients.
 use Rattle.std.specs.Prelude.{◌≡◌, ◌⊎◌, ℕ, List, ◌++◌}
 use Rattle.ring_lines.specs.Ends.{Writing, Wrote, WroteFront}
-use Rattle.ring_door.specs.declared.fault.ProgramFault.{ProgramFault}
-use Rattle.ring_door.specs.declared.fault.ProgramFault.TheVariants.{Accept, NoMemory, Thread, Write}
+use Rattle.ring_accept.specs.declared.fault.ProgramFault.{ProgramFault}
+use Rattle.ring_accept.specs.declared.fault.ProgramFault.TheVariants.{Accept, NoMemory, Thread, Write}
 
 -- The text that was written at a fault of the whole. At a failed accept it is the first line. If a
 -- thread could not be started, it is the first line or nothing. At a failed write it is a prefix of

@@ -1,8 +1,8 @@
 -- The line on standard output at a fault of a service without an end.
 use Rattle.std.specs.Prelude.{◌≡◌, ◌⊎◌, ℕ, List}
 use Rattle.ring_lines.specs.Ends.{Writing, Wrote, WroteFront}
-use Rattle.ring_door.specs.declared.fault.ProgramFault.{ProgramFault}
-use Rattle.ring_door.specs.declared.fault.ProgramFault.TheVariants.{NoMemory, Thread, Write}
+use Rattle.ring_accept.specs.declared.fault.ProgramFault.{ProgramFault}
+use Rattle.ring_accept.specs.declared.fault.ProgramFault.TheVariants.{NoMemory, Thread, Write}
 
 -- The text that was written if the service could not begin. If a thread could not be started, it is
 -- the first line or nothing. At a failed write it is a prefix of the line. If an allocation failed,

@@ -1,16 +1,16 @@
-//! The guests, hosts and viewers that serve the clients of a running service.
+//! The handlers of sessions, of campaigns and of HTTP that serve the clients of a running service.
 ghost use Rattle.std.specs.Prelude.{◌≡◌, ◌≤◌, ◌+◌, ◌^◌, All, IfErr, IfOk, None};
 ghost use Rattle.atomic_table.specs.Seated.{TableId};
-ghost use Rattle.ring_door.specs.declared.fault.ProgramFault.TheVariants.{NoMemory};
+ghost use Rattle.ring_accept.specs.declared.fault.ProgramFault.TheVariants.{NoMemory};
 
 use crate::counting::Heeded;
-use crate::hosting::{Host, hosts};
+use crate::hosting::{CampaignHandler, campaign_handlers};
 use crate::running::{seat_all, seat_both, seat_three, seat_views};
-use crate::sessions::{Front, Guest, Seat, guests};
+use crate::sessions::{Front, Seat, SessionHandler, session_handlers};
 use crate::viewing::{Viewer, viewers};
 use crate::watching::Watch;
+use ring_accept::{Acceptor, Entrance, Limits, ProgramFault};
 use ring_any::Any;
-use ring_door::{Door, Entrance, Limits, ProgramFault};
 use ring_table::Tabled;
 use std::alloc::Global;
 use std::hash::RandomState;
@@ -69,20 +69,25 @@ impl<L: Drop> Others<L> {
     }
 }
 
-/// Guests for sessions, hosts for campaigns and viewers for HTTP. Some of each serve from the
-/// start. The spare ones take the place of others whose seats are spent.
+/// The handlers of one kind of clients.
+#[derive(Drop)]
+struct Handlers<G> {
+    // those that serve from the start
+    active: Vec<G>,
+    // those that take the place of others whose seats are spent
+    spare: Vec<G>,
+}
+
+/// The handlers of sessions and campaigns, and viewers for HTTP.
 #[derive(Drop)]
 pub(crate) struct Crowd<'a, T: Tabled<Any> + Drop> {
     watch: &'a Watch,
-    guests: Vec<Guest<'a, T>>,
-    spare_guests: Vec<Guest<'a, T>>,
-    hosts: Vec<Host<'a, T>>,
-    spare_hosts: Vec<Host<'a, T>>,
-    viewers: Vec<Viewer<'a, T>>,
-    spare_viewers: Vec<Viewer<'a, T>>,
+    sessions: Handlers<SessionHandler<'a, T>>,
+    campaigns: Handlers<CampaignHandler<'a, T>>,
+    viewers: Handlers<Viewer<'a, T>>,
 }
 
-/// Returns guests, hosts and viewers for these seats. Each kind of clients that is served gets as
+/// Returns the handlers and viewers of these seats. Each kind of clients that is served gets as
 /// many seats. Places are counted from `base`, and a campaign's client may be silent for `idle`
 /// seconds. The watch counts their clients. Fails only if an allocation fails.
 pub(crate) fn gather<'a, T: Tabled<Any> + Drop, L: Drop>(
@@ -106,24 +111,27 @@ pub(crate) fn gather<'a, T: Tabled<Any> + Drop, L: Drop>(
         Ok(parts) => parts,
         Err(fault) => return Err(fault),
     };
-    let mut guests = guests(alloc, front, ours, base, watch)?;
-    let spare_guests = guests.split_off(guests.len() / SEATS_EACH as usize)?;
-    let mut hosts = hosts(alloc, front, theirs, idle, watch)?;
-    let spare_hosts = hosts.split_off(hosts.len() / SEATS_EACH as usize)?;
-    let mut viewers = match &others.web {
+    let sessions = divide(session_handlers(alloc, front, ours, base, watch)?)?;
+    let campaigns = divide(campaign_handlers(alloc, front, theirs, idle, watch)?)?;
+    let viewers = match &others.web {
         Some(web) => viewers(alloc, front, views, base, web.keys, watch)?,
         None => Vec::new(alloc),
     };
-    let spare_viewers = viewers.split_off(viewers.len() / SEATS_EACH as usize)?;
     Ok(Crowd {
         watch,
-        guests,
-        spare_guests,
-        hosts,
-        spare_hosts,
-        viewers,
-        spare_viewers,
+        sessions,
+        campaigns,
+        viewers: divide(viewers)?,
     })
+}
+
+// Returns the handlers, of which one in `SEATS_EACH` is active.
+fn divide<G: Drop>(handlers: Vec<G>) -> Result<Handlers<G>, ProgramFault>
+    ensures { IfErr result (λ fault. fault ≡ NoMemory) }
+{
+    let mut active = handlers;
+    let spare = active.split_off(active.len() / SEATS_EACH as usize)?;
+    Ok(Handlers { active, spare })
 }
 
 // Returns two parts of the seats. The second is one of `parts` equal parts if it is asked for, else
@@ -171,30 +179,27 @@ impl<'a, T: Tabled<Any> + Send + Sync + Drop> Crowd<'a, T> {
     {
         let Crowd {
             watch,
-            guests,
-            spare_guests,
-            hosts,
-            spare_hosts,
+            sessions,
+            campaigns: members,
             viewers,
-            spare_viewers,
         } = self;
         let Others { campaigns, web } = others;
-        let first = entrance(watch, listener, spare_guests);
+        let first = entrance(watch, listener, sessions.spare);
         match (campaigns, web) {
-            (None, None) => seat_all(rt, &first.door, &first.spare, guests, limits),
+            (None, None) => seat_all(rt, &first.acceptor, &first.spare, sessions.active, limits),
             (Some(other), None) => {
-                let second = entrance(watch, other, spare_hosts);
-                seat_both(rt, &first, &second, guests, hosts, limits)
+                let second = entrance(watch, other, members.spare);
+                seat_both(rt, &first, &second, sessions.active, members.active, limits)
             }
             (None, Some(web)) => {
-                let second = entrance(watch, web.listener, spare_viewers);
-                seat_views(rt, &first, &second, guests, viewers, limits)
+                let second = entrance(watch, web.listener, viewers.spare);
+                seat_views(rt, &first, &second, sessions.active, viewers.active, limits)
             }
             (Some(other), Some(web)) => {
-                let second = entrance(watch, other, spare_hosts);
-                let third = entrance(watch, web.listener, spare_viewers);
-                let others = (&second, hosts);
-                seat_three(rt, (&first, guests), others, (&third, viewers), limits)
+                let second = entrance(watch, other, members.spare);
+                let third = entrance(watch, web.listener, viewers.spare);
+                let (second, third) = ((&second, members.active), (&third, viewers.active));
+                seat_three(rt, (&first, sessions.active), second, third, limits)
             }
         }
     }
@@ -208,7 +213,7 @@ where
     G: Drop,
 {
     Entrance {
-        door: Mutex::new(Door::new(watch.heeded(listener))),
+        acceptor: Mutex::new(Acceptor::new(watch.heeded(listener))),
         spare: Mutex::new(spare),
     }
 }

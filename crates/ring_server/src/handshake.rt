@@ -1,6 +1,6 @@
 //! The words between the thread that serves and the thread that waits for it, before clients come.
 
-use ring_door::ProgramFault;
+use ring_accept::ProgramFault;
 use ring_service::StartFault;
 use std::sync::{Condvar, Mutex, Wait};
 

@@ -1,15 +1,15 @@
 //! Campaigns over sockets.
 ghost use Rattle.std.specs.Prelude.{◌≡◌, ◌⊎◌, ◌+◌, ◌≤◌, ◌↔◌, All, IfErr, IfOk, IsTrue, vec_capacity, vec_len};
 ghost use Rattle.ring_campaign.specs.Entries.{GainsCampaign};
-ghost use Rattle.ring_door.specs.declared.fault.ProgramFault.TheVariants.{NoMemory};
+ghost use Rattle.ring_accept.specs.declared.fault.ProgramFault.TheVariants.{NoMemory};
 ghost use Rattle.ring_turn.specs.Seats.{Settled};
 
 use crate::patient::Patient;
 use crate::sessions::{Front, Seat};
 use crate::watching::{Port, Watch};
+use ring_accept::{ClientHandler, ProgramFault};
 use ring_any::Any;
 use ring_campaign::campaign;
-use ring_door::{ProgramFault, Serving};
 use ring_lines::{Intake, Outlet, ToWrite};
 use ring_table::{Table, Tabled};
 use std::alloc::Global;
@@ -19,7 +19,7 @@ use std::time::Clock;
 
 /// A seat of the table, for one campaign after another.
 #[derive(Drop)]
-pub struct Host<'a, T: Tabled<Any> + Drop = Table<Any>> {
+pub struct CampaignHandler<'a, T: Tabled<Any> + Drop = Table<Any>> {
     alloc: Global,
     front: &'a Front<T>,
     seat: Seat<T>,
@@ -29,25 +29,25 @@ pub struct Host<'a, T: Tabled<Any> + Drop = Table<Any>> {
     ghost of_front: { seat.lock ≡ front.now.id },
 }
 
-/// Returns a host for each seat. Its clients may be silent for `idle` seconds, or without end if
+/// Returns a handler for each seat. Its clients may be silent for `idle` seconds, or without end if
 /// `idle` is 0. The watch counts its clients. Fails only if an allocation fails.
-pub fn hosts<'a, T: Tabled<Any> + Drop>(
+pub fn campaign_handlers<'a, T: Tabled<Any> + Drop>(
     alloc: Global,
     front: &'a Front<T>,
     seats: Vec<Seat<T>>,
     idle: u32,
     watch: &'a Watch,
-) -> Result<Vec<Host<'a, T>>, ProgramFault>
+) -> Result<Vec<CampaignHandler<'a, T>>, ProgramFault>
     requires { All (λ seat. seat.lock ≡ front.now.id) seats.items }
-    ensures hosts { IfOk result (λ hosts. vec_len hosts ≡ vec_len seats) }
+    ensures handlers { IfOk result (λ handlers. vec_len handlers ≡ vec_len seats) }
     ensures fault { IfErr result (λ fault. fault ≡ NoMemory) }
 {
     let mut rest = seats;
-    let Ok(mut hosts) = Vec::with_capacity(alloc, rest.len()) else {
+    let Ok(mut campaign_handlers) = Vec::with_capacity(alloc, rest.len()) else {
         return Err(ProgramFault::NoMemory);
     };
     while let Some(seat) = rest.pop() {
-        hosts.push_reserved(Host {
+        campaign_handlers.push_reserved(CampaignHandler {
             alloc,
             front,
             seat,
@@ -55,10 +55,10 @@ pub fn hosts<'a, T: Tabled<Any> + Drop>(
             watch,
         });
     }
-    Ok(hosts)
+    Ok(campaign_handlers)
 }
 
-impl<T: Tabled<Any> + Drop> Serving for Host<'_, T> {
+impl<T: Tabled<Any> + Drop> ClientHandler for CampaignHandler<'_, T> {
     fn is_spent(&self) -> bool
         ensures { IsTrue result ↔ (self.now.seat.left ≡ 0) }
     {

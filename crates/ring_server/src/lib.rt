@@ -28,17 +28,15 @@ mod watching;
 
 pub use counting::Heeded;
 pub use crowd::{Others, Web};
-pub use hosting::{Host, hosts};
+pub use hosting::{CampaignHandler, campaign_handlers};
 pub use listening::accept_loop;
 pub use metering::{Meter, Metered};
 pub use resumed::Resumed;
 pub use resuming::resume_loop;
-pub use ring_door::{
-    Door, JournalFault, Limits, ProgramFault, Serving, SocketFault, accept_all, attend_all, tell,
-};
 pub use running::run_loop;
 pub use sessions::{
-    Access, Closing, Front, Guest, Seat, Service, close, front, guests, open, open_gated,
+    Access, Closing, Front, Seat, Service, SessionHandler, close, front, open, open_gated,
+    session_handlers,
 };
 pub use viewing::{Viewer, viewers};
 pub use watched::Watched;

@@ -1,15 +1,15 @@
 //! Serves a given number of clients, each in a thread of its own.
 ghost use Rattle.std.specs.Prelude.{◌≡◌, ◌++◌, All, MatchResult, vec_len};
 ghost use Rattle.ring_lines.specs.Ends.{Wrote};
-ghost use Rattle.ring_door.specs.Telling.{closed_line};
+ghost use Rattle.ring_accept.specs.Telling.{closed_line};
 ghost use Rattle.ring_server.specs.Listening.{BothAt};
 ghost use Rattle.ring_server.specs.private.Listening.{FirstAt};
 
 use crate::sessions;
-use crate::sessions::{Front, Seat, limited_guests};
+use crate::sessions::{Front, Seat, limited_handlers};
 use crate::watching::Watch;
+use ring_accept::{ProgramFault, accept_all, say_closed, tell};
 use ring_config::Config;
-use ring_door::{ProgramFault, accept_all, say_closed, tell};
 use ring_lines::Outlet;
 use ring_table::Table;
 use std::net::{OpenListener, TcpStream};
@@ -88,7 +88,7 @@ where
         (λ accepted. (accepted ≡ vec_len seats) × Wrote O.write_gives out.old listening.now out.new)
         (λ fault. FirstAt O.write_gives out.old listening.now fault out.new) }
 {
-    let guests = limited_guests(rt.alloc(), front, seats, 0, READS, watch)?;
+    let session_handlers = limited_handlers(rt.alloc(), front, seats, 0, READS, watch)?;
     tell(out, listening)?;
-    accept_all(rt, listener, guests)
+    accept_all(rt, listener, session_handlers)
 }

@@ -5,16 +5,16 @@ ghost use Rattle.ring_server.specs.Running.{FirstOrNone};
 
 use crate::counting::Heeded;
 use crate::crowd::{Others, gather};
-use crate::hosting::Host;
+use crate::hosting::CampaignHandler;
 use crate::sessions;
-use crate::sessions::{Front, Guest, Seat, Service};
+use crate::sessions::{Front, Seat, Service, SessionHandler};
 use crate::viewing::Viewer;
 use crate::watching::Watch;
+use ring_accept::{
+    Acceptor, Entrance, Limits, ProgramFault, attend_all, attend_both, attend_three, tell,
+};
 use ring_any::Any;
 use ring_config::Config;
-use ring_door::{
-    Door, Entrance, Limits, ProgramFault, attend_all, attend_both, attend_three, tell,
-};
 use ring_lines::Outlet;
 use ring_table::{Recorded, Tabled, Unkept};
 use std::alloc::{AllocError, Global};
@@ -132,12 +132,12 @@ pub(crate) fn watch_of<R: Files<File = File>, L: Drop>(
     Ok(watch.with_memory(rt))
 }
 
-/// Lets guests of a table serve at a door.
+/// Lets the session handlers of a table serve at one acceptor.
 pub(crate) fn seat_all<'a, R, L, T>(
     rt: &R,
-    door: &Mutex<Door<Heeded<'a, L>>>,
-    spare: &Mutex<Vec<Guest<'a, T>>>,
-    guests: Vec<Guest<'a, T>>,
+    acceptor: &Mutex<Acceptor<Heeded<'a, L>>>,
+    spare: &Mutex<Vec<SessionHandler<'a, T>>>,
+    session_handlers: Vec<SessionHandler<'a, T>>,
     limits: Limits,
 ) -> Result<(), ProgramFault>
 where
@@ -146,16 +146,16 @@ where
     T: Tabled<Any> + Send + Sync + Drop,
     ensures { IfErr result (λ fault. fault ≡ ProgramFault.Thread) }
 {
-    attend_all(rt, door, spare, guests, limits)
+    attend_all(rt, acceptor, spare, session_handlers, limits)
 }
 
-/// Lets guests of a table and its hosts serve, each at an entrance of their own.
+/// Lets the session handlers and campaign handlers of a table serve, each at their own entrance.
 pub(crate) fn seat_both<'a, R, L, T>(
     rt: &R,
-    first: &Entrance<Heeded<'a, L>, Guest<'a, T>>,
-    second: &Entrance<Heeded<'a, L>, Host<'a, T>>,
-    guests: Vec<Guest<'a, T>>,
-    others: Vec<Host<'a, T>>,
+    first: &Entrance<Heeded<'a, L>, SessionHandler<'a, T>>,
+    second: &Entrance<Heeded<'a, L>, CampaignHandler<'a, T>>,
+    session_handlers: Vec<SessionHandler<'a, T>>,
+    others: Vec<CampaignHandler<'a, T>>,
     limits: Limits,
 ) -> Result<(), ProgramFault>
 where
@@ -164,15 +164,15 @@ where
     T: Tabled<Any> + Send + Sync + Drop,
     ensures { IfErr result (λ fault. fault ≡ ProgramFault.Thread) }
 {
-    attend_both(rt, first, guests, second, others, limits)
+    attend_both(rt, first, session_handlers, second, others, limits)
 }
 
-/// Lets guests of a table and its viewers serve, each at an entrance of their own.
+/// Lets the session handlers and viewers of a table serve, each at their own entrance.
 pub(crate) fn seat_views<'a, R, L, T>(
     rt: &R,
-    first: &Entrance<Heeded<'a, L>, Guest<'a, T>>,
+    first: &Entrance<Heeded<'a, L>, SessionHandler<'a, T>>,
     second: &Entrance<Heeded<'a, L>, Viewer<'a, T>>,
-    guests: Vec<Guest<'a, T>>,
+    session_handlers: Vec<SessionHandler<'a, T>>,
     viewers: Vec<Viewer<'a, T>>,
     limits: Limits,
 ) -> Result<(), ProgramFault>
@@ -182,14 +182,21 @@ where
     T: Tabled<Any> + Send + Sync + Drop,
     ensures { IfErr result (λ fault. fault ≡ ProgramFault.Thread) }
 {
-    attend_both(rt, first, guests, second, viewers, limits)
+    attend_both(rt, first, session_handlers, second, viewers, limits)
 }
 
-/// Lets guests of a table, its hosts and its viewers serve, each at an entrance of their own.
+/// Lets the session handlers, campaign handlers and viewers of a table serve, each at their own
+/// entrance.
 pub(crate) fn seat_three<'a, R, L, T>(
     rt: &R,
-    first: (&Entrance<Heeded<'a, L>, Guest<'a, T>>, Vec<Guest<'a, T>>),
-    second: (&Entrance<Heeded<'a, L>, Host<'a, T>>, Vec<Host<'a, T>>),
+    first: (
+        &Entrance<Heeded<'a, L>, SessionHandler<'a, T>>,
+        Vec<SessionHandler<'a, T>>,
+    ),
+    second: (
+        &Entrance<Heeded<'a, L>, CampaignHandler<'a, T>>,
+        Vec<CampaignHandler<'a, T>>,
+    ),
     third: (&Entrance<Heeded<'a, L>, Viewer<'a, T>>, Vec<Viewer<'a, T>>),
     limits: Limits,
 ) -> Result<(), ProgramFault>

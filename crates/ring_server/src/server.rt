@@ -9,10 +9,10 @@ use crate::handshake::Handshake;
 use crate::sessions;
 use crate::sessions::{Front, Seat, Service};
 use crate::watching::Watch;
+use ring_accept::{Limits, ProgramFault};
 use ring_any::Any;
 use ring_campaign::clear;
 use ring_config::Config;
-use ring_door::{Limits, ProgramFault};
 use ring_node::Charter;
 use ring_recovery::{Alarm, Ending};
 use ring_table::Tabled;
@@ -138,7 +138,7 @@ where
     served
 }
 
-// Says that the service is open, and lets guests of its table serve once they may.
+// Says that the service is open, and lets the session handlers of its table serve once they may.
 fn serve<R, L, T>(
     rt: &R,
     front: &Front<T>,

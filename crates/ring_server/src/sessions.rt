@@ -7,14 +7,14 @@ ghost use Rattle.ring_turn.specs.Seats.{Settled};
 ghost use Rattle.ring_server.specs.Faults.{IsOfStart};
 ghost use Rattle.ring_server.specs.private.Faults.{start_told_as};
 ghost use Rattle.ring_server.specs.Sessions.{GainsCalls, HasServed, base_if};
-ghost use Rattle.ring_door.specs.declared.fault.ProgramFault.TheVariants.{NoMemory};
+ghost use Rattle.ring_accept.specs.declared.fault.ProgramFault.TheVariants.{NoMemory};
 
 use crate::base::Base;
 use crate::watched::Watched;
 use crate::watching::{Port, Watch};
+use ring_accept::{ClientHandler, ProgramFault};
 use ring_any::Any;
 use ring_config::Config;
-use ring_door::{ProgramFault, Serving};
 use ring_lines::{FromRead, Intake, LineFault, Outlet, ToWrite};
 use ring_service::StartFault;
 use ring_table::{Table, Tabled};
@@ -27,7 +27,7 @@ use std::sync::{Arc, Wait};
 use std::thread::Threads;
 use std::time::Clock;
 
-// the most read calls of a guest in one session, unless it has another limit
+// the most read calls of a handler in one session, unless it has another limit
 const READS: u32 = u32::MAX;
 
 /// The lock by which the sessions and workers of a program share its table. Its answers are noted.
@@ -47,7 +47,7 @@ pub type Closing<T = Table<Any>> = ring_service::Closing<Access<T>>;
 
 /// A seat of the table, for one session after another. A session makes at most `reads` read calls.
 #[derive(Drop)]
-pub struct Guest<'a, T: Tabled<Any> + Drop = Table<Any>> {
+pub struct SessionHandler<'a, T: Tabled<Any> + Drop = Table<Any>> {
     front: &'a Front<T>,
     seat: Seat<T>,
     base: Base<T>,
@@ -140,12 +140,12 @@ where
     let Ok((lock, mut seats)) = TurnLock::new(alloc, table, all, turns) else {
         return Err(ProgramFault::NoMemory);
     };
-    let guests = seats.split_off(config.workers)?;
+    let session_seats = seats.split_off(config.workers)?;
     let Ok(access) = Arc::new(alloc, Watched::new(lock, watch)) else {
         return Err(ProgramFault::NoMemory);
     };
     match Service::gated(rt, alloc, access, seats, config.workers, config.inbox, gate) {
-        Ok(service) => Ok((service, guests)),
+        Ok(service) => Ok((service, session_seats)),
         Err(fault) => Err(told_of_start(fault)),
     }
 }
@@ -178,48 +178,52 @@ pub fn close<R: Threads + Wait, T: Tabled<Any> + Send + Sync + Drop + 'static>(
     service.close(rt)
 }
 
-/// Returns a guest for each seat. Its sessions make at most 4294967295 read calls each, and count
+/// Returns a handler for each seat. Its sessions make at most 4294967295 read calls each, and count
 /// places from `base`. The watch counts its clients. Fails only if an allocation fails.
-pub fn guests<'a, T: Tabled<Any> + Drop>(
+pub fn session_handlers<'a, T: Tabled<Any> + Drop>(
     alloc: Global,
     front: &'a Front<T>,
     seats: Vec<Seat<T>>,
     base: usize,
     watch: &'a Watch,
-) -> Result<Vec<Guest<'a, T>>, ProgramFault>
+) -> Result<Vec<SessionHandler<'a, T>>, ProgramFault>
     requires base { base + T.most ≤ 2 ^ 64 }
     requires seats { All (λ seat. seat.lock ≡ front.now.id) seats.items }
-    ensures guests { IfOk result (λ guests. vec_len guests ≡ vec_len seats) }
-    ensures reads { IfOk result (λ guests. All (λ guest. guest.reads ≡ 4294967295) guests.items) }
-    ensures base { IfOk result (λ guests. All (λ guest. guest.base.number ≡ base) guests.items) }
+    ensures handlers { IfOk result (λ handlers. vec_len handlers ≡ vec_len seats) }
+    ensures reads { IfOk result (λ handlers.
+        All (λ handler. handler.reads ≡ 4294967295) handlers.items) }
+    ensures base { IfOk result (λ handlers.
+        All (λ handler. handler.base.number ≡ base) handlers.items) }
     ensures fault { IfErr result (λ fault. fault ≡ NoMemory) }
 {
-    limited_guests(alloc, front, seats, base, READS, watch)
+    limited_handlers(alloc, front, seats, base, READS, watch)
 }
 
-/// Returns a guest for each seat. Its sessions make at most `reads` read calls each, and count
+/// Returns a handler for each seat. Its sessions make at most `reads` read calls each, and count
 /// places from `base`. The watch counts its clients. Fails only if an allocation fails.
-pub fn limited_guests<'a, T: Tabled<Any> + Drop>(
+pub fn limited_handlers<'a, T: Tabled<Any> + Drop>(
     alloc: Global,
     front: &'a Front<T>,
     seats: Vec<Seat<T>>,
     base: usize,
     reads: u32,
     watch: &'a Watch,
-) -> Result<Vec<Guest<'a, T>>, ProgramFault>
+) -> Result<Vec<SessionHandler<'a, T>>, ProgramFault>
     requires base { base + T.most ≤ 2 ^ 64 }
     requires seats { All (λ seat. seat.lock ≡ front.now.id) seats.items }
-    ensures guests { IfOk result (λ guests. vec_len guests ≡ vec_len seats) }
-    ensures reads { IfOk result (λ guests. All (λ guest. guest.reads ≡ reads) guests.items) }
-    ensures base { IfOk result (λ guests. All (λ guest. guest.base.number ≡ base) guests.items) }
+    ensures handlers { IfOk result (λ handlers. vec_len handlers ≡ vec_len seats) }
+    ensures reads { IfOk result (λ handlers.
+        All (λ handler. handler.reads ≡ reads) handlers.items) }
+    ensures base { IfOk result (λ handlers.
+        All (λ handler. handler.base.number ≡ base) handlers.items) }
     ensures fault { IfErr result (λ fault. fault ≡ NoMemory) }
 {
     let mut rest = seats;
-    let Ok(mut guests) = Vec::with_capacity(alloc, rest.len()) else {
+    let Ok(mut handlers) = Vec::with_capacity(alloc, rest.len()) else {
         return Err(ProgramFault::NoMemory);
     };
     while let Some(seat) = rest.pop() {
-        guests.push_reserved(Guest {
+        handlers.push_reserved(SessionHandler {
             front,
             seat,
             base: Base {
@@ -230,10 +234,10 @@ pub fn limited_guests<'a, T: Tabled<Any> + Drop>(
             watch,
         });
     }
-    Ok(guests)
+    Ok(handlers)
 }
 
-impl<T: Tabled<Any> + Drop> Serving for Guest<'_, T> {
+impl<T: Tabled<Any> + Drop> ClientHandler for SessionHandler<'_, T> {
     fn is_spent(&self) -> bool
         ensures { IsTrue result ↔ (self.now.seat.left ≡ 0) }
     {

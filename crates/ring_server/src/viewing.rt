@@ -2,7 +2,7 @@
 ghost use Rattle.std.specs.Prelude.{◌≡◌, ◌≤◌, ◌+◌, ◌⊎◌, ◌^◌, All, IfErr, IfOk, IfSome, OnErr, OnOk, vec_len};
 ghost use Rattle.http.specs.Request.{head_of};
 ghost use Rattle.http_server.specs.Response.{IsBlank};
-ghost use Rattle.ring_door.specs.declared.fault.ProgramFault.TheVariants.{NoMemory};
+ghost use Rattle.ring_accept.specs.declared.fault.ProgramFault.TheVariants.{NoMemory};
 ghost use Rattle.ring_http.specs.Answering.{IsAnswered};
 ghost use Rattle.ring_http.specs.Asking.{AddsQuestions};
 ghost use Rattle.ring_turn.specs.Seats.{Settled};
@@ -16,8 +16,8 @@ use crate::watching::{Port, Watch};
 use bytes::Bytes;
 use http::Request;
 use http_server::{Config, Connection, Response, Service, serve};
+use ring_accept::{ClientHandler, ProgramFault};
 use ring_any::Any;
-use ring_door::{ProgramFault, Serving};
 use ring_http::Asker;
 use ring_table::{Table, Tabled};
 use std::alloc::{AllocError, Global};
@@ -78,7 +78,7 @@ pub fn viewers<'a, T: Tabled<Any> + Drop>(
     Ok(viewers)
 }
 
-impl<T: Tabled<Any> + Drop> Serving for Viewer<'_, T> {
+impl<T: Tabled<Any> + Drop> ClientHandler for Viewer<'_, T> {
     fn is_spent(&self) -> bool {
         match &self.seated {
             Some(seated) => seated.seat.is_spent(),

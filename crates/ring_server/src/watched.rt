@@ -10,9 +10,8 @@ use crate::watching::Watch;
 use ring_any::Any;
 use ring_events::Command;
 use ring_id::GroupName;
-use ring_lines::Queued;
 use ring_node::{Charter, Filed, Report};
-use ring_table::{Access, Answer, Table, Tabled};
+use ring_table::{Access, Answer, QueueHead, Table, Tabled};
 use ring_turn::{Seat, TurnLock};
 use std::marker::Model;
 use std::sync::{Arc, Wait};
@@ -76,22 +75,22 @@ impl<T: Tabled<Any> + Drop> Access<Any> for Watched<T> {
 
     ghost is_settled = { Settled };
 
-    fn queue<R: Wait>(&self, rt: &R) -> Queued<'_> {
-        Access::queue(&self.lock, rt)
+    fn enter_queue<R: Wait>(&self, rt: &R) -> QueueHead<'_> {
+        Access::enter_queue(&self.lock, rt)
     }
 
-    fn keep(&self, seat: &mut Seat<Any, T>)
+    fn hold(&self, seat: &mut Seat<Any, T>)
         requires { seat.old.lock ≡ self.now.id }
         ensures { seat.new ≡ seat.old }
     {
-        Access::keep(&self.lock, seat);
+        Access::hold(&self.lock, seat);
     }
 
-    fn rest(&self, seat: &mut Seat<Any, T>)
+    fn release(&self, seat: &mut Seat<Any, T>)
         requires { seat.old.lock ≡ self.now.id }
         ensures { seat.new ≡ seat.old }
     {
-        Access::rest(&self.lock, seat);
+        Access::release(&self.lock, seat);
     }
 
     #[inline(always)]

@@ -7,8 +7,8 @@ use Rattle.ring_any.specs.declared.any.AnyMsg.{AnyMsg}
 use Rattle.ring_any.specs.declared.any.AnyState.{AnyState}
 use Rattle.ring_inbox.specs.Values.{ReceiverLog}
 use Rattle.ring_service.specs.Handing.{AllHand, HandsAmong}
-use Rattle.ring_service.specs.declared.crew.Work.{Work}
-use Rattle.ring_service.specs.private.Crews.{IsManned, IsWhole, Joins, Keeps, StartsOne, inboxes_of, number_of}
+use Rattle.ring_service.specs.declared.pool.Work.{Work}
+use Rattle.ring_service.specs.private.Pools.{IsManned, IsWhole, Joins, Keeps, StartsOne, inboxes_of, number_of}
 use Rattle.ring_service.proofs.Lists.{get_before, get_last, get_push, get_there, get_within}
 use Rattle.ring_workers.specs.declared.handed.Handed.{Handed}
 use Rattle.ring_workers.specs.declared.item.Item.{Item}

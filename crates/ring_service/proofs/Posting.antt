@@ -10,8 +10,8 @@ use Rattle.ring_any.specs.declared.any.Any.{Any}
 use Rattle.ring_inbox.specs.Values.{SenderLog}
 use Rattle.ring_node.specs.declared.charter.Charter.{Charter}
 use Rattle.ring_service.specs.private.Telling.{TellsAll}
-use Rattle.ring_service.specs.private.Posts.{MakeUp, StoresBegins, Tries, begins_to, says, term_begins}
-use Rattle.ring_service.specs.declared.posts.Waiting.{Waiting}
+use Rattle.ring_service.specs.private.PendingBegins.{MakeUp, StoresBegins, Tries, begins_to, says, term_begins}
+use Rattle.ring_service.specs.declared.pending.Waiting.{Waiting}
 use Rattle.ring_workers.specs.declared.item.Item.{Item}
 use Rattle.ring_workers.specs.declared.item.Item.TheVariants.{Begin}
 

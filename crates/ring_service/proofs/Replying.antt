@@ -12,7 +12,7 @@ use Rattle.ring_node.specs.declared.charter.Charter.{Charter}
 use Rattle.ring_grammar.specs.Spelling.{Spells}
 use Rattle.ring_table.specs.Accesses.{AnswersAtSeat, BeginsAtSeat, reply_of}
 use Rattle.ring_service.specs.Sessions.{AnswersIn}
-use Rattle.ring_service.specs.declared.posts.Waiting.{Waiting}
+use Rattle.ring_service.specs.declared.pending.Waiting.{Waiting}
 use Rattle.ring_service.specs.private.Telling.{Begins}
 use Rattle.ring_table.specs.declared.access.Answer.{Answer}
 use Rattle.ring_table.specs.declared.access.Answer.TheVariants.{Placed, Unplaced}

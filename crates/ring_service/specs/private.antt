@@ -1,6 +1,6 @@
 pub mod Asking
-pub mod Crews
+pub mod Pools
 pub mod Meshes
 pub mod Placing
-pub mod Posts
+pub mod PendingBegins
 pub mod Telling

@@ -8,9 +8,8 @@ use crate::front::Front;
 use ring_any::Any;
 use ring_events::Command;
 use ring_id::GroupName;
-use ring_lines::Queued;
 use ring_node::{Charter, Report};
-use ring_table::{Access, Answer, Filed};
+use ring_table::{Access, Answer, Filed, QueueHead};
 use std::sync::{Arc, Wait};
 
 /// A seat is a seat of the front's access. A call of `Start` puts a begin to each worker, as a
@@ -26,22 +25,22 @@ impl<A: Access<Any> + Drop> Access<Any> for Front<A> {
 
     ghost is_settled = { A.is_settled };
 
-    fn queue<R: Wait>(&self, rt: &R) -> Queued<'_> {
-        Front::queue(self, rt)
+    fn enter_queue<R: Wait>(&self, rt: &R) -> QueueHead<'_> {
+        self.access.enter_queue(rt)
     }
 
-    fn keep(&self, seat: &mut A::Seat)
+    fn hold(&self, seat: &mut A::Seat)
         requires { A.has_seat self.now seat.old }
         ensures { seat.new ≡ seat.old }
     {
-        Front::keep(self, seat);
+        self.access.hold(seat);
     }
 
-    fn rest(&self, seat: &mut A::Seat)
+    fn release(&self, seat: &mut A::Seat)
         requires { A.has_seat self.now seat.old }
         ensures { seat.new ≡ seat.old }
     {
-        Front::rest(self, seat);
+        self.access.release(seat);
     }
 
     fn call<R: Wait>(
@@ -93,6 +92,6 @@ impl<A: Access<Any> + Drop> Access<Any> for Front<A> {
         ensures entries { A.mine seat.new ≡ A.mine seat.old }
         ensures settled { A.is_settled seat.new }
     {
-        Front::settle(self, rt, seat);
+        self.access.settle(rt, seat);
     }
 }

@@ -7,13 +7,13 @@ ghost use Rattle.ring_service.specs.Places.{ServesPlaced};
 ghost use Rattle.ring_service.specs.Sessions.{Serves};
 ghost use Rattle.ring_service.specs.private.Telling.{Begins};
 
-use crate::placed::PlacedSession;
-use crate::posts::Posts;
+use crate::format::{ReplyAlone, WithPlace};
+use crate::pending::PendingBegins;
 use crate::session::Session;
 use ring_any::Any;
 use ring_events::Command;
 use ring_id::{GroupName, NoMemory, Refusal};
-use ring_lines::{Intake, LineFault, Outlet, Queued, answer_lines};
+use ring_lines::{Intake, LineFault, Outlet, answer_lines};
 use ring_node::Charter;
 use ring_table::{Access, Answer};
 use std::alloc::Global;
@@ -27,7 +27,7 @@ use std::sync::{Arc, Mutex, Wait};
 pub struct Front<A: Drop> {
     alloc: Global,
     pub(crate) access: Arc<A>,
-    posts: Mutex<Posts>,
+    pending: Mutex<PendingBegins>,
     // whether a begin may wait
     waits: AtomicBool,
 }
@@ -40,28 +40,28 @@ impl<A: Drop> Model for Front<A> {
 
 impl<A: Access<Any> + Drop> Front<A> {
     /// Returns the front of this access, with these passes. Does not allocate.
-    pub(crate) fn new(alloc: Global, access: Arc<A>, posts: Posts) -> Front<A>
+    pub(crate) fn new(alloc: Global, access: Arc<A>, pending: PendingBegins) -> Front<A>
         ensures { result ≡ access.value }
     {
         Front {
             alloc,
             access,
-            posts: Mutex::new(posts),
+            pending: Mutex::new(pending),
             waits: AtomicBool::new(false),
         }
     }
 
     /// Returns the access and the passes. Does not allocate.
-    pub(crate) fn into_parts(self) -> (Arc<A>, Posts)
+    pub(crate) fn into_parts(self) -> (Arc<A>, PendingBegins)
         ensures { result.0.value ≡ self }
     {
         let Front {
             alloc: _,
             access,
-            posts,
+            pending,
             waits: _,
         } = self;
-        (access, posts.into_inner())
+        (access, pending.into_inner())
     }
 
     /// Serves one session by this seat: the writer gets one line for each line of the reader.
@@ -101,6 +101,7 @@ impl<A: Access<Any> + Drop> Front<A> {
             front: self,
             rt,
             number: session,
+            format: ReplyAlone,
         };
         answer_lines(self.alloc, &session, seat, reader, writer, reads)
     }
@@ -125,48 +126,13 @@ impl<A: Access<Any> + Drop> Front<A> {
             reader.old writer.old reads result seat.new reader.new writer.new }
         ensures told { (seat.new ≡ seat.old) ⊎ A.is_settled seat.new }
     {
-        let session = PlacedSession {
-            session: Session {
-                front: self,
-                rt,
-                number: session,
-            },
-            base,
+        let session = Session {
+            front: self,
+            rt,
+            number: session,
+            format: WithPlace { base },
         };
         answer_lines(self.alloc, &session, seat, reader, writer, reads)
-    }
-
-    /// Waits for the head of the access's queue, if it has one.
-    pub(crate) fn queue<R: Wait>(&self, rt: &R) -> Queued<'_> {
-        self.access.queue(rt)
-    }
-
-    /// Lets the seat keep the table until `rest`, if the access can do so.
-    pub(crate) fn keep(&self, seat: &mut A::Seat)
-        requires { A.has_seat self.now seat.old }
-        ensures { seat.new ≡ seat.old }
-    {
-        self.access.keep(seat);
-    }
-
-    /// Lets the seat keep the table no longer.
-    pub(crate) fn rest(&self, seat: &mut A::Seat)
-        requires { A.has_seat self.now seat.old }
-        ensures { seat.new ≡ seat.old }
-    {
-        self.access.rest(seat);
-    }
-
-    /// Has all entries kept for good from which the seat's answers were given. It may wait, and
-    /// does not return if they cannot be kept.
-    #[inline(always)]
-    pub(crate) fn settle<R: Wait>(&self, rt: &R, seat: &mut A::Seat)
-        requires { A.has_seat self.now seat.old }
-        ensures seat { A.has_seat self.now seat.new }
-        ensures entries { A.mine seat.new ≡ A.mine seat.old }
-        ensures settled { A.is_settled seat.new }
-    {
-        self.access.settle(rt, seat);
     }
 
     /// Returns the access's answer to a command of a session. The begins that wait for the workers
@@ -194,7 +160,7 @@ impl<A: Access<Any> + Drop> Front<A> {
         }
     }
 
-    // Starts a term, and puts its begins to the workers. The lock on the posts is held until they
+    // Starts a term, and puts its begins to the workers. The lock on the pending is held until they
     // are put: no other session puts begins meanwhile.
     #[tactic(auto, using(crate::proofs::Replying::told_answers))]
     fn begin<R: Wait>(&self, rt: &R, seat: &mut A::Seat, session: u32, group: GroupName) -> Answer
@@ -204,9 +170,9 @@ impl<A: Access<Any> + Drop> Front<A> {
             (command.Start group) (A.mine seat.old) result (A.mine seat.new) }
         ensures place { HasPlaceBelow A.most result }
     {
-        let mut posts = self.posts.lock(rt);
-        let answer = self.begin_by(rt, &mut posts, seat, session, group);
-        self.waits.store(!posts.is_idle(), Ordering::SeqCst);
+        let mut pending = self.pending.lock(rt);
+        let answer = self.begin_by(rt, &mut pending, seat, session, group);
+        self.waits.store(!pending.is_idle(), Ordering::SeqCst);
         answer
     }
 
@@ -215,7 +181,7 @@ impl<A: Access<Any> + Drop> Front<A> {
     fn begin_by<R: Wait>(
         &self,
         rt: &R,
-        posts: &mut Posts,
+        pending: &mut PendingBegins,
         seat: &mut A::Seat,
         session: u32,
         group: GroupName,
@@ -224,17 +190,19 @@ impl<A: Access<Any> + Drop> Front<A> {
         ensures seat { A.has_seat self.now seat.new }
         ensures place { HasPlaceBelow A.most result }
         ensures begins { Begins any_winner any_two_way any_greatest session group
-            (vec_len posts.old.passes) (A.mine seat.old) result (A.mine seat.new)
-            posts.old.waiting.items posts.new.waiting.items posts.old.passes.items
-            posts.new.passes.items }
+            (vec_len pending.old.passes) (A.mine seat.old) result (A.mine seat.new)
+            pending.old.waiting.items pending.new.waiting.items pending.old.passes.items
+            pending.new.passes.items }
     {
-        posts.try_waiting(rt);
-        let Ok(()) = posts.find_room() else {
+        pending.try_waiting(rt);
+        let Ok(()) = pending.find_room() else {
             return Answer::Unplaced(Refusal::NoMemory);
         };
-        let (answer, charters) = self.access.begin(rt, seat, session, group, posts.workers());
-        posts.add(charters);
-        posts.try_waiting(rt);
+        let (answer, charters) = self
+            .access
+            .begin(rt, seat, session, group, pending.workers());
+        pending.add(charters);
+        pending.try_waiting(rt);
         answer
     }
 
@@ -245,19 +213,19 @@ impl<A: Access<Any> + Drop> Front<A> {
         rt: &R,
         charters: &[Arc<Charter<Any>>],
     ) -> Result<(), NoMemory> {
-        let mut posts = self.posts.lock(rt);
-        let added = posts.add_terms(self.alloc, charters);
-        posts.try_waiting(rt);
-        self.waits.store(!posts.is_idle(), Ordering::SeqCst);
+        let mut pending = self.pending.lock(rt);
+        let added = pending.add_terms(self.alloc, charters);
+        pending.try_waiting(rt);
+        self.waits.store(!pending.is_idle(), Ordering::SeqCst);
         added
     }
 
     // Tries the begins that wait, if there may be any.
     fn try_waiting<R: Wait>(&self, rt: &R) {
         if self.waits.load(Ordering::SeqCst) {
-            let mut posts = self.posts.lock(rt);
-            posts.try_waiting(rt);
-            self.waits.store(!posts.is_idle(), Ordering::SeqCst);
+            let mut pending = self.pending.lock(rt);
+            pending.try_waiting(rt);
+            self.waits.store(!pending.is_idle(), Ordering::SeqCst);
         }
     }
 }

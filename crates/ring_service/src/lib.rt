@@ -6,16 +6,16 @@
 #![tactic(auto)]
 
 mod access;
-mod crew;
+mod format;
 mod front;
 mod mesh;
-mod placed;
-mod posts;
+mod pending;
+mod pool;
 mod service;
 mod session;
 
 pub use front::Front;
-pub use posts::Waiting;
+pub use pending::Waiting;
 pub use ring_table::{
     Access, Answer, Entries, Entry, Filed, History, Kept, KeptReply, LockedSeat, LockedTable,
     Table, is_refused, is_starved,

@@ -1,13 +1,13 @@
 ghost use Rattle.std.specs.Prelude.{◌≡◌, ◌≤◌, ◌+◌, All, IfOk, OnOk, length, map, vec_capacity, vec_len};
 ghost use Rattle.ring_inbox.specs.Values.{fresh_sender};
 ghost use Rattle.ring_service.specs.Handing.{AllHand};
-ghost use Rattle.ring_service.specs.private.Crews.{IsManned, IsWhole, Joins};
+ghost use Rattle.ring_service.specs.private.Pools.{IsManned, IsWhole, Joins};
 ghost use Rattle.ring_service.specs.private.Meshes.{IsFresh, SendersOf};
 
-use crate::crew::{Crew, Inboxes, Kit, SeatDesk};
 use crate::front::Front;
 use crate::mesh::{Mesh, open, take_last};
-use crate::posts::{Posts, Waiting};
+use crate::pending::{PendingBegins, Waiting};
+use crate::pool::{Inboxes, SeatDesk, WorkerInput, WorkerPool};
 use ring_any::Any;
 use ring_id::NoMemory;
 use ring_node::Charter;
@@ -45,17 +45,17 @@ pub struct Closing<A: Drop> {
 #[derive(Drop)]
 pub struct Service<A: Access<Any> + Drop> {
     front: Front<A>,
-    crew: Crew,
+    pool: WorkerPool,
 }
 
 impl<A: Access<Any> + Drop> Model for Service<A> {
-    ghost use Rattle.ring_service.specs.private.Crews.{IsWhole};
+    ghost use Rattle.ring_service.specs.private.Pools.{IsWhole};
 
     ghost Value = { A };
 
     ghost view = { λ service. service.front };
 
-    ghost invariant = { λ service. IsWhole service.crew.threads.items };
+    ghost invariant = { λ service. IsWhole service.pool.threads.items };
 }
 
 impl<A: Access<Any> + Send + Sync + Drop + 'static> Service<A>
@@ -107,20 +107,20 @@ where
         ensures { IfOk result (λ service. service ≡ access.value) }
     {
         let Ready {
-            mut crew,
+            mut pool,
             mut mesh,
-            posts,
+            pending,
         } = prepare(alloc, workers, inbox)?;
         let mut seats = seats;
-        let started = start_all(rt, alloc, &access, &gate, &mut mesh, &mut seats, &mut crew);
+        let started = start_all(rt, alloc, &access, &gate, &mut mesh, &mut seats, &mut pool);
         drop(mesh);
         drop(seats);
         drop(gate);
-        let front = Front::new(alloc, access, posts);
+        let front = Front::new(alloc, access, pending);
         match started {
-            Ok(()) => Ok(Service { front, crew }),
+            Ok(()) => Ok(Service { front, pool }),
             Err(fault) => {
-                drop(end(rt, front, crew));
+                drop(end(rt, front, pool));
                 Err(fault)
             }
         }
@@ -156,20 +156,24 @@ where
         ensures access { result.access.value ≡ self }
         ensures handed { AllHand result.handed.items }
     {
-        let Service { front, crew } = self;
-        end(rt, front, crew)
+        let Service { front, pool } = self;
+        end(rt, front, pool)
     }
 }
 
 // Ends the workers of this front, as `close` does.
-fn end<A: Access<Any> + Drop, R: Threads + Wait>(rt: &R, front: Front<A>, crew: Crew) -> Closing<A>
+fn end<A: Access<Any> + Drop, R: Threads + Wait>(
+    rt: &R,
+    front: Front<A>,
+    pool: WorkerPool,
+) -> Closing<A>
     ensures access { result.access.value ≡ front }
-    ensures handed { Joins crew.threads.items result.handed.items }
+    ensures handed { Joins pool.threads.items result.handed.items }
 {
-    let (access, mut posts) = front.into_parts();
-    posts.try_waiting(rt);
-    let waiting = posts.stop(rt);
-    let handed = crew.join(rt);
+    let (access, mut pending) = front.into_parts();
+    pending.try_waiting(rt);
+    let waiting = pending.stop(rt);
+    let handed = pool.join(rt);
     Closing {
         access,
         handed,
@@ -181,9 +185,9 @@ fn end<A: Access<Any> + Drop, R: Threads + Wait>(rt: &R, front: Front<A>, crew: 
 // passes to them.
 #[derive(Drop)]
 struct Ready {
-    crew: Crew,
+    pool: WorkerPool,
     mesh: Mesh,
-    posts: Posts,
+    pending: PendingBegins,
 }
 
 // Returns the parts of a service of `workers` workers, whose inboxes hold `inbox` items.
@@ -191,18 +195,18 @@ fn prepare(alloc: Global, workers: usize, inbox: usize) -> Result<Ready, StartFa
     requires workers { workers ≤ 8 }
     requires inbox { 1 ≤ inbox }
     ensures threads { IfOk result (λ made.
-        (vec_len made.crew.threads ≡ 0) × (workers ≤ vec_capacity made.crew.threads)
-        × (workers ≤ vec_capacity made.crew.handed)) }
+        (vec_len made.pool.threads ≡ 0) × (workers ≤ vec_capacity made.pool.threads)
+        × (workers ≤ vec_capacity made.pool.handed)) }
     ensures inboxes { IfOk result (λ made.
         (vec_len made.mesh.receivers ≡ workers) × (vec_len made.mesh.senders ≡ workers)) }
     ensures senders { IfOk result (λ made.
         SendersOf workers made.mesh.receivers.items made.mesh.senders.items) }
     ensures fresh { IfOk result (λ made. All IsFresh made.mesh.receivers.items) }
-    ensures posts { IfOk result (λ made.
-        made.posts.passes.items ≡ map (λ receiver. fresh_sender receiver.inbox workers)
+    ensures pending { IfOk result (λ made.
+        made.pending.passes.items ≡ map (λ receiver. fresh_sender receiver.inbox workers)
         made.mesh.receivers.items) }
 {
-    let Ok(crew) = Crew::new(alloc, workers) else {
+    let Ok(pool) = WorkerPool::new(alloc, workers) else {
         return Err(StartFault::NoMemory);
     };
     let Ok(mut mesh) = open(alloc, workers, inbox) else {
@@ -211,8 +215,12 @@ fn prepare(alloc: Global, workers: usize, inbox: usize) -> Result<Ready, StartFa
     let Ok(passes) = take_last(alloc, &mut mesh.senders, workers) else {
         return Err(StartFault::NoMemory);
     };
-    let posts = Posts::new(alloc, passes);
-    Ok(Ready { crew, mesh, posts })
+    let pending = PendingBegins::new(alloc, passes);
+    Ok(Ready {
+        pool,
+        mesh,
+        pending,
+    })
 }
 
 // Starts the workers, from the last one down to the first.
@@ -227,7 +235,7 @@ fn start_all<
     gate: &Arc<G>,
     mesh: &mut Mesh,
     seats: &mut Vec<A::Seat>,
-    crew: &mut Crew,
+    pool: &mut WorkerPool,
 ) -> Result<(), StartFault>
 where
     A::Seat: Send + 'static,
@@ -236,11 +244,11 @@ where
     requires senders { SendersOf (vec_len seats.old) mesh.old.receivers.items
         mesh.old.senders.items }
     requires seats { All (A.has_seat access.now.value) seats.old.items }
-    requires none { vec_len crew.old.threads ≡ 0 }
-    requires threads { vec_len seats.old ≤ vec_capacity crew.old.threads }
-    requires handed { vec_len seats.old ≤ vec_capacity crew.old.handed }
-    ensures manned { OnOk result (IsManned mesh.old.receivers.items crew.new.threads.items) }
-    ensures started { OnOk result (vec_len crew.new.threads ≡ vec_len seats.old) }
+    requires none { vec_len pool.old.threads ≡ 0 }
+    requires threads { vec_len seats.old ≤ vec_capacity pool.old.threads }
+    requires handed { vec_len seats.old ≤ vec_capacity pool.old.handed }
+    ensures manned { OnOk result (IsManned mesh.old.receivers.items pool.new.threads.items) }
+    ensures started { OnOk result (vec_len pool.new.threads ≡ vec_len seats.old) }
 {
     let workers = seats.len();
     let inboxes: Inboxes = Snapshot::of(&mesh.receivers);
@@ -255,7 +263,7 @@ where
         let Ok(senders) = take_last(alloc, &mut mesh.senders, number) else {
             return Err(StartFault::NoMemory);
         };
-        let kit = Kit {
+        let input = WorkerInput {
             rt: *rt,
             worker: Worker::new(alloc, number, workers),
             receiver: mesh.receivers.pop().unwrap(),
@@ -263,7 +271,7 @@ where
             gate,
             desk: SeatDesk::new(*rt, access, seat),
         };
-        crew.start(kit, &inboxes)?;
+        pool.start(input, &inboxes)?;
     }
     Ok(())
 }

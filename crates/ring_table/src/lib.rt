@@ -26,7 +26,7 @@ mod table;
 mod tabled;
 mod trace;
 
-pub use access::{Access, Answer};
+pub use access::{Access, Answer, QueueHead};
 pub use entry::{Entry, is_refused};
 pub use history::{Entries, History};
 pub use kept::{Kept, KeptReply};

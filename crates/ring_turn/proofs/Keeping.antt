@@ -11,9 +11,9 @@ use Rattle.atomic_table.specs.Table.{State, Me, Allows, step, keeps}
 use Rattle.atomic_table.proofs.Lists.{set_again}
 use Rattle.ring_table.specs.Tables.{RecordedView, plain}
 use Rattle.ring_turn.specs.Seats.{seat_of, with_hand}
-use Rattle.ring_turn.specs.declared.view.Doing.{Doing}
+use Rattle.ring_turn.specs.declared.view.TokenView.{TokenView}
 use Rattle.ring_turn.specs.declared.view.Stage.TheVariants.{Idle}
-use Rattle.ring_turn.specs.private.Rule.{Desk, Ledger, Fits, Keeps, budgets, waiting, tickets_at}
+use Rattle.ring_turn.specs.private.Rule.{TableSlot, Ledger, Fits, Keeps, budgets, waiting, tickets_at}
 use Rattle.ring_turn.specs.private.Seats.{IsIdle, Parts, Reaches, Settles}
 use Rattle.ring_turn.specs.private.Steps.{Learns, Tells, learned, seen_by}
 use Rattle.ring_turn.proofs.Calling.{open_after_settling, passed, settled_seat}
@@ -24,7 +24,7 @@ use Rattle.ring_turn.proofs.Stages.{away_stays, held_is_ticket, idle_no_ticket}
 
 module _ {E : Type 0} where
   -- a seat may tell of entries that it knows to be kept for good
-  pub tells : (slots place many : ℕ) (me : Me (Desk E) (Doing E)) → me.0.lives ≡ true → many ≤ me.0.sure → Allows Keeps slots place me 2 (λ _. many) (λ _. Tells (step slots 2 many 0 none) me many)
+  pub tells : (slots place many : ℕ) (me : Me (TableSlot E) (TokenView E)) → me.0.lives ≡ true → many ≤ me.0.sure → Allows Keeps slots place me 2 (λ _. many) (λ _. Tells (step slots 2 many 0 none) me many)
   tells slots place many me lives knows s h one at range =
       let surely : me.0.sure ≤ h.ledger.turned.sure = ((h.fits place me.0 at).seat lives).surely in
       let told : Keeps (record { words = slice_set s.words 2 many; homes = s.homes; views = s.views }) = record {
@@ -48,15 +48,15 @@ module _ {E : Type 0} where
       )
 
   -- a seat that learned of more entries keeps the rule
-  knows_more : (place : ℕ) (v : Doing E) (s : State (Desk E) (Doing E)) → v.lives ≡ true → v.stage ≡ Idle → (h : Keeps s) → get_elem? s.views place ≡ some v
+  knows_more : (place : ℕ) (v : TokenView E) (s : State (TableSlot E) (TokenView E)) → v.lives ≡ true → v.stage ≡ Idle → (h : Keeps s) → get_elem? s.views place ≡ some v
       → Keeps (record { words = slice_set s.words 2 (slice_index s.words 2); homes = s.homes; views = set s.views place (learned (slice_index s.words 2) v) })
   knows_more place v s lives idle h at =
       let L : Ledger E = h.ledger in
       let found : slice_index s.words 2 ≡ h.told = ap (λ (ws : List ℕ). slice_index ws 2) h.words in
-      let w : Doing E = learned (slice_index s.words 2) v in
+      let w : TokenView E = learned (slice_index s.words 2) v in
       let mine : Fits L place v = h.fits place v at in
       let living = mine.seat lives in
-      let views : List (Doing E) = set s.views place w in
+      let views : List (TokenView E) = set s.views place w in
       let sums : budgets views + v.budget ≡ budgets s.views + v.budget = total_after_set (λ u. u.budget) s.views place v w at in
       let waits : waiting views + tickets_at v.stage ≡ waiting s.views + tickets_at v.stage = total_after_set (λ u. tickets_at u.stage) s.views place v w at in
       let few : L.queue.drawn + budgets s.views ≤ L.limit = h.few in
@@ -65,11 +65,11 @@ module _ {E : Type 0} where
       let two : h.told ≤ L.turned.sure = h.known in
       let here : Fits L place w = record {
         ticket = mine.ticket;
-        desk = mine.desk;
+        slot = mine.slot;
         seat = λ _. record { numbered = living.numbered; seated = living.seated; own = living.own; starts = living.starts; opened = living.opened; apart = living.apart; surely = omega arith };
         base = λ makes. absurd (living.apart (sym (mine.base makes).placed));
       } in
-      let others = λ (j : ℕ) (u : Doing E) (apart : j ≢ place) (e : get_elem? s.views j ≡ some u). h.fits j u e in
+      let others = λ (j : ℕ) (u : TokenView E) (apart : j ≢ place) (e : get_elem? s.views j ≡ some u). h.fits j u e in
       record {
         ledger = L;
         told = h.told;
@@ -85,7 +85,7 @@ module _ {E : Type 0} where
       }
 
   -- an idle seat may look whether all entries that it has seen are told to be kept for good
-  pub learns : (slots place : ℕ) (me : Me (Desk E) (Doing E)) → me.0.lives ≡ true → me.0.stage ≡ Idle → Allows Keeps slots place me 2 (λ n. n) (Learns (step slots 2 0 0 none) me)
+  pub learns : (slots place : ℕ) (me : Me (TableSlot E) (TokenView E)) → me.0.lives ≡ true → me.0.stage ≡ Idle → Allows Keeps slots place me 2 (λ n. n) (Learns (step slots 2 0 0 none) me)
   learns slots place me lives idle s h one at range =
       dite (dec_le (seen_by me.0) (slice_index s.words 2))
       (λ (enough : seen_by me.0 ≤ slice_index s.words 2). (
@@ -104,7 +104,7 @@ module _ {E : Type 0} where
       ))
 
   -- a seat that learned enough is settled
-  pub settles_by_look : (found : ℕ) (me now : Me (Desk E) (Doing E)) → IsIdle me → seen_by me.0 ≤ found → now ≡ (learned found me.0, me.1) → Settles me now
+  pub settles_by_look : (found : ℕ) (me now : Me (TableSlot E) (TokenView E)) → IsIdle me → seen_by me.0 ≤ found → now ≡ (learned found me.0, me.1) → Settles me now
   settles_by_look found me now idle enough is =
       subst (Settles me) (sym is)
       (record {
@@ -123,7 +123,7 @@ module _ {E : Type 0} where
       })
 
   -- and so is one that had all entries of the table kept for good in a turn
-  pub settles_by_turn : (me now then : Me (Desk E) (Doing E)) (table new : RecordedView E) → Reaches None me table now → plain new ≡ plain table → table.sure ≤ new.sure → length new.history ≤ new.sure
+  pub settles_by_turn : (me now then : Me (TableSlot E) (TokenView E)) (table new : RecordedView E) → Reaches None me table now → plain new ≡ plain table → table.sure ≤ new.sure → length new.history ≤ new.sure
       → IsIdle then → then.0.budget ≡ now.0.budget → ((id : TableId) (left : ℕ) → seat_of id left then.0 ≡ seat_of id left (with_hand (Some new) now.0)) → Settles me then
   settles_by_turn me now then table new reached same no_less all idle budget shown =
       let parted : Parts new now None then = record { seat = idle; budget = budget; same = shown } in

@@ -6,7 +6,7 @@ ghost use Rattle.ring_turn.specs.private.Seats.{IsOpened};
 
 use crate::held::HeldTable;
 use crate::queue::Queue;
-use crate::rule::{Board, DESK, Joins, Makes, Place, Start};
+use crate::rule::{Board, Joins, Makes, SeatToken, Start, TABLE_SLOT};
 use crate::seat::Seat;
 use crate::turn::put_back;
 use ring_election::RingElection;
@@ -20,8 +20,8 @@ use std::snapshot::Snapshot;
 ///
 /// It is a ticket lock (Mellor-Crummey and Scott, "Algorithms for scalable synchronization on
 /// shared-memory multiprocessors", 1991). A call draws a ticket and waits until that ticket is
-/// served. It takes the table from its desk, performs the call, puts the table back and serves the
-/// next ticket. If a seat keeps the table, several calls are made before it is put back.
+/// served. It takes the table from its slot, performs the call, puts the table back and serves the
+/// next ticket. If a seat holds the table, several calls are made before it is put back.
 ///
 /// Callers first queue at a plain lock, so that the thread with the next ticket is a running one.
 /// Contracts see the identity of the lock, its number of seats, and the history that it was opened
@@ -30,7 +30,7 @@ use std::snapshot::Snapshot;
 pub struct TurnLock<E: RingElection, T: Tabled<E> + Drop = Table<E>> {
     pub(crate) alloc: Global,
     pub(crate) board: Board<E, T>,
-    pub(crate) maker: Place<E, T>,
+    pub(crate) maker: SeatToken<E, T>,
     pub(crate) queue: Queue,
 }
 
@@ -73,12 +73,12 @@ impl<E: RingElection, T: Tabled<E> + Drop> TurnLock<E, T> {
             return Err(NoMemory);
         };
         for _ in 0..seats {
-            let place = board.shared.split_seat::<Makes>(&mut maker);
+            let token = board.shared.split_seat::<Makes>(&mut maker);
             all.push_reserved(Seat {
-                place,
+                token,
                 left: turns,
                 owes: 0,
-                keeps: false,
+                holds: false,
                 hand: None,
             });
         }
@@ -111,17 +111,17 @@ impl<E: RingElection, T: Tabled<E> + Drop> TurnLock<E, T> {
         let mut rest = seats;
         while let Some(seat) = rest.pop() {
             let Seat {
-                mut place,
+                mut token,
                 left: _,
                 owes: _,
-                keeps: _,
+                holds: _,
                 hand,
             } = seat;
-            put_back(&board, &mut place, hand);
-            board.shared.join_seat::<Joins>(&mut maker, place);
+            put_back(&board, &mut token, hand);
+            board.shared.join_seat::<Joins>(&mut maker, token);
         }
         let mut closed = board.close_with(maker);
-        let Some(held) = closed.take(DESK) else {
+        let Some(held) = closed.take(TABLE_SLOT) else {
             unreachable!()
         };
         closed.free();
@@ -131,13 +131,13 @@ impl<E: RingElection, T: Tabled<E> + Drop> TurnLock<E, T> {
     }
 }
 
-// Makes the table with its words and its desk, and the place that makes the seats.
+// Makes the table with its words and its slot, and the token that makes the seats.
 fn open<E: RingElection, T: Tabled<E> + Drop>(
     alloc: Global,
     table: T,
     seats: usize,
     turns: u64,
-) -> Result<(Board<E, T>, Place<E, T>), NoMemory>
+) -> Result<(Board<E, T>, SeatToken<E, T>), NoMemory>
     requires few { seats * turns < 2 ^ 64 }
     ensures { IfOk result (λ made. IsOpened seats turns (T.shows table).history
         made.0.shared.table_id made.1.table_id made.1.me) }
@@ -149,13 +149,13 @@ fn open<E: RingElection, T: Tabled<E> + Drop>(
         of: PhantomData,
     };
     let table = HeldTable::new(alloc, table)?;
-    let Ok(mut desks) = Vec::with_capacity(alloc, 1) else {
+    let Ok(mut contents) = Vec::with_capacity(alloc, 1) else {
         drop(table);
         drop(start);
         return Err(NoMemory);
     };
-    desks.push_reserved(Some(table));
-    let made = Board::new(alloc, &[0, 0, 0], desks, &start);
+    contents.push_reserved(Some(table));
+    let made = Board::new(alloc, &[0, 0, 0], contents, &start);
     drop(start);
     match made {
         Ok(made) => Ok(made),

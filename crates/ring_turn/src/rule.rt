@@ -1,7 +1,7 @@
-//! The table of words and one desk under a turn lock, its rule, and the names of its steps.
+//! The table of words and one slot under a turn lock, its rule, and the names of its steps.
 
 use crate::held::HeldTable;
-use crate::view::Doing;
+use crate::view::TokenView;
 use atomic_table::{Join, Play, Seat, Split, TableRule};
 use ring_election::RingElection;
 use ring_table::Tabled;
@@ -17,19 +17,19 @@ pub(crate) const SERVED: usize = 1;
 
 pub(crate) const KEPT: usize = 2;
 
-pub(crate) const DESK: usize = 0;
+pub(crate) const TABLE_SLOT: usize = 0;
 
-pub(crate) type Desk<E, T> = Option<HeldTable<E, T>>;
+pub(crate) type TableSlot<E, T> = Option<HeldTable<E, T>>;
 
 pub(crate) type Board<E, T> = atomic_table::Table<
-    Desk<E, T>,
-    Doing<E>,
+    TableSlot<E, T>,
+    TokenView<E>,
     Start<E, T>,
     InTurn,
     Global,
 >;
 
-pub(crate) type Place<E, T> = Seat<Desk<E, T>, Doing<E>>;
+pub(crate) type SeatToken<E, T> = Seat<TableSlot<E, T>, TokenView<E>>;
 
 // The start of a lock: the number of turns in all, the number of turns of each seat, and the table.
 #[derive(Drop)]
@@ -43,8 +43,11 @@ pub struct Start<E: RingElection, T: Tabled<E> + Drop> {
 // The rule.
 pub struct InTurn;
 
-impl<E: RingElection, T: Tabled<E> + Drop> TableRule<Option<HeldTable<E, T>>, Doing<E>, Start<E, T>>
-    for InTurn {
+impl<E: RingElection, T: Tabled<E> + Drop> TableRule<
+    Option<HeldTable<E, T>>,
+    TokenView<E>,
+    Start<E, T>,
+> for InTurn {
     ghost use Rattle.ring_turn.specs.private.Rule.{Keeps};
     ghost use Rattle.ring_turn.specs.private.Steps.{maker};
 
@@ -56,25 +59,25 @@ impl<E: RingElection, T: Tabled<E> + Drop> TableRule<Option<HeldTable<E, T>>, Do
 // A seat draws a ticket.
 pub struct Draws;
 
-impl<E: RingElection, T: Tabled<E> + Drop> Play<Option<HeldTable<E, T>>, Doing<E>> for Draws {
+impl<E: RingElection, T: Tabled<E> + Drop> Play<Option<HeldTable<E, T>>, TokenView<E>> for Draws {
     ghost use Rattle.ring_turn.specs.private.Steps.{Draws as IsDraw};
 
     ghost then = { IsDraw };
 }
 
-// A seat looks whether its turn has come. If so, it takes the desk.
+// A seat looks whether its turn has come. If so, it takes the slot.
 pub struct Looks;
 
-impl<E: RingElection, T: Tabled<E> + Drop> Play<Option<HeldTable<E, T>>, Doing<E>> for Looks {
+impl<E: RingElection, T: Tabled<E> + Drop> Play<Option<HeldTable<E, T>>, TokenView<E>> for Looks {
     ghost use Rattle.ring_turn.specs.private.Steps.{Looks as IsLook};
 
     ghost then = { IsLook };
 }
 
-// A seat gives the desk back with the entries that it added, and serves the next.
+// A seat gives the slot back with the entries that it added, and serves the next.
 pub struct Serves;
 
-impl<E: RingElection, T: Tabled<E> + Drop> Play<Option<HeldTable<E, T>>, Doing<E>> for Serves {
+impl<E: RingElection, T: Tabled<E> + Drop> Play<Option<HeldTable<E, T>>, TokenView<E>> for Serves {
     ghost use Rattle.ring_turn.specs.private.Steps.{Serves as IsService};
 
     ghost then = { IsService };
@@ -83,7 +86,7 @@ impl<E: RingElection, T: Tabled<E> + Drop> Play<Option<HeldTable<E, T>>, Doing<E
 // A seat stores how many entries it knows to be kept for good.
 pub struct Tells;
 
-impl<E: RingElection, T: Tabled<E> + Drop> Play<Option<HeldTable<E, T>>, Doing<E>> for Tells {
+impl<E: RingElection, T: Tabled<E> + Drop> Play<Option<HeldTable<E, T>>, TokenView<E>> for Tells {
     ghost use Rattle.ring_turn.specs.private.Steps.{Tells as IsTelling};
 
     ghost then = { IsTelling };
@@ -92,7 +95,7 @@ impl<E: RingElection, T: Tabled<E> + Drop> Play<Option<HeldTable<E, T>>, Doing<E
 // A seat reads how many entries are stored as kept for good.
 pub struct Learns;
 
-impl<E: RingElection, T: Tabled<E> + Drop> Play<Option<HeldTable<E, T>>, Doing<E>> for Learns {
+impl<E: RingElection, T: Tabled<E> + Drop> Play<Option<HeldTable<E, T>>, TokenView<E>> for Learns {
     ghost use Rattle.ring_turn.specs.private.Steps.{Learns as IsLearning};
 
     ghost then = { IsLearning };
@@ -101,7 +104,7 @@ impl<E: RingElection, T: Tabled<E> + Drop> Play<Option<HeldTable<E, T>>, Doing<E
 // The maker makes a seat.
 pub struct Makes;
 
-impl<E> Split<Doing<E>> for Makes {
+impl<E> Split<TokenView<E>> for Makes {
     ghost use Rattle.ring_turn.specs.private.Steps.{gave, newcomer};
 
     ghost left = { gave };
@@ -112,7 +115,7 @@ impl<E> Split<Doing<E>> for Makes {
 // A seat is joined to the maker.
 pub struct Joins;
 
-impl<E> Join<Doing<E>> for Joins {
+impl<E> Join<TokenView<E>> for Joins {
     ghost use Rattle.ring_turn.specs.private.Steps.{joined, nobody};
 
     ghost both = { joined };

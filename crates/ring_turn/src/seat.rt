@@ -2,7 +2,7 @@
 ghost use Rattle.std.specs.Prelude.{◌≡◌, IsTrue, ◌↔◌};
 
 use crate::held::HeldTable;
-use crate::rule::Place;
+use crate::rule::SeatToken;
 use ring_election::RingElection;
 use ring_table::{Table, Tabled};
 use std::marker::Model;
@@ -13,17 +13,17 @@ use std::marker::Model;
 /// that the lock was opened with, the turns that the seat has seen, and its own entries, in order.
 /// They see how many entries it knows to be kept for good.
 ///
-/// At run time a seat has two counts, a flag, and the table while it keeps it. The rest exists only
+/// At run time a seat has two counts, a flag, and the table while it holds it. The rest exists only
 /// in proofs.
 #[derive(Drop)]
 pub struct Seat<E: RingElection, T: Tabled<E> + Drop = Table<E>> {
-    pub(crate) place: Place<E, T>,
+    pub(crate) token: SeatToken<E, T>,
     pub(crate) left: u64,
     // The number of entries that it has seen, or 0 if it knows that all of them are kept for good.
     // A call stores it, so that `settle` does nothing if there is nothing to keep.
     pub(crate) owes: usize,
-    // whether the seat keeps the table over its calls
-    pub(crate) keeps: bool,
+    // whether the seat holds the table over its calls
+    pub(crate) holds: bool,
     // the table, while a turn is open between two calls
     pub(crate) hand: Option<HeldTable<E, T>>,
 }
@@ -35,9 +35,9 @@ impl<E: RingElection, T: Tabled<E> + Drop> Model for Seat<E, T> {
     ghost Value = { SeatView E };
 
     ghost view = { λ seat.
-        seat_of seat.place.table_id seat.left (with_hand seat.hand seat.place.me.0) };
+        seat_of seat.token.table_id seat.left (with_hand seat.hand seat.token.me.0) };
 
-    ghost invariant = { λ seat. IsSeated seat.left seat.owes seat.hand seat.place.me };
+    ghost invariant = { λ seat. IsSeated seat.left seat.owes seat.hand seat.token.me };
 }
 
 impl<E: RingElection, T: Tabled<E> + Drop> Seat<E, T> {

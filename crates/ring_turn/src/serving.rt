@@ -9,9 +9,8 @@ use crate::seat::Seat;
 use ring_election::RingElection;
 use ring_events::Command;
 use ring_id::GroupName;
-use ring_lines::Queued;
 use ring_node::{Charter, Report};
-use ring_table::{Access, Answer, Filed, Tabled};
+use ring_table::{Access, Answer, Filed, QueueHead, Tabled};
 use std::sync::{Arc, Wait};
 
 impl<E: RingElection, T: Tabled<E> + Drop> Access<E> for TurnLock<E, T> {
@@ -27,22 +26,22 @@ impl<E: RingElection, T: Tabled<E> + Drop> Access<E> for TurnLock<E, T> {
 
     ghost is_settled = { Settled };
 
-    fn queue<R: Wait>(&self, rt: &R) -> Queued<'_> {
-        Some(TurnLock::queue(self, rt))
+    fn enter_queue<R: Wait>(&self, rt: &R) -> QueueHead<'_> {
+        Some(TurnLock::enter_queue(self, rt))
     }
 
-    fn keep(&self, seat: &mut Seat<E, T>)
+    fn hold(&self, seat: &mut Seat<E, T>)
         requires { seat.old.lock ≡ self.now.id }
         ensures { seat.new ≡ seat.old }
     {
-        TurnLock::keep(self, seat);
+        TurnLock::hold(self, seat);
     }
 
-    fn rest(&self, seat: &mut Seat<E, T>)
+    fn release(&self, seat: &mut Seat<E, T>)
         requires { seat.old.lock ≡ self.now.id }
         ensures { seat.new ≡ seat.old }
     {
-        TurnLock::rest(self, seat);
+        TurnLock::release(self, seat);
     }
 
     #[inline(always)]

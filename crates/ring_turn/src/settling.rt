@@ -7,7 +7,7 @@ ghost use Rattle.ring_turn.specs.private.Seats.{IsIdle, Settles};
 ghost use Rattle.ring_turn.specs.private.Steps.{seen_by};
 
 use crate::lock::TurnLock;
-use crate::rule::{KEPT, Learns, Place, Tells};
+use crate::rule::{KEPT, Learns, SeatToken, Tells};
 use crate::seat::Seat;
 use crate::turn::put_back;
 use ring_election::RingElection;
@@ -36,29 +36,29 @@ impl<E: RingElection, T: Tabled<E> + Drop> TurnLock<E, T> {
         wait_for_turns(rt, seat.left);
         seat.left -= 1;
         let hand = seat.hand.take();
-        put_back(&self.board, &mut seat.place, hand);
-        self.settle_place(rt, &mut seat.place, seat.owes);
+        put_back(&self.board, &mut seat.token, hand);
+        self.settle_by(rt, &mut seat.token, seat.owes);
         seat.owes = 0;
     }
 
-    // Waits until the entries that a place has seen are kept for good, or has all entries kept.
+    // Waits until the entries that a token has seen are kept for good, or has all entries kept.
     #[inline(never)]
-    fn settle_place<R: Wait>(&self, rt: &R, place: &mut Place<E, T>, owes: usize)
-        requires here { place.old.table_id ≡ self.now.id }
-        requires idle { IsIdle place.old.me }
-        requires turn { 0 < place.old.me.0.budget }
-        requires owes { owes ≡ seen_by place.old.me.0 }
-        ensures here { place.new.table_id ≡ place.old.table_id }
-        ensures settles { Settles place.old.me place.new.me }
+    fn settle_by<R: Wait>(&self, rt: &R, token: &mut SeatToken<E, T>, owes: usize)
+        requires here { token.old.table_id ≡ self.now.id }
+        requires idle { IsIdle token.old.me }
+        requires turn { 0 < token.old.me.0.budget }
+        requires owes { owes ≡ seen_by token.old.me.0 }
+        ensures here { token.new.table_id ≡ token.old.table_id }
+        ensures settles { Settles token.old.me token.new.me }
     {
         for _ in rt.forever() {
             let round = self.queue.round();
-            if self.board.shared.load::<Learns>(place, KEPT) >= owes as u64 {
+            if self.board.shared.load::<Learns>(token, KEPT) >= owes as u64 {
                 return;
             }
             if let Some(lead) = self.queue.try_lead() {
                 let head = self.queue.begin_round(rt);
-                self.settle_table(rt, place);
+                self.settle_table(rt, token);
                 self.queue.end_round(head, lead);
                 return;
             }
@@ -67,19 +67,19 @@ impl<E: RingElection, T: Tabled<E> + Drop> TurnLock<E, T> {
         unreachable!()
     }
 
-    // Has all entries kept for good, in a turn of this place, and stores their number for others.
-    fn settle_table<R: Wait>(&self, rt: &R, place: &mut Place<E, T>)
-        requires here { place.old.table_id ≡ self.now.id }
-        requires idle { IsIdle place.old.me }
-        requires turn { 0 < place.old.me.0.budget }
-        ensures here { place.new.table_id ≡ place.old.table_id }
-        ensures settles { Settles place.old.me place.new.me }
+    // Has all entries kept for good, in a turn of this token, and stores their number for others.
+    fn settle_table<R: Wait>(&self, rt: &R, token: &mut SeatToken<E, T>)
+        requires here { token.old.table_id ≡ self.now.id }
+        requires idle { IsIdle token.old.me }
+        requires turn { 0 < token.old.me.0.budget }
+        ensures here { token.new.table_id ≡ token.old.table_id }
+        ensures settles { Settles token.old.me token.new.me }
     {
-        let mut table = self.reach(rt, place, None);
+        let mut table = self.reach(rt, token, None);
         table.settle(rt);
         let kept = table.entries();
-        put_back(&self.board, place, Some(table));
-        self.board.shared.store::<Tells>(place, KEPT, kept as u64);
+        put_back(&self.board, token, Some(table));
+        self.board.shared.store::<Tells>(token, KEPT, kept as u64);
     }
 }
 

@@ -3,9 +3,9 @@ use Rattle.std.proofs.Common.{◌≡◌, ◌≤◌, ℕ, List, Option, length, r
 use Rattle.std.specs.Borrow.{Bor}
 use Rattle.ring_config.specs.Reading.{Spells}
 use Rattle.ring_config.specs.declared.config.Config.{Config}
-use Rattle.ring_door.specs.Telling.{closed_line}
-use Rattle.ring_door.specs.declared.fault.ProgramFault.{ProgramFault}
-use Rattle.ring_door.specs.declared.fault.ProgramFault.TheVariants as program
+use Rattle.ring_accept.specs.Telling.{closed_line}
+use Rattle.ring_accept.specs.declared.fault.ProgramFault.{ProgramFault}
+use Rattle.ring_accept.specs.declared.fault.ProgramFault.TheVariants as program
 use Rattle.ring_lines.specs.Ends.{Writing}
 use Rattle.ringd.specs.Run.{IsOfListening, KeptAt, RanAt, ServedAt, first_line}
 use Rattle.ringd.specs.private.Run.{IsOfFile}

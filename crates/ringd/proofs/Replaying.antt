@@ -2,7 +2,7 @@
 use Rattle.std.proofs.Common.{ℕ, Result, Ok, Err}
 use Rattle.std.specs.Prelude.{IfErr}
 use Rattle.ring_lines.specs.Ends.{Reading, Writing}
-use Rattle.ring_door.specs.declared.fault.ProgramFault.{ProgramFault}
+use Rattle.ring_accept.specs.declared.fault.ProgramFault.{ProgramFault}
 use Rattle.ringd.specs.private.Run.{Replayed}
 use Rattle.ringd.specs.Run.{IsOfLines}
 

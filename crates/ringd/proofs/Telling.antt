@@ -2,10 +2,10 @@
 use Rattle.std.proofs.Common.{◌≡◌, ◌++◌, List, ℕ, Result, Ok, Err, inl, inr, refl, subst, sym}
 use Rattle.std.specs.Prelude.{MatchResult}
 use Rattle.ring_lines.specs.Ends.{Writing, Wrote}
-use Rattle.ring_door.specs.declared.fault.JournalFault.{JournalFault}
-use Rattle.ring_door.specs.declared.fault.JournalFault.TheVariants as journal
-use Rattle.ring_door.specs.declared.fault.ProgramFault.{ProgramFault}
-use Rattle.ring_door.specs.declared.fault.ProgramFault.TheVariants as program
+use Rattle.ring_accept.specs.declared.fault.JournalFault.{JournalFault}
+use Rattle.ring_accept.specs.declared.fault.JournalFault.TheVariants as journal
+use Rattle.ring_accept.specs.declared.fault.ProgramFault.{ProgramFault}
+use Rattle.ring_accept.specs.declared.fault.ProgramFault.TheVariants as program
 use Rattle.ring_server.specs.Listening.{BothAt}
 use Rattle.ring_server.specs.Resuming.{ResumedAt}
 use Rattle.ring_server.specs.Running.{FirstOrNone}

@@ -5,9 +5,9 @@ use Rattle.ring_any.specs.declared.any.Any.{Any}
 use Rattle.ring_table.specs.Tables.{RecordedView}
 use Rattle.ring_recovery.specs.Compacted.{Resumes}
 use Rattle.ring_recovery.specs.Recovered.{RecoveredView}
-use Rattle.ring_door.specs.declared.fault.JournalFault.{JournalFault}
-use Rattle.ring_door.specs.declared.fault.ProgramFault.{ProgramFault}
-use Rattle.ring_door.specs.declared.fault.ProgramFault.TheVariants.{Journal, NoMemory, Write}
+use Rattle.ring_accept.specs.declared.fault.JournalFault.{JournalFault}
+use Rattle.ring_accept.specs.declared.fault.ProgramFault.{ProgramFault}
+use Rattle.ring_accept.specs.declared.fault.ProgramFault.TheVariants.{Journal, NoMemory, Write}
 
 -- a fault of taking up a journal: one of the journal's own, or an allocation failed
 abbrev pub IsOfJournal : ProgramFault → Type 0

@@ -5,12 +5,12 @@ use Rattle.ring_config.specs.Reading.{Spells}
 use Rattle.ring_config.specs.declared.config.Config.{Config}
 use Rattle.ring_lines.specs.declared.answers.LineFault.{LineFault}
 use Rattle.ring_lines.specs.Ends.{Writing, Wrote}
-use Rattle.ring_door.specs.Faults.{told_as}
-use Rattle.ring_door.specs.declared.fault.ProgramFault.{ProgramFault}
-use Rattle.ring_door.specs.declared.fault.ProgramFault.TheVariants.{Bad, Journal, Listen, NoMemory, Socket, Unreadable}
-use Rattle.ring_door.specs.declared.fault.JournalFault.TheVariants.{Failed}
-use Rattle.ring_door.specs.declared.fault.SocketFault.{SocketFault}
-use Rattle.ring_door.specs.Telling.{listening_at, listening_line}
+use Rattle.ring_accept.specs.Faults.{told_as}
+use Rattle.ring_accept.specs.declared.fault.ProgramFault.{ProgramFault}
+use Rattle.ring_accept.specs.declared.fault.ProgramFault.TheVariants.{Bad, Journal, Listen, NoMemory, Socket, Unreadable}
+use Rattle.ring_accept.specs.declared.fault.JournalFault.TheVariants.{Failed}
+use Rattle.ring_accept.specs.declared.fault.SocketFault.{SocketFault}
+use Rattle.ring_accept.specs.Telling.{listening_at, listening_line}
 use Rattle.ring_server.specs.Listening.{BothAt}
 use Rattle.ring_server.specs.Running.{FirstOrNone}
 

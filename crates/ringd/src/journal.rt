@@ -6,11 +6,12 @@ ghost use Rattle.ring_recovery.specs.Compacted.{Resumes};
 ghost use Rattle.ringd.specs.Journal.{IsOfJournal, IsTakenUp, ListedAt};
 ghost use Rattle.ringd.specs.private.Journal.{IsToldOf, place_told_as, recovery_told_as};
 
+use ring_accept::{JournalFault, ProgramFault};
 use ring_file::{FileMedium, Place, PlaceFault, Replaces};
 use ring_lines::{Outlet, put};
 use ring_listing::list_journal;
 use ring_recovery::{Alarm, RecoverFault, Recovered, resume};
-use ring_server::{JournalFault, Meter, Metered, ProgramFault, Resumed};
+use ring_server::{Meter, Metered, Resumed};
 use std::alloc::Global;
 use std::fs::{File, Files};
 use std::io::{ErrorKind, Read};

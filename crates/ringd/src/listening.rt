@@ -4,7 +4,7 @@ ghost use Rattle.ring_words.specs.declared.places.Place.TheVariants.{Path, Port}
 ghost use Rattle.ringd.specs.Run.{IsOfListening};
 
 use crate::sockets::Sockets;
-use ring_door::ProgramFault;
+use ring_accept::ProgramFault;
 use ring_server::{Others, Web};
 use ring_words::Place;
 use std::fs::{File, Files};

@@ -4,8 +4,8 @@ ghost use Rattle.ring_config.specs.Reading.{Spells};
 ghost use Rattle.ring_config.specs.declared.config.Config.{Config};
 ghost use Rattle.ringd.specs.private.Run.{IsOfFile, IsOfReading};
 
+use ring_accept::ProgramFault;
 use ring_config::{Config, ConfigFault, read_config};
-use ring_server::ProgramFault;
 use std::alloc::Global;
 use std::fs;
 use std::fs::Files;

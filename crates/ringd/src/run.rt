@@ -1,7 +1,7 @@
 //! The orders of the command line: standard streams, the configuration's file and the listeners.
 ghost use Rattle.std.specs.Prelude.{◌≡◌, ◌++◌, ◌⊎◌, ℕ, List, IfErr, IfOk, MatchResult, string_bytes};
 ghost use Rattle.ring_lines.specs.Ends.{Wrote, WroteFront};
-ghost use Rattle.ring_door.specs.Telling.{closed_line};
+ghost use Rattle.ring_accept.specs.Telling.{closed_line};
 ghost use Rattle.ringd.specs.private.Run.{Replayed};
 ghost use Rattle.ringd.specs.Run.{IsOfLines, KeptAt, RanAt, ServedAt, first_line};
 
@@ -9,13 +9,11 @@ use crate::journal;
 use crate::listening::{Places, listen, listen_all, place_or};
 use crate::loading::load;
 use crate::sockets::Sockets;
+use ring_accept::{Limits, ProgramFault, say_listening, say_listening_at, tell};
 use ring_config::Config;
-use ring_door::{say_listening, say_listening_at};
 use ring_file::{FileMedium, Replaces};
 use ring_lines::{FromRead, Intake, Outlet, ToWrite};
-use ring_server::{
-    Limits, Metered, ProgramFault, Resumed, accept_loop, resume_loop, run_loop, tell,
-};
+use ring_server::{Metered, Resumed, accept_loop, resume_loop, run_loop};
 use ring_words::Place;
 use std::alloc::Global;
 use std::fs::{File, Files};

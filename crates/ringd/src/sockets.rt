@@ -3,10 +3,10 @@
 //! No contract speaks of the file system, so this file has to be read. Each call makes the system
 //! calls that its comment names, in that order.
 ghost use Rattle.std.specs.Prelude.{◌≡◌, IfErr, IfOk, MatchResult};
-ghost use Rattle.ring_door.specs.declared.fault.ProgramFault.TheVariants.{Listen, NoMemory};
+ghost use Rattle.ring_accept.specs.declared.fault.ProgramFault.TheVariants.{Listen, NoMemory};
 ghost use Rattle.ringd.specs.Run.{IsOfListening};
 
-use ring_door::{ProgramFault, SocketFault};
+use ring_accept::{ProgramFault, SocketFault};
 use std::alloc::Global;
 use std::fs::{DirBuilder, File, Files, Metadata, Permissions, TryLockError};
 use std::io::ErrorKind;

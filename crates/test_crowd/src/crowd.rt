@@ -31,7 +31,7 @@ const NO_MEMORY: &str = "there is no memory for the replies";
 
 // A session that is to run.
 #[derive(Drop)]
-struct Guest<'a, S> {
+struct Caller<'a, S> {
     number: u32,
     seat: S,
     lines: &'a [u8],
@@ -106,7 +106,7 @@ where
     if seats.len() < WORKERS {
         return Err("there are too few seats");
     }
-    let Ok(guests) = seats.split_off(WORKERS) else {
+    let Ok(callers) = seats.split_off(WORKERS) else {
         return Err("there is no memory for the seats");
     };
     let Ok(access) = Arc::new(alloc, access) else {
@@ -114,7 +114,7 @@ where
     };
     match Service::new(rt, alloc, access, seats, WORKERS, INBOX) {
         Ok(service) => {
-            let told = answered(rt, alloc, service.front(), scripts, guests, out);
+            let told = answered(rt, alloc, service.front(), scripts, callers, out);
             drop(service.close(rt));
             told
         }
@@ -139,7 +139,7 @@ where
     requires seats { All (A.has_seat front.now) seats.items }
 {
     let mut rest = seats;
-    let mut guests = Vec::new(alloc);
+    let mut callers = Vec::new(alloc);
     let mut number = 0u32;
     for script in scripts {
         let Some(seat) = rest.pop() else {
@@ -147,19 +147,19 @@ where
         };
         number = number.saturating_add(1);
         let lines = script.as_bytes();
-        let guest = Guest {
+        let caller = Caller {
             number,
             seat,
             lines,
         };
-        if guests.push(guest).is_err() {
+        if callers.push(caller).is_err() {
             return Err("there is no memory for the sessions");
         }
     }
-    let Some(last) = guests.pop() else {
+    let Some(last) = callers.pop() else {
         return Err("there is no script");
     };
-    run_all(rt, alloc, front, guests, out)?;
+    run_all(rt, alloc, front, callers, out)?;
     look(rt, alloc, front, last, out)
 }
 
@@ -168,14 +168,14 @@ fn serve<R: Wait, A: Access<Any> + Drop>(
     rt: &R,
     alloc: Global,
     front: &Front<A>,
-    guest: &mut Guest<'_, A::Seat>,
+    caller: &mut Caller<'_, A::Seat>,
 ) -> Option<Vec<u8>>
-    requires { A.has_seat front.now guest.old.seat }
-    ensures { A.has_seat front.now guest.new.seat }
+    requires { A.has_seat front.now caller.old.seat }
+    ensures { A.has_seat front.now caller.new.seat }
 {
-    let mut reader = FromRead(guest.lines);
+    let mut reader = FromRead(caller.lines);
     let mut writer = ToWrite(Vec::new(alloc));
-    let (number, seat) = (guest.number, &mut guest.seat);
+    let (number, seat) = (caller.number, &mut caller.seat);
     match front.serve(rt, seat, number, &mut reader, &mut writer, u32::MAX) {
         Ok(_) => Some(writer.0),
         Err(_) => None,
@@ -187,21 +187,21 @@ fn run_all<R, A>(
     rt: &R,
     alloc: Global,
     front: &Front<A>,
-    guests: Vec<Guest<'_, A::Seat>>,
+    callers: Vec<Caller<'_, A::Seat>>,
     out: &mut Vec<u8>,
 ) -> Told<()>
 where
     R: Threads + Wait + Sync,
     A: Access<Any> + Send + Sync + Drop,
     A::Seat: Send,
-    requires seats { All (λ guest. A.has_seat front.now guest.seat) guests.items }
+    requires seats { All (λ caller. A.has_seat front.now caller.seat) callers.items }
 {
     let Ok(each) = thread::map_vec(
         rt,
-        guests,
-        &|mut guest: Guest<'_, A::Seat>| -> Option<Vec<u8>>
-            requires { A.has_seat front.now guest.seat }
-        { serve(rt, alloc, front, &mut guest) },
+        callers,
+        &|mut caller: Caller<'_, A::Seat>| -> Option<Vec<u8>>
+            requires { A.has_seat front.now caller.seat }
+        { serve(rt, alloc, front, &mut caller) },
     ) else {
         return Err(NO_MEMORY);
     };
@@ -232,16 +232,16 @@ fn look<R: Wait + Clock, A: Access<Any> + Drop>(
     rt: &R,
     alloc: Global,
     front: &Front<A>,
-    last: Guest<'_, A::Seat>,
+    last: Caller<'_, A::Seat>,
     out: &mut Vec<u8>,
 ) -> Told<()>
     requires { A.has_seat front.now last.seat }
 {
-    let mut guest = last;
-    guest.number = 0;
+    let mut caller = last;
+    caller.number = 0;
     let mut added = out.push(b'\n').is_ok();
     for _ in 0..LOOKS {
-        let Some(replies) = serve(rt, alloc, front, &mut guest) else {
+        let Some(replies) = serve(rt, alloc, front, &mut caller) else {
             return Err("the last session has failed");
         };
         added = added && out.extend_from_slice(&replies).is_ok();

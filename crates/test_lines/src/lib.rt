@@ -8,6 +8,8 @@
 #[cfg(test)]
 mod answering;
 #[cfg(test)]
+mod batches;
+#[cfg(test)]
 mod configurations;
 #[cfg(test)]
 mod ends;
@@ -25,8 +27,6 @@ mod parsing;
 mod places;
 #[cfg(test)]
 mod printing;
-#[cfg(test)]
-mod queue;
 #[cfg(test)]
 mod reader;
 #[cfg(test)]

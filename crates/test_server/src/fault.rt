@@ -1,5 +1,5 @@
 use crate::equal::equal;
-use ring_server::{JournalFault, ProgramFault};
+use ring_accept::{JournalFault, ProgramFault};
 
 // Each fault that is not of a journal, and its line.
 const FAULTS: [(ProgramFault, &str); 9] = [

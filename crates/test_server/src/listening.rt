@@ -1,8 +1,9 @@
 use crate::equal::equal;
 use crate::trial::{Idler, NoClients, client, hear_all, listener, send_numbers};
+use ring_accept::{ProgramFault, accept_all};
 use ring_config::Config;
 use ring_lines::DripOut;
-use ring_server::{ProgramFault, accept_all, accept_loop};
+use ring_server::accept_loop;
 use std::net::{Net, Shutdown, SocketAddr, TcpListener, TcpStream};
 use std::process::Abort;
 use std::sync::{Mutex, Wait};
@@ -81,9 +82,9 @@ fn sessions_have_the_numbers_of_their_clients(rt: HostRuntime) {
             left: 3,
             places: false,
             served: &served,
-            door: None,
+            acceptor: None,
         };
-        idlers.push(idler).expect(&rt, "no guest");
+        idlers.push(idler).expect(&rt, "no handler");
     }
     let accepted = accept_all(&rt, listener, idlers);
     equal(

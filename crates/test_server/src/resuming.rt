@@ -3,11 +3,12 @@ ghost use Rattle.ring_journal.specs.Memories.{memory_kept, memory_text};
 
 use crate::equal::equal;
 use crate::trial::{NoClients, client, listener};
+use ring_accept::{JournalFault, Limits, ProgramFault};
 use ring_config::Config;
 use ring_journal::{Batch, Fault, Medium, MemoryMedium};
 use ring_lines::DripOut;
 use ring_recovery::{Alarm, Recovered, recover};
-use ring_server::{JournalFault, Limits, Meter, Others, ProgramFault, Resumed, resume_loop};
+use ring_server::{Meter, Others, Resumed, resume_loop};
 use std::alloc::Global;
 use std::fs::{File, Files};
 use std::io::Read;

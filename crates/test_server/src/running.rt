@@ -1,8 +1,9 @@
 use crate::equal::equal;
 use crate::trial::{Idler, NoClients, client, listener, send_numbers};
+use ring_accept::{Acceptor, Limits, ProgramFault, attend_all};
 use ring_config::Config;
 use ring_lines::DripOut;
-use ring_server::{Door, Limits, Others, ProgramFault, attend_all, run_loop};
+use ring_server::{Others, run_loop};
 use std::io::Read;
 use std::net::{Net, SocketAddr, TcpListener, TcpStream};
 use std::process::Abort;
@@ -69,23 +70,28 @@ fn a_run_says_that_it_listens(rt: HostRuntime) {
     }
 }
 
-// The number of the guest that comes after this last one; `None` if the door is shut.
-fn next<R>(rt: &R, door: &mut Door<TcpListener>, address: SocketAddr, last: u32) -> Option<u32>
+// The number of the handler that comes after this last one; `None` if the acceptor is shut.
+fn next<R>(
+    rt: &R,
+    acceptor: &mut Acceptor<TcpListener>,
+    address: SocketAddr,
+    last: u32,
+) -> Option<u32>
 where
     R: Abort + Wait + Eprint + Clock + Net<Stream = TcpStream>,
 {
     drop(client(rt, address, b""));
-    door.last = last;
-    let (number, stream) = door.admit(rt)?;
+    acceptor.last = last;
+    let (number, stream) = acceptor.admit(rt)?;
     drop(stream);
     Some(number)
 }
 
-// A new door is shut, and is opened after the first client.
+// A new acceptor is shut, and is opened after the first client.
 #[test]
 fn a_door_numbers_its_guests(rt: HostRuntime) {
     let (listener, address) = listener(&rt);
-    let mut door = Door::new(listener);
+    let mut acceptor = Acceptor::new(listener);
     for (last, number) in [
         (0, None),
         (0, Some(1)),
@@ -93,51 +99,58 @@ fn a_door_numbers_its_guests(rt: HostRuntime) {
         (4_294_967_294, Some(4_294_967_295)),
         (4_294_967_295, Some(1)),
     ] {
-        let found = next(&rt, &mut door, address, last);
+        let found = next(&rt, &mut acceptor, address, last);
         equal(
             &rt,
-            "the last guest, and the next",
+            "the last handler, and the next",
             (last, found),
             (last, number),
         );
-        door.is_open = true;
+        acceptor.is_open = true;
     }
-    drop(door);
+    drop(acceptor);
 }
 
-// A guest at this door. Its seat is spent after `left` sessions, and their replies have places.
+// A handler at this acceptor. Its seat is spent after `left` sessions, and their replies have
+// places.
 fn idler<'a>(
     number: u32,
     left: u32,
     served: &'a Mutex<u32>,
-    door: &'a Mutex<Door<TcpListener>>,
+    acceptor: &'a Mutex<Acceptor<TcpListener>>,
 ) -> Idler<'a> {
     Idler {
         number,
         left,
         places: true,
         served,
-        door: Some(door),
+        acceptor: Some(acceptor),
     }
 }
 
-// Four clients come, one after another. A guest with a turn left stays. A spent one gives way to
+// Four clients come, one after another. A handler with a turn left stays. A spent one gives way to
 // the spare one, and stays if there is none. Each session is told places.
 #[test]
 fn a_spent_guest_gives_way_to_a_spare_one(rt: HostRuntime) {
     let (listener, address) = listener(&rt);
     send_numbers(&rt, address, 4);
-    let door = Mutex::new(Door::new(listener));
+    let acceptor = Mutex::new(Acceptor::new(listener));
     let served = Mutex::new(0);
-    let guests = vec![in rt.alloc(); idler(1, 2, &served, &door)].expect(&rt, "no guest");
-    let spare = vec![in rt.alloc(); idler(2, 1, &served, &door)].expect(&rt, "no spare guest");
+    let session_handlers = vec![in rt.alloc(); idler(1, 2, &served, &acceptor)].expect(
+        &rt,
+        "no handler",
+    );
+    let spare = vec![in rt.alloc(); idler(2, 1, &served, &acceptor)].expect(
+        &rt,
+        "no spare handler",
+    );
     let spare = Mutex::new(spare);
-    let attended = attend_all(&rt, &door, &spare, guests, ONE_SESSION);
+    let attended = attend_all(&rt, &acceptor, &spare, session_handlers, ONE_SESSION);
     drop(spare);
-    drop(door);
+    drop(acceptor);
     equal(
         &rt,
-        "guests",
+        "session_handlers",
         (attended, served.into_inner()),
         (Ok(()), 1122),
     );

@@ -2,8 +2,11 @@ ghost use Rattle.std.specs.Prelude.{◌≡◌, All};
 
 use crate::equal::equal;
 use crate::trial::{client, hear_all, listener};
+use ring_accept::ClientHandler;
 use ring_config::Config;
-use ring_server::{Front, Guest, Seat, Serving, Watch, close, front, guests, open, open_gated};
+use ring_server::{
+    Front, Seat, SessionHandler, Watch, close, front, open, open_gated, session_handlers,
+};
 use ring_table::Table;
 use ring_workers::{Gate, Pass};
 use std::net::{Net, OpenListener, Shutdown, TcpListener, TcpStream};
@@ -46,8 +49,8 @@ impl<R: Clock> Gate for LastItem<R> {
     fn leave(&self, _worker: usize, _turn: u64) {}
 }
 
-// Stops the test if a client is told something else that sends these lines to a guest.
-fn is_told<R>(rt: &R, guest: &mut Guest<'_>, lines: &[u8], told: &[u8])
+// Stops the test if a client is told something else that sends these lines to a handler.
+fn is_told<R>(rt: &R, handler: &mut SessionHandler<'_>, lines: &[u8], told: &[u8])
 where
     R: Abort + Wait + Clock + AllocGlobal + Net<Stream = TcpStream, Listener = TcpListener>,
 {
@@ -56,7 +59,7 @@ where
     client.shutdown(Shutdown::Write).expect(rt, "no end");
     let (stream, _) = listener.accept().expect(rt, "no session");
     drop(listener);
-    guest.serve(rt, 1, &stream, false);
+    handler.serve(rt, 1, &stream, false);
     drop(stream);
     let mut replies = Vec::new(rt.alloc());
     hear_all(rt, client, &mut replies);
@@ -64,7 +67,7 @@ where
     drop(replies);
 }
 
-// A guest of these seats serves a client for each of these pairs of lines and replies. The worker
+// A handler of these seats serves a client for each of these pairs of lines and replies. The worker
 // takes an item meanwhile.
 fn serves<R>(
     rt: &R,
@@ -78,15 +81,18 @@ where
     R: Abort + Wait + Clock + AllocGlobal + Net<Stream = TcpStream, Listener = TcpListener>,
     requires { All (λ seat. seat.lock ≡ front.now.id) seats.items }
 {
-    let mut all = guests(rt.alloc(), front, seats, 0, watch).expect(rt, "no guests");
-    let guest = all.pop();
+    let mut all = session_handlers(rt.alloc(), front, seats, 0, watch).expect(
+        rt,
+        "no session_handlers",
+    );
+    let handler = all.pop();
     drop(all);
-    let mut guest = guest.expect(rt, "no guest");
+    let mut handler = handler.expect(rt, "no handler");
     for &(lines, told) in asked {
-        is_told(rt, &mut guest, lines, told);
+        is_told(rt, &mut handler, lines, told);
         assert!(rt; has_come(rt, has_entered));
     }
-    drop(guest);
+    drop(handler);
 }
 
 /// How many begins wait for the one worker when a service is closed that has served such clients.

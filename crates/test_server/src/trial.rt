@@ -1,5 +1,5 @@
-//! Parts that tests of the server share: listeners, clients, and guests that note who served.
-use ring_server::{Door, Serving};
+//! Parts that tests of the server share: listeners, clients, and handlers that note who served.
+use ring_accept::{Acceptor, ClientHandler};
 use std::io;
 use std::io::{Read, Write};
 use std::net::{Ipv4Addr, Net, OpenListener, SocketAddr, TcpListener, TcpStream};
@@ -65,21 +65,21 @@ fn is_numbered(session: u32, stream: &TcpStream) -> bool {
     matches!(stream.read(&mut number), Ok(1)) && u32::from(number[0]) == session
 }
 
-/// A guest with a number, whose seat is spent after `left` sessions.
+/// A handler with a number, whose seat is spent after `left` sessions.
 ///
 /// It adds its number to the digits of those that served. It adds a 9 if a session has another
-/// number than its client, or if the session is told anything but `places`. If it has a door, it
-/// shuts that after the fourth session.
+/// number than its client, or if the session is told anything but `places`. If it has an acceptor,
+/// it shuts that after the fourth session.
 #[derive(Drop)]
 pub struct Idler<'a> {
     pub number: u32,
     pub left: u32,
     pub places: bool,
     pub served: &'a Mutex<u32>,
-    pub door: Option<&'a Mutex<Door<TcpListener>>>,
+    pub acceptor: Option<&'a Mutex<Acceptor<TcpListener>>>,
 }
 
-impl Serving for Idler<'_> {
+impl ClientHandler for Idler<'_> {
     fn is_spent(&self) -> bool {
         self.left == 0
     }
@@ -92,8 +92,8 @@ impl Serving for Idler<'_> {
         *served = served.saturating_mul(10).saturating_add(digit);
         let is_last = *served >= 1000;
         drop(served);
-        if let (true, Some(door)) = (is_last, self.door) {
-            door.lock(rt).is_open = false;
+        if let (true, Some(acceptor)) = (is_last, self.acceptor) {
+            acceptor.lock(rt).is_open = false;
         }
     }
 }

@@ -122,13 +122,13 @@ fn clients_and_failed_accepts_are_counted(rt: HostRuntime) {
     }
     let viewers = watch.beside(&rt).figures().viewers;
     equal(&rt, "viewers", viewers, Served { now: 0, limit: 5 });
-    let door = watch.heeded(NoClients);
+    let acceptor = watch.heeded(NoClients);
     for failed in 1..4 {
-        let has_failed = door.accept().is_err();
+        let has_failed = acceptor.accept().is_err();
         let counted = watch.beside(&rt).figures().failed_accepts;
         equal(&rt, "accepts", (has_failed, counted), (true, failed));
     }
-    drop(door);
+    drop(acceptor);
     drop(watch);
 }
 

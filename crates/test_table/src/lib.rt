@@ -9,6 +9,8 @@
 #![tactic(auto)]
 
 #[cfg(test)]
+mod batch_rows;
+#[cfg(test)]
 mod beginning_rows;
 #[cfg(test)]
 mod campaign_rows;

@@ -64,12 +64,12 @@ fn join_hundred<E: RingElection, R: Abort + Wait>(
     let mut places = with_room(rt, alloc, 100);
     for number in from..from.saturating_add(100) {
         if number % 10 == 1 {
-            lock.keep(&mut seat);
+            lock.hold(&mut seat);
         }
         let place = place_of(rt, lock, &mut seat, from, join(rt, number));
         assert!(rt; places.push(place).is_ok());
         if number % 10 == 0 {
-            lock.rest(&mut seat);
+            lock.release(&mut seat);
         }
     }
     (seat, places)
@@ -100,9 +100,9 @@ fn create<E: RingElection, R: Abort + Wait>(rt: &R, lock: &TurnLock<E>, seat: &m
     ensures { IsSameSeat seat.old seat.new }
 {
     let group = GroupName::from_bytes(b"a").expect(rt, "no name");
-    lock.keep(seat);
+    lock.hold(seat);
     let created = place_of(rt, lock, seat, 0, Command::Create(group, kind));
-    lock.rest(seat);
+    lock.release(seat);
     let after = place_of(rt, lock, seat, 0, join(rt, 250));
     equal(rt, "two places", (created, after), (1, 2));
 }

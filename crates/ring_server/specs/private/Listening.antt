@@ -1,8 +1,8 @@
 -- Clauses of inner functions that listen.
 use Rattle.std.specs.Prelude.{◌≡◌, ℕ, List}
 use Rattle.ring_lines.specs.Ends.{Writing, Wrote, WroteFront}
-use Rattle.ring_door.specs.declared.fault.ProgramFault.{ProgramFault}
-use Rattle.ring_door.specs.declared.fault.ProgramFault.TheVariants.{Accept, NoMemory, Thread, Write}
+use Rattle.ring_accept.specs.declared.fault.ProgramFault.{ProgramFault}
+use Rattle.ring_accept.specs.declared.fault.ProgramFault.TheVariants.{Accept, NoMemory, Thread, Write}
 
 -- The text that was written at a fault after the service was made. It is the first line, or a
 -- prefix of it at a failed write. If an allocation failed, it is nothing.

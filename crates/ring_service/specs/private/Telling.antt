@@ -5,8 +5,8 @@ use Rattle.std.specs.declared.sync.Arc.{Arc}
 use Rattle.ring_any.specs.declared.any.Any.{Any}
 use Rattle.ring_inbox.specs.Values.{SenderLog}
 use Rattle.ring_node.specs.declared.charter.Charter.{Charter}
-use Rattle.ring_service.specs.declared.posts.Waiting.{Waiting}
-use Rattle.ring_service.specs.private.Posts.{Tries, begins_from}
+use Rattle.ring_service.specs.declared.pending.Waiting.{Waiting}
+use Rattle.ring_service.specs.private.PendingBegins.{Tries, begins_from}
 use Rattle.ring_table.specs.Accesses.{BeginsAtSeat}
 use Rattle.ring_table.specs.declared.access.Answer.{Answer}
 use Rattle.ring_table.specs.declared.entry.Entry.{Entry}

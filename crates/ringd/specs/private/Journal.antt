@@ -1,8 +1,8 @@
 -- The program's faults for a place and for a recovery.
 use Rattle.std.specs.Prelude.{◌≡◌, List, ℕ}
-use Rattle.ring_door.specs.declared.fault.JournalFault.TheVariants as journal
-use Rattle.ring_door.specs.declared.fault.ProgramFault.{ProgramFault}
-use Rattle.ring_door.specs.declared.fault.ProgramFault.TheVariants.{Journal, NoMemory}
+use Rattle.ring_accept.specs.declared.fault.JournalFault.TheVariants as journal
+use Rattle.ring_accept.specs.declared.fault.ProgramFault.{ProgramFault}
+use Rattle.ring_accept.specs.declared.fault.ProgramFault.TheVariants.{Journal, NoMemory}
 use Rattle.ring_file.specs.declared.place.PlaceFault.{PlaceFault}
 use Rattle.ring_file.specs.declared.place.PlaceFault.TheVariants as place
 use Rattle.ring_recovery.specs.declared.fault.RecoverFault.{RecoverFault}

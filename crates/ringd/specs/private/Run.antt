@@ -2,9 +2,9 @@
 use Rattle.std.specs.Prelude.{◌≡◌, ◌⊎◌, ℕ, Result, Ok, Err}
 use Rattle.ring_lines.specs.Ends.{Reading, Writing}
 use Rattle.ring_lines.specs.declared.answers.LineFault.{LineFault}
-use Rattle.ring_door.specs.Faults.{told_as}
-use Rattle.ring_door.specs.declared.fault.ProgramFault.{ProgramFault}
-use Rattle.ring_door.specs.declared.fault.ProgramFault.TheVariants.{Bad, NoMemory, Unreadable}
+use Rattle.ring_accept.specs.Faults.{told_as}
+use Rattle.ring_accept.specs.declared.fault.ProgramFault.{ProgramFault}
+use Rattle.ring_accept.specs.declared.fault.ProgramFault.TheVariants.{Bad, NoMemory, Unreadable}
 use Rattle.ring_schedule.specs.Replay.{Replays}
 use Rattle.ringd.specs.Run.{SpellsNone}
 

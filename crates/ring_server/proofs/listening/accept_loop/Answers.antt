@@ -1,5 +1,5 @@
 use Rattle.std.proofs.Common.{◌≡◌, ◌∙◌}
-use Rattle.ring_door.specs.Telling.{closed_line}
+use Rattle.ring_accept.specs.Telling.{closed_line}
 use Rattle.ring_server.proofs.Telling.{both_at, both_told}
 use Rattle.ring_server.proofs.listening.accept_loop.Goals as goal
 

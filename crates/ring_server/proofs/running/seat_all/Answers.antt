@@ -1,10 +1,10 @@
 use denote.Param.{param}
 use denote.Param.Send.{param_send}
 use mir.Syntax.{named}
-use Rattle.ring_server.proofs.Crossing.{guest_send}
+use Rattle.ring_server.proofs.Crossing.{handler_send}
 use Rattle.ring_server.proofs.running.seat_all.Goals as goal
 
--- guests may go to threads
+-- session handlers may go to threads
 pub attend_all-requires-send-G : goal.attend_all-requires-send-G
 attend_all-requires-send-G g c κs within =
-    let send = param_send 2 _ (guest_send (param 2 g.row.T) g.T.Tabled (record { mir = named 5; lft = κs.1.1.1.1.1.0 }) c.type_bounds.send-T) in record { owned = send.owned; leaving = send.leaving }
+    let send = param_send 2 _ (handler_send (param 2 g.row.T) g.T.Tabled (record { mir = named 5; lft = κs.1.1.1.1.1.0 }) c.type_bounds.send-T) in record { owned = send.owned; leaving = send.leaving }

@@ -13,9 +13,9 @@ returns-clause-senders c =
     let long : length c.in-Ok-open.mesh.senders.items ≡ length c.in-Ok-open.mesh.receivers.items = omega (arith, c.in-Ok-open.ensures.senders, c.in-Ok-open.ensures.receivers, c.in-Ok-open.mesh.senders.ok.0, c.in-Ok-open.mesh.receivers.ok.0) in
     senders_left c.args.workers c.in-Ok-open.mesh.receivers.items c.in-Ok-open.mesh.senders.items c.take_last.new.inboxes.items c.in-Ok-take_last.passes.items long c.in-Ok-open.ensures.left c.in-Ok-take_last.ensures.lasts
 
-pub returns-clause-posts : goal.returns-clause-posts
-returns-clause-posts c =
+pub returns-clause-pending : goal.returns-clause-pending
+returns-clause-pending c =
     let long : length c.in-Ok-open.mesh.senders.items ≡ length c.in-Ok-open.mesh.receivers.items = omega (arith, c.in-Ok-open.ensures.senders, c.in-Ok-open.ensures.receivers, c.in-Ok-open.mesh.senders.ok.0, c.in-Ok-open.mesh.receivers.ok.0) in
     let count : length c.in-Ok-take_last.passes.items ≡ length c.in-Ok-open.mesh.receivers.items = omega (arith, c.in-Ok-take_last.ensures.one, long, c.in-Ok-open.mesh.senders.ok.0, c.in-Ok-take_last.passes.ok.0) in
-    ap (λ passes. passes.items) c.new-posts.ensures.passes
+    ap (λ passes. passes.items) c.new-pending.ensures.passes
     ∙ taken_all c.args.workers c.in-Ok-open.mesh.receivers.items c.in-Ok-open.mesh.senders.items c.take_last.new.inboxes.items c.in-Ok-take_last.passes.items long count c.in-Ok-open.ensures.left c.in-Ok-take_last.ensures.lasts

@@ -8,7 +8,7 @@ use Rattle.ring_any.specs.declared.any.Any.{Any}
 use Rattle.ring_any.specs.declared.any.AnyMsg.{AnyMsg}
 use Rattle.ring_any.specs.declared.any.AnyState.{AnyState}
 use Rattle.ring_inbox.specs.Values.{ReceiverLog, fresh_sender}
-use Rattle.ring_service.specs.private.Crews.{StartsOne}
+use Rattle.ring_service.specs.private.Pools.{StartsOne}
 use Rattle.ring_service.specs.private.Meshes.{SendersOf}
 use Rattle.ring_service.proofs.Manning.{manned_more}
 use Rattle.ring_service.proofs.Meshing.{senders_counted, senders_left, taken_all, takes_receiver}
@@ -25,9 +25,9 @@ loop-seat-preserved g c =
     let within : c.len-number.result < length c.args.mesh.now.receivers.items = omega (arith, next, c.loop-seat.invariant.few, c.len-workers.ensures, c.requires.receivers, c.args.mesh.now.receivers.ok.0) in
     let front : c.loop-seat.mesh.receivers.items ≡ take (c.len-number.result + 1) c.args.mesh.now.receivers.items = subst (λ (n : ℕ). c.loop-seat.mesh.receivers.items ≡ take n c.args.mesh.now.receivers.items) next c.loop-seat.invariant.receivers in
     let own = takes_receiver c.args.mesh.now.receivers.items c.loop-seat.mesh.receivers.items c.pop-in-Some.new.self.items c.unwrap.result c.len-number.result front (rw c.unwrap.ensures at c.pop-in-Some.ensures.items) within in
-    let starts : StartsOne c.args.mesh.now.receivers.items c.new.result.owner.number c.loop-seat.crew.threads.items c.start.new.self.threads.items =
-    subst (λ (v : Vec (ReceiverLog (Item Any AnyMsg AnyState)) Global). StartsOne v.items c.new.result.owner.number c.loop-seat.crew.threads.items c.start.new.self.threads.items) c.of-inboxes.ensures c.in_ok-start.ensures.started in
-    let longer : length c.start.new.self.threads.items ≡ length c.loop-seat.crew.threads.items + 1 = ap length starts.added ∙ length-append c.loop-seat.crew.threads.items (starts.thread ∷ []) in
+    let starts : StartsOne c.args.mesh.now.receivers.items c.new.result.owner.number c.loop-seat.pool.threads.items c.start.new.self.threads.items =
+    subst (λ (v : Vec (ReceiverLog (Item Any AnyMsg AnyState)) Global). StartsOne v.items c.new.result.owner.number c.loop-seat.pool.threads.items c.start.new.self.threads.items) c.of-inboxes.ensures c.in_ok-start.ensures.started in
+    let longer : length c.start.new.self.threads.items ≡ length c.loop-seat.pool.threads.items + 1 = ap length starts.added ∙ length-append c.loop-seat.pool.threads.items (starts.thread ∷ []) in
     record {
       receivers = subst (λ (n : ℕ). c.pop-in-Some.new.self.items ≡ take n c.args.mesh.now.receivers.items) left own.0;
       inboxes = c.take_last.ensures.count ∙ c.loop-seat.invariant.inboxes;
@@ -35,9 +35,9 @@ loop-seat-preserved g c =
           (senders_left c.len-number.result c.args.mesh.now.receivers.items c.loop-seat.mesh.senders.items c.take_last.new.inboxes.items c.in-Ok-take_last.senders.items long all c.in-Ok-take_last.ensures.lasts);
       few = omega (arith, c.in-Some.ensures.len, c.loop-seat.invariant.few);
       seats = (All-pop (g.A.Access.has_seat c.args.access.now.value) c.loop-seat.seats.items c.pop.new.self.items c.pop.result c.pop.ensures.items c.loop-seat.invariant.seats).0;
-      manned = manned_more c.args.mesh.now.receivers.items c.new.result.owner.number c.loop-seat.crew.threads.items c.start.new.self.threads.items c.loop-seat.invariant.manned starts
-          (omega (arith, c.new.ensures.number, next, c.loop-seat.invariant.started, c.loop-seat.crew.threads.ok.0, c.len-workers.ensures, c.requires.receivers, c.args.mesh.now.receivers.ok.0));
-      started = omega (arith, longer, c.start.new.self.threads.ok.0, c.loop-seat.crew.threads.ok.0, c.in-Some.ensures.len, c.loop-seat.invariant.started);
+      manned = manned_more c.args.mesh.now.receivers.items c.new.result.owner.number c.loop-seat.pool.threads.items c.start.new.self.threads.items c.loop-seat.invariant.manned starts
+          (omega (arith, c.new.ensures.number, next, c.loop-seat.invariant.started, c.loop-seat.pool.threads.ok.0, c.len-workers.ensures, c.requires.receivers, c.args.mesh.now.receivers.ok.0));
+      started = omega (arith, longer, c.start.new.self.threads.ok.0, c.loop-seat.pool.threads.ok.0, c.in-Some.ensures.len, c.loop-seat.invariant.started);
       threads = omega (arith, c.start.ensures.room.0, c.loop-seat.invariant.threads);
       handed = omega (arith, c.start.ensures.room.1, c.loop-seat.invariant.handed);
     }

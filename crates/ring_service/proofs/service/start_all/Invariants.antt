@@ -1,5 +1,5 @@
 use Rattle.std.proofs.Common.{◌≡◌, ◌+◌, ◌≤◌, All, take, vec_len, vec_capacity}
-use Rattle.ring_service.specs.private.Crews.{IsManned}
+use Rattle.ring_service.specs.private.Pools.{IsManned}
 use Rattle.ring_service.specs.private.Meshes.{SendersOf}
 use Rattle.ring_service.proofs.service.start_all.Given as goal
 
@@ -12,10 +12,10 @@ invariant-loop-seat g l = record {
   senders : SendersOf (vec_len l.seats) l.fn.mesh.receivers.items l.mesh.senders.items;
   few : vec_len l.seats ≤ l.workers;
   seats : All (g.A.Access.has_seat l.access.value) l.seats.items;
-  manned : IsManned l.fn.mesh.receivers.items l.crew.threads.items;
-  started : vec_len l.crew.threads + vec_len l.seats ≡ l.workers;
-  threads : l.workers ≤ vec_capacity l.crew.threads;
-  handed : l.workers ≤ vec_capacity l.crew.handed;
+  manned : IsManned l.fn.mesh.receivers.items l.pool.threads.items;
+  started : vec_len l.pool.threads + vec_len l.seats ≡ l.workers;
+  threads : l.workers ≤ vec_capacity l.pool.threads;
+  handed : l.workers ≤ vec_capacity l.pool.handed;
 }
 
 abbrev pub decreases-loop-seat : goal.decreases-loop-seat

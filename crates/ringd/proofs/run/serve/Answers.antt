@@ -1,5 +1,5 @@
 use Rattle.std.proofs.Common.{◌≡◌, ◌∙◌}
-use Rattle.ring_door.specs.Telling.{closed_line}
+use Rattle.ring_accept.specs.Telling.{closed_line}
 use Rattle.ringd.proofs.Telling.{served_told}
 use Rattle.ringd.specs.Run.{first_line}
 use Rattle.ringd.proofs.run.serve.Goals as goal

@@ -1,4 +1,4 @@
-use Rattle.ring_door.specs.Telling.{closed_line}
+use Rattle.ring_accept.specs.Telling.{closed_line}
 use Rattle.ringd.proofs.Telling.{all_served}
 use Rattle.ringd.proofs.run.serve_at.Goals as goal
 

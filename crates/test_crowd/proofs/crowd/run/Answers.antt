@@ -14,4 +14,4 @@ new-requires-2-clause-seats g c κs within =
 pub answered-told-requires-clause-seats : goal.answered-told-requires-clause-seats
 answered-told-requires-clause-seats g c κs within =
     let others = subst (All (g.A.Access.has_seat c.args.access)) (sym c.in-Ok.ensures.tail) (All-drop (g.A.Access.has_seat c.args.access) 4 c.args.seats.items c.requires.seats) in
-    subst (λ access. All (g.A.Access.has_seat access) c.in-Ok.guests.items) (sym (c.front.ensures ∙ c.in-Ok-new-2.ensures ∙ c.in-Ok-new.ensures.ok)) others
+    subst (λ access. All (g.A.Access.has_seat access) c.in-Ok.callers.items) (sym (c.front.ensures ∙ c.in-Ok-new-2.ensures ∙ c.in-Ok-new.ensures.ok)) others

@@ -3,4 +3,4 @@ use Rattle.ring_service.proofs.Manning.{all_hand}
 use Rattle.ring_service.proofs.service.Service.close.Goals as goal
 
 pub returns-clause-handed : goal.returns-clause-handed
-returns-clause-handed g c = all_hand c.self.inside.crew.threads.items c.end.result.handed.items c.self.invariant c.end.ensures.handed
+returns-clause-handed g c = all_hand c.self.inside.pool.threads.items c.end.result.handed.items c.self.invariant c.end.ensures.handed

@@ -1,8 +1,0 @@
-use Rattle.std.proofs.Common.{◌≡◌, true}
-use Rattle.ring_door.proofs.door.Door.accept.Given as goal
-
--- the number and whether the door is open are unchanged, and a report that was made stays made
-abbrev pub invariant-loop : goal.invariant-loop
-invariant-loop g l =
-    (goal.iterator-loop g).can_next l.iterator' × (goal.iterator-loop g).is_finite l.iterator' × (l.self.last ≡ l.fn.self.last) × (l.self.is_open ≡ l.fn.self.is_open)
-    × (l.fn.self.has_told ≡ true → l.self.has_told ≡ true)
