@@ -214,6 +214,9 @@ def lacks_memory(library, program, number, spared=()):
     journal = text_of([*changes, *spared]) + TORN + bytes(ZEROS)
     with serving(library, program, ["run"], f"run, growth {number}", journal=journal, growth=number) as server:
         begun = server.listening() if server.listens() else b""
+        if server.told():
+            with contextlib.suppress(subprocess.TimeoutExpired):
+                server.run.wait(timeout=MOMENT)
         was_there, out, error = server.is_ended_by_us()
         lacked = not was_there and server.told() and server.run.returncode == 1 and error in LACKING
         if out != begun or not (lacked or (was_there and begun and not error)):
