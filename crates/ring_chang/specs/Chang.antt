@@ -1,6 +1,6 @@
 -- The algorithm of Chang and Roberts as a table, and the messages that fit its links (Lynch,
 -- Distributed Algorithms, 3.3 and 15.1.1: the LCR algorithm, AsynchLCR).
-use Rattle.std.specs.Prelude.{◌≡◌, ◌*◌, ◌==◌, ℕ, cond, nat_lt, List, [], ◌∷◌, Some, None, slice_get}
+use Rattle.std.specs.Prelude.{◌≡◌, ◌*◌, ◌==◌, ℕ, if◌then◌else◌, nat_lt, List, [], ◌∷◌, Some, None, slice_get}
 use Rattle.ring_id.specs.declared.side.Side.{Side}
 use Rattle.ring_id.specs.declared.side.Side.TheVariants.{Left, Right}
 use Rattle.ring_roster.specs.Ring.{leftward}
@@ -14,12 +14,12 @@ chang_first me = record { me = me; decided = None }
 
 -- it decides on itself if its own identity comes back
 abbrev pub chang_next : ChangState → Side → ℕ → ChangState
-chang_next s Left v = cond (v == s.me) (record s { decided = Some s.me }) s
+chang_next s Left v = if v == s.me then record s { decided = Some s.me } else s
 chang_next s Right v = s
 
 -- it passes on identities that are greater than its own
 abbrev pub chang_sends : ChangState → Side → ℕ → Sends ℕ
-chang_sends s Left v = cond (nat_lt s.me v) (rightward v) (nothing ℕ)
+chang_sends s Left v = if nat_lt s.me v then rightward v else nothing ℕ
 chang_sends s Right v = nothing ℕ
 
 -- the table: a node starts by sending its own identity, and nothing goes to the left
@@ -36,7 +36,7 @@ chang_table =
 -- of identities read in this order, those that are greater than m and than all read before them
 abbrev pub records_above : ℕ → List ℕ → List ℕ
 records_above m [] = []
-records_above m (x ∷ xs) = cond (nat_lt m x) (x ∷ records_above x xs) (records_above m xs)
+records_above m (x ∷ xs) = if nat_lt m x then x ∷ records_above x xs else records_above m xs
 
 -- of identities read in this order, those that are greater than all read before them
 abbrev pub records : List ℕ → List ℕ

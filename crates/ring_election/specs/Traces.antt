@@ -1,7 +1,7 @@
 -- The trace of a node: its state, and its messages to each side, after a list of receipts. It is
 -- the table folded over the list (Lynch, Distributed Algorithms, 2.1 and 14.1: the states and
 -- outputs of one process). The code keeps one state and forgets the list.
-use Rattle.std.specs.Prelude.{ℕ, cond, List, [], ◌∷◌, ◌++◌, Option, Some, None}
+use Rattle.std.specs.Prelude.{ℕ, if◌then◌else◌, List, [], ◌∷◌, ◌++◌, Option, Some, None}
 use Rattle.ring_id.specs.declared.side.Side.{Side}
 use Rattle.ring_id.specs.Sides.{same_side}
 use Rattle.ring_election.specs.Tables.{Table, to_side}
@@ -34,4 +34,4 @@ sent_after t me side receipts =
 -- all messages that it has taken from a side
 abbrev pub taken_from : {M : Type 0} → Side → List (Side × M) → List M
 taken_from side [] = []
-taken_from side (r ∷ rs) = cond (same_side side r.0) (r.1 ∷ taken_from side rs) (taken_from side rs)
+taken_from side (r ∷ rs) = if same_side side r.0 then r.1 ∷ taken_from side rs else taken_from side rs

@@ -1,11 +1,11 @@
 -- The spelling of identities and of nodes' numbers. A node that joins is spelled by its whole
 -- identity, and a node that is a member by its number.
-use Rattle.std.specs.Prelude.{◌<◌, ◌^◌, ◌==◌, ◌++◌, ℕ, List, [], cond, codes, decimal}
+use Rattle.std.specs.Prelude.{◌<◌, ◌^◌, ◌==◌, ◌++◌, ℕ, List, [], if◌then◌else◌, codes, decimal}
 use Rattle.ring_id.specs.Identity.{number_of, weight_of}
 
 -- a weight is spelled after a slash, and the weight 0 is not spelled
 abbrev pub weight_text : ℕ → List ℕ
-weight_text weight = cond (weight == 0) [] (codes "/" ++ decimal weight)
+weight_text weight = if weight == 0 then [] else codes "/" ++ decimal weight
 
 -- an identity, given its rank, is spelled by its number and its weight
 abbrev pub node_word : ℕ → List ℕ

@@ -1,6 +1,6 @@
 -- The Hirschberg-Sinclair algorithm without rounds (Lynch, Distributed Algorithms, 3.4): its table,
 -- the messages that may be on a link, its winner and the bound on its work.
-use Rattle.std.specs.Prelude.{◌≡◌, ◌+◌, ◌-◌, ◌*◌, ◌^◌, ◌<◌, ◌≤◌, ◌==◌, ℕ, zero, suc, cond, min, nat_lt, List, length, Some, None, slice_get, Option}
+use Rattle.std.specs.Prelude.{◌≡◌, ◌+◌, ◌-◌, ◌*◌, ◌^◌, ◌<◌, ◌≤◌, ◌==◌, ℕ, zero, suc, if◌then◌else◌, min, nat_lt, List, length, Some, None, slice_get, Option}
 use Rattle.ring_id.specs.declared.side.Side.{Side}
 use Rattle.ring_id.specs.declared.side.Side.TheVariants.{Left, Right}
 use Rattle.ring_id.specs.Sides.{other}
@@ -26,7 +26,7 @@ phase s = min s.left s.right
 
 -- a count of tokens come home, raised by one; it stays at 16
 abbrev pub risen : ℕ → ℕ
-risen count = cond (nat_lt count 16) (count + 1) count
+risen count = if nat_lt count 16 then count + 1 else count
 
 -- one more own token came home from that side
 abbrev pub counted : HirschbergState → Side → HirschbergState
@@ -44,30 +44,30 @@ hirschberg_first_sends me = to_both (Out me 1)
 -- The state after a receipt. A node decides on itself if its own token reaches it on the way out.
 -- It counts its own tokens that come home. Nothing else changes it.
 abbrev pub hirschberg_next : HirschbergState → Side → HirschbergMsg → HirschbergState
-hirschberg_next s side (Out v hops) = cond (v == s.me) (record s { decided = Some s.me }) s
-hirschberg_next s side (Back v) = cond (v == s.me) (counted s side) s
+hirschberg_next s side (Out v hops) = if v == s.me then record s { decided = Some s.me } else s
+hirschberg_next s side (Back v) = if v == s.me then counted s side else s
 
 -- The next step of a greater token that came from that side with this many hops left. It goes on
 -- with one hop less, is turned at its last hop, or is dropped if it has no hop left.
 abbrev pub passed : Side → ℕ → ℕ → Sends HirschbergMsg
 passed side v hops =
-    cond (nat_lt 1 hops) (one_to (other side) (Out v (hops - 1)))
-    (cond (hops == 1) (one_to side (Back v)) (nothing HirschbergMsg))
+    if nat_lt 1 hops then one_to (other side) (Out v (hops - 1))
+    else if hops == 1 then one_to side (Back v) else nothing HirschbergMsg
 
 -- a node that comes to phase l sends its token 2 ^ l hops to both sides
 abbrev pub new_token : HirschbergState → HirschbergState → Sends HirschbergMsg
 new_token old new =
-    cond (nat_lt (phase old) (phase new)) (to_both (Out old.me (2 ^ phase new)))
-    (nothing HirschbergMsg)
+    if nat_lt (phase old) (phase new) then to_both (Out old.me (2 ^ phase new))
+    else nothing HirschbergMsg
 
 -- The messages sent because of a receipt. Smaller nodes pass a token on its way out, and greater
 -- ones drop it. All nodes but its own pass a token on its way home.
 abbrev pub hirschberg_sends : HirschbergState → Side → HirschbergMsg → Sends HirschbergMsg
 hirschberg_sends s side (Out v hops) =
-    cond (v == s.me) (nothing HirschbergMsg)
-    (cond (nat_lt s.me v) (passed side v hops) (nothing HirschbergMsg))
+    if v == s.me then nothing HirschbergMsg
+    else if nat_lt s.me v then passed side v hops else nothing HirschbergMsg
 hirschberg_sends s side (Back v) =
-    cond (v == s.me) (new_token s (counted s side)) (one_to (other side) (Back v))
+    if v == s.me then new_token s (counted s side) else one_to (other side) (Back v)
 
 -- the decision of a state
 abbrev pub hirschberg_decided : HirschbergState → Option ℕ
@@ -105,7 +105,7 @@ hirschberg_fits ring i side k m = allows ring i side m
 
 -- an exponent, raised by one if its power of two is below n
 abbrev pub raised : ℕ → ℕ → ℕ
-raised n e = cond (nat_lt (2 ^ e) n) (e + 1) e
+raised n e = if nat_lt (2 ^ e) n then e + 1 else e
 
 -- the least exponent up to k whose power of two is not below n, or k
 abbrev pub least_power : ℕ → ℕ → ℕ

@@ -1,6 +1,6 @@
 -- The most messages of an election, and the most members that come to a phase, as laws that a
 -- function's contract names.
-use Rattle.std.specs.Prelude.{◌≤◌, ◌+◌, ◌*◌, ◌^◌, ℕ, zero, suc, cond, nat_le, List, length}
+use Rattle.std.specs.Prelude.{◌≤◌, ◌+◌, ◌*◌, ◌^◌, ℕ, zero, suc, if◌then◌else◌, nat_le, List, length}
 use Rattle.std.proofs.Common.{get_or}
 use Rattle.ring_id.specs.declared.side.Side.{Side}
 use Rattle.ring_roster.specs.Ring.{IsRing}
@@ -17,7 +17,7 @@ phase_at ring family i = phase (state_after hirschberg_table (get_or ring i 0) (
 abbrev pub reaching : List ℕ → (ℕ → List (Side × HirschbergMsg)) → ℕ → ℕ → ℕ
 reaching ring family l zero = 0
 reaching ring family l (suc n) =
-    reaching ring family l n + cond (nat_le l (phase_at ring family n)) 1 0
+    reaching ring family l n + (if nat_le l (phase_at ring family n) then 1 else 0)
 
 -- In a sound family, fitting or not, at most n / (2^k + 1) of n members come to phase k + 1.
 abbrev pub PhasesAreRare : Type 0

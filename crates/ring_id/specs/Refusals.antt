@@ -1,4 +1,4 @@
-use Rattle.std.specs.Prelude.{◌≡◌, ℕ, Bool, true, cond, List, Option, Some, None, codes}
+use Rattle.std.specs.Prelude.{◌≡◌, ℕ, Bool, true, if◌then◌else◌, List, Option, Some, None, codes}
 use Rattle.ring_id.specs.declared.refusal.Refusal.{Refusal}
 use Rattle.ring_id.specs.declared.refusal.Refusal.TheVariants.{BadLine, NoGroup, Exists, GroupLimit, Member, NotMember, RingFull, Empty, TermLimit, NoTerm, NotInTerm, OneWay, NoMemory, SeatSpent}
 
@@ -38,7 +38,7 @@ word_in_table SeatSpent = codes "seat-spent"
 
 -- this refusal if the test holds, otherwise the first of the rest
 abbrev pub refused_if : Bool → Refusal → Option Refusal → Option Refusal
-refused_if test refusal rest = cond test (Some refusal) rest
+refused_if test refusal rest = if test then Some refusal else rest
 
 -- this refusal if there is no value, otherwise the refusal that the value gives
 abbrev pub unless_some : {A : Type 0} → Option A → Refusal → (A → Option Refusal) → Option Refusal

@@ -1,6 +1,6 @@
 -- LeLann's algorithm as a table (LeLann, Distributed systems: towards a formal approach, IFIP
 -- 1977), and the messages on its links.
-use Rattle.std.specs.Prelude.{◌≡◌, ◌*◌, ◌==◌, ℕ, cond, List, [], ◌∷◌, ◌++◌, Option, Some, None, unwrap_or, slice_get}
+use Rattle.std.specs.Prelude.{◌≡◌, ◌*◌, ◌==◌, ℕ, if◌then◌else◌, List, [], ◌∷◌, ◌++◌, Option, Some, None, unwrap_or, slice_get}
 use Rattle.ring_id.specs.declared.side.Side.{Side}
 use Rattle.ring_id.specs.declared.side.Side.TheVariants.{Left, Right}
 use Rattle.ring_roster.specs.Ring.{greatest_of, leftward}
@@ -27,12 +27,12 @@ with_decision s = record s { decided = Some (unwrap_or s.decided (greatest_of (s
 
 -- the state after a receipt: the own identity decides, another's is added to those seen
 abbrev pub lelann_next : Knowledge → Side → ℕ → Knowledge
-lelann_next s Left v = cond (v == s.me) (with_decision s) (with_seen s v)
+lelann_next s Left v = if v == s.me then with_decision s else with_seen s v
 lelann_next s Right v = s
 
 -- the messages sent because of it: another's identity is passed on
 abbrev pub lelann_sends : Knowledge → Side → ℕ → Sends ℕ
-lelann_sends s Left v = cond (v == s.me) (nothing ℕ) (rightward v)
+lelann_sends s Left v = if v == s.me then nothing ℕ else rightward v
 lelann_sends s Right v = nothing ℕ
 
 -- the table of the algorithm

@@ -1,7 +1,7 @@
 -- The runs of a mux below the election object: which journals an event changes, which link it cuts,
 -- and what the numbers in its reply count. All events except a start, a delivery, a cut and a drain
 -- leave all worlds as they are.
-use Rattle.std.specs.Prelude.{◌≡◌, ◌<◌, ℕ, Bool, false, cond, List, [], ◌∷◌, Some}
+use Rattle.std.specs.Prelude.{◌≡◌, ◌<◌, ℕ, Bool, false, if◌then◌else◌, List, [], ◌∷◌, Some}
 use Rattle.std.specs.Str.{bytes_eq}
 use Rattle.ring_id.specs.declared.refusal.Refusal.TheVariants.{NoMemory}
 use Rattle.ring_id.specs.declared.side.Side.{Side}
@@ -30,7 +30,7 @@ use Rattle.ring_mux.specs.Views.{Held, IsHeld, IsPendingIn, world_in}
 pub record BeginsWorld {E M : Type 0} (name : List ℕ) (old new : Held E M) : Type 0 where
   pub charter : Charter E
   pub started : OfGroup name (λ group. running_charter name group ≡ Some charter) new.object
-  pub worlds : (other : List ℕ) → world_in other new.worlds ≡ cond (bytes_eq name other) (Some (begun_of charter)) (world_in other old.worlds)
+  pub worlds : (other : List ℕ) → world_in other new.worlds ≡ if bytes_eq name other then Some (begun_of charter) else world_in other old.worlds
 
 -- start: the term in the reply has its new world
 abbrev pub StartOfWorlds : {E M : Type 0} → List ℕ → Held E M → Reply → Held E M → Type 0

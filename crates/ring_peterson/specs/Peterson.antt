@@ -1,6 +1,6 @@
 -- Peterson's election as a table (PetersonLeader; Lynch, Distributed Algorithms, 15.1.3). Lynch's
 -- uid(1), uid(2) and uid(3) are `uid1`, `uid2` and the message that comes when `uid2` is there.
-use Rattle.std.specs.Prelude.{ℕ, Bool, false, cond, nat_lt, ◌==◌, ◌&&◌, ◌||◌, Option, Some, None}
+use Rattle.std.specs.Prelude.{ℕ, Bool, false, if◌then◌else◌, nat_lt, ◌==◌, ◌&&◌, ◌||◌, Option, Some, None}
 use Rattle.ring_id.specs.declared.side.Side.{Side}
 use Rattle.ring_id.specs.declared.side.Side.TheVariants.{Left, Right}
 use Rattle.ring_election.specs.declared.sends.Sends.{Sends}
@@ -21,12 +21,12 @@ is_peak own second third = nat_lt own second && nat_lt third second
 -- If the second is the greatest, it takes the second over; otherwise it becomes a relay.
 abbrev pub third_next : PetersonState → ℕ → ℕ → PetersonState
 third_next s second third =
-    cond (is_peak s.uid1 second third) (record s { uid1 = second; uid2 = None })
-    (record s { mode = Relay })
+    if is_peak s.uid1 second third then record s { uid1 = second; uid2 = None }
+    else record s { mode = Relay }
 
 -- it sends the value that it took over
 abbrev pub third_sends : PetersonState → ℕ → ℕ → Sends ℕ
-third_sends s second third = cond (is_peak s.uid1 second third) (rightward second) (nothing ℕ)
+third_sends s second third = if is_peak s.uid1 second third then rightward second else nothing ℕ
 
 -- An active node without a second value keeps this one. If this is its own value, it is chosen.
 abbrev pub active_next : PetersonState → Option ℕ → ℕ → PetersonState
@@ -60,7 +60,7 @@ peterson_sends s Right v = nothing ℕ
 
 -- a chosen node decides on itself, whichever value it holds
 abbrev pub peterson_decided : PetersonState → Option ℕ
-peterson_decided s = cond s.chosen (Some s.me) None
+peterson_decided s = if s.chosen then Some s.me else None
 
 -- the table
 abbrev pub peterson_table : Table PetersonState ℕ

@@ -1,7 +1,7 @@
 -- The rounds of Peterson's election (Lynch, Distributed Algorithms, 15.1.3), the messages of each
 -- link, the winner and the bound. Lynch's phases are read here as whole rounds of the ring. The
 -- code sees one message at a time.
-use Rattle.std.specs.Prelude.{◌≡◌, ◌+◌, ◌*◌, ◌^◌, ◌≤◌, ℕ, zero, suc, Bool, cond, nat_lt, ◌&&◌, List, [], ◌∷◌, ◌++◌, length, reverse, slice_index, Option, Some, None}
+use Rattle.std.specs.Prelude.{◌≡◌, ◌+◌, ◌*◌, ◌^◌, ◌≤◌, ℕ, zero, suc, Bool, if◌then◌else◌, nat_lt, ◌&&◌, List, [], ◌∷◌, ◌++◌, length, reverse, slice_index, Option, Some, None}
 use Rattle.ring_id.specs.declared.side.Side.{Side}
 use Rattle.ring_id.specs.declared.side.Side.TheVariants.{Left, Right}
 use Rattle.ring_roster.specs.Ring.{IsRing}
@@ -23,12 +23,12 @@ first_round ring = numbered 0 ring
 abbrev pub values_below : ℕ → Round → List ℕ
 values_below p [] = []
 values_below p ((q, v) ∷ round) =
-    cond (nat_lt q p) (v ∷ values_below p round) (values_below p round)
+    if nat_lt q p then v ∷ values_below p round else values_below p round
 
 -- the values at position p and above
 abbrev pub values_from : ℕ → Round → List ℕ
 values_from p [] = []
-values_from p ((q, v) ∷ round) = cond (nat_lt q p) (values_from p round) (v ∷ values_from p round)
+values_from p ((q, v) ∷ round) = if nat_lt q p then values_from p round else v ∷ values_from p round
 
 -- the values met from just left of position p on, walking to the left, all round
 abbrev pub leftwards : Round → ℕ → List ℕ
@@ -62,8 +62,8 @@ stays_active v two = nat_lt v two.last && nat_lt two.before two.last
 abbrev pub staying : Round → Round → Round
 staying whole [] = []
 staying whole ((q, v) ∷ round) =
-    cond (stays_active v (two_left whole q)) ((q, (two_left whole q).last) ∷ staying whole round)
-    (staying whole round)
+    if stays_active v (two_left whole q) then (q, (two_left whole q).last) ∷ staying whole round
+    else staying whole round
 
 -- the next round; after a round of one it is empty
 abbrev pub next_round : Round → Round
@@ -92,7 +92,7 @@ peterson_fits ring i Right k m = message_of (first_round ring) i k ≡ Some m
 abbrev pub last_round : ℕ → Round → Round
 last_round zero round = round
 last_round (suc limit) round =
-    cond (nat_lt 1 (length round)) (last_round limit (next_round round)) round
+    if nat_lt 1 (length round) then last_round limit (next_round round) else round
 
 -- the identity at the first position of a round
 abbrev pub identity_of : List ℕ → Round → ℕ
@@ -106,7 +106,7 @@ peterson_winner ring = identity_of ring (last_round (length ring) (first_round r
 -- the greatest power of two, by its exponent, that is at most n, of those up to a limit
 abbrev pub log2_up_to : ℕ → ℕ → ℕ
 log2_up_to zero n = 0
-log2_up_to (suc limit) n = cond (nat_lt n (2 ^ suc limit)) (log2_up_to limit n) (suc limit)
+log2_up_to (suc limit) n = if nat_lt n (2 ^ suc limit) then log2_up_to limit n else suc limit
 
 -- the binary logarithm, rounded down
 abbrev pub floor_log2 : ℕ → ℕ

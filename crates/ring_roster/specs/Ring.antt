@@ -1,5 +1,5 @@
 -- The ring of a term (Lynch, Distributed Algorithms, 3.1): a list of identities, read cyclically.
-use Rattle.std.specs.Prelude.{◌≡◌, ◌+◌, ◌-◌, ◌<◌, ◌≤◌, ◌==◌, ◌||◌, ℕ, Bool, false, cond, nat_lt, max, List, [], ◌∷◌, ◌++◌, length, reverse, take, drop, Option, None}
+use Rattle.std.specs.Prelude.{◌≡◌, ◌+◌, ◌-◌, ◌<◌, ◌≤◌, ◌==◌, ◌||◌, ℕ, Bool, false, if◌then◌else◌, nat_lt, max, List, [], ◌∷◌, ◌++◌, length, reverse, take, drop, Option, None}
 use Rattle.std.specs.List.{list_any, position}
 use Rattle.ring_id.specs.declared.refusal.Refusal.{Refusal}
 use Rattle.ring_id.specs.declared.refusal.Refusal.TheVariants as refused
@@ -40,11 +40,11 @@ ring_refusal members =
 
 -- in a ring of n, the next position; right of the last is the first
 abbrev pub right_of : ℕ → ℕ → ℕ
-right_of n i = cond (i + 1 == n) 0 (i + 1)
+right_of n i = if i + 1 == n then 0 else i + 1
 
 -- in a ring of n, the position before; left of the first is the last
 abbrev pub left_of : ℕ → ℕ → ℕ
-left_of n i = cond (i == 0) (n - 1) (i - 1)
+left_of n i = if i == 0 then n - 1 else i - 1
 
 -- the position at that side
 abbrev pub neighbour : ℕ → ℕ → Side → ℕ

@@ -1,6 +1,6 @@
 -- Worlds: the journals of all nodes of a term, which links between them are cut, and the packets in
 -- flight. These follow from whole journals: no queue and no count is in these definitions.
-use Rattle.std.specs.Prelude.{◌≡◌, ◌+◌, ◌*◌, ◌<◌, ◌≤◌, ◌⊎◌, ℕ, zero, suc, Bool, true, false, cond, nat_lt, List, [], ◌∷◌, ◌++◌, length, drop, replicate, Option, Some, None, Result, Ok, Err, slice_set, slice_index_or}
+use Rattle.std.specs.Prelude.{◌≡◌, ◌+◌, ◌*◌, ◌<◌, ◌≤◌, ◌⊎◌, ℕ, zero, suc, Bool, true, false, if◌then◌else◌, nat_lt, List, [], ◌∷◌, ◌++◌, length, drop, replicate, Option, Some, None, Result, Ok, Err, slice_set, slice_index_or}
 use Rattle.ring_id.specs.declared.refusal.Refusal.{Refusal}
 use Rattle.ring_id.specs.declared.side.Side.{Side}
 use Rattle.ring_id.specs.declared.side.Side.TheVariants.{Left, Right}
@@ -120,11 +120,11 @@ module _ {E S M : Type 0} (t : E → Table S M) where
 
   -- the packets in flight on it, which can move: those on the link, if it isn't cut
   abbrev pub in_flight : Running E M → ℕ → Side → List (Packet M)
-  in_flight world i side = cond (is_cut world i side) [] (on_link world i side)
+  in_flight world i side = if is_cut world i side then [] else on_link world i side
 
   -- the packets stuck on it: those on the link, if it is cut
   abbrev pub stuck_on : Running E M → ℕ → Side → List (Packet M)
-  stuck_on world i side = cond (is_cut world i side) (on_link world i side) []
+  stuck_on world i side = if is_cut world i side then on_link world i side else []
 
   -- how many packets are in flight on a link or stuck there
   abbrev pub pending_on : Running E M → ℕ → Side → ℕ

@@ -1,4 +1,4 @@
-ghost use Rattle.std.specs.Prelude.{◌≡◌, ◌≢◌, ◌<◌, ◌==◌, ℕ, cond};
+ghost use Rattle.std.specs.Prelude.{◌≡◌, ◌≢◌, ◌<◌, ◌==◌, ℕ, if◌then◌else◌};
 ghost use Rattle.std.specs.Int.{bit_at};
 ghost use Rattle.ring_world.specs.private.LinkSets.{IsFirst, IsSummary, bit_of};
 ghost use Rattle.ring_world.specs.Worlds.{link_place};
@@ -32,7 +32,7 @@ impl LinkSet {
     /// Puts the link at a place into the set, or takes it out.
     pub fn put(&mut self, place: usize, here: bool)
         requires { place < 512 }
-        ensures here { bit_of self.new.words place ≡ cond here 1 0 }
+        ensures here { bit_of self.new.words place ≡ if here then 1 else 0 }
         ensures others { (other : ℕ) → other ≢ place
             → bit_of self.new.words other ≡ bit_of self.old.words other }
     {
@@ -59,7 +59,7 @@ impl LinkSet {
     pub fn leave(&mut self, place: usize, is_last: bool)
         requires within { place < 512 }
         requires there { bit_of self.old.words place ≡ 1 }
-        ensures here { bit_of self.new.words place ≡ cond is_last 0 1 }
+        ensures here { bit_of self.new.words place ≡ if is_last then 0 else 1 }
         ensures others { (other : ℕ) → other ≢ place
             → bit_of self.new.words other ≡ bit_of self.old.words other }
     {
@@ -92,7 +92,7 @@ impl LinkSet {
 /// The word with its bit at a place set, or cleared.
 fn with_bit(word: u64, place: usize, here: bool) -> u64
     requires { place < 64 }
-    ensures here { bit_at result place ≡ cond here 1 0 }
+    ensures here { bit_at result place ≡ if here then 1 else 0 }
     ensures others { (other : ℕ) → other < 64 → other ≢ place
         → bit_at result other ≡ bit_at word other }
 {

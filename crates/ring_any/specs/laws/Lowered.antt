@@ -1,6 +1,6 @@
 -- Receipts on a sum, and their part on one variant. The trace of a node on the sum is that of the
 -- variant over the receipts that are the variant's own.
-use Rattle.std.specs.Prelude.{◌≡◌, ℕ, true, false, cond, List, [], ◌∷◌, ◌++◌, length, map, Option, Some, None, IsSomeAnd, option_map, slice_get, refl}
+use Rattle.std.specs.Prelude.{◌≡◌, ℕ, true, false, if◌then◌else◌, List, [], ◌∷◌, ◌++◌, length, map, Option, Some, None, IsSomeAnd, option_map, slice_get, refl}
 use Rattle.std.proofs.Common.{◌∙◌, ap, suc}
 use Rattle.std.proofs.lemmas.List.{map-append}
 use Rattle.std.proofs.lemmas.Option.{slice_get-map}
@@ -90,7 +90,7 @@ module _ {WM M : Type 0} (messages : Variant WM M) where
   own_rest : (r : Side × WM) (rs : List (Side × WM)) → OwnMessages messages (r ∷ rs) → OwnMessages messages rs
   own_rest r rs own = record {
     each = λ side m there. own.each side m
-        (elim (same_side side r.0) as (λ b. IsIn (cond b (r.1 ∷ taken_from side rs) (taken_from side rs)) m) [ true ↦ in_rest r.1 (taken_from side rs) m there | false ↦ there ]);
+        (elim (same_side side r.0) as (λ b. IsIn (if b then r.1 ∷ taken_from side rs else taken_from side rs) m) [ true ↦ in_rest r.1 (taken_from side rs) m there | false ↦ there ]);
   }
 
   -- the messages taken on the sum
@@ -100,7 +100,7 @@ module _ {WM M : Type 0} (messages : Variant WM M) where
       let first = own_first r rs own in
       let rest = taken_from-lowered side rs (own_rest r rs own) in
       rw first.1
-      (elim (same_side side r.0) as (λ b. cond b (r.1 ∷ taken_from side rs) (taken_from side rs) ≡ map messages.put (cond b (first.0 ∷ taken_from side (lowered messages rs)) (taken_from side (lowered messages rs)))) [
+      (elim (same_side side r.0) as (λ b. (if b then r.1 ∷ taken_from side rs else taken_from side rs) ≡ map messages.put (if b then first.0 ∷ taken_from side (lowered messages rs) else taken_from side (lowered messages rs))) [
         | true ↦ ap (λ (m : WM). m ∷ taken_from side rs) (messages.put_of r.1 first.0 first.1) ∙ ap (λ (l : List WM). messages.put first.0 ∷ l) rest
         | false ↦ rest
       ])

@@ -1,5 +1,5 @@
 -- The laws that keep the leader unique, for this algorithm.
-use Rattle.std.proofs.Common.{◌≡◌, ◌==◌, cond, ◌++◌, ℕ, true, false, List, [], ◌∷◌, Some, None, slice_get, nat_lt, filter, refl, sym, ap, ◌∙◌, subst, inl, inr, arith}
+use Rattle.std.proofs.Common.{◌≡◌, ◌==◌, if◌then◌else◌, ◌++◌, ℕ, true, false, List, [], ◌∷◌, Some, None, slice_get, nat_lt, filter, refl, sym, ap, ◌∙◌, subst, inl, inr, arith}
 use Rattle.std.proofs.lemmas.List.Elements.{filter-append}
 use Rattle.ring_id.specs.declared.side.Side.{Side}
 use Rattle.ring_id.specs.declared.side.Side.TheVariants.{Left, Right}
@@ -69,7 +69,7 @@ stays_decided me receipts side m v decided = step side
     step : (side : Side) → (chang_next s side m).decided ≡ Some v
     step Right = decided
     step Left =
-        elim (m == s.me) as (λ b. (cond b (record s { decided = Some s.me }) s).decided ≡ Some v)
+        elim (m == s.me) as (λ b. (if b then record s { decided = Some s.me } else s).decided ≡ Some v)
         [ true ↦ ap (λ (z : ℕ). Some z) (state_me (chang_first me) receipts ∙ sym (decided_me me receipts v decided).0) | false ↦ decided ]
 
 -- a node that starts has decided nothing

@@ -1,6 +1,6 @@
 -- Facts about records of a list. Those above a number are a filter of all, the last one exceeds all
 -- that was read, and there are no more records than elements.
-use Rattle.std.proofs.Common.{◌≡◌, ◌≢◌, ◌<◌, ◌≤◌, ℕ, suc, true, false, cond, max, List, [], ◌∷◌, ◌++◌, length, nat_lt, refl, ap, arith, filter, ◌⊎◌, inl, inr}
+use Rattle.std.proofs.Common.{◌≡◌, ◌≢◌, ◌<◌, ◌≤◌, ℕ, suc, true, false, if◌then◌else◌, max, List, [], ◌∷◌, ◌++◌, length, nat_lt, refl, ap, arith, filter, ◌⊎◌, inl, inr}
 use Rattle.std.proofs.lemmas.Bool.Decides.{nat_tests}
 use Rattle.ring_election.proofs.Members.{IsIn, in_cons_cases, in_first, in_rest}
 use Rattle.ring_chang.specs.Chang.{records, records_above}
@@ -20,14 +20,14 @@ pub records_above-push : (m : ℕ) (xs : List ℕ) (y : ℕ) → y ≤ m → rec
 records_above-push m [] y h = grind (arith, nat_tests)
 records_above-push m (x ∷ xs) y h =
     let here = records_above-push m xs y h in
-    elim (nat_lt m x) as (λ b. nat_lt m x ≡ b → cond b (x ∷ records_above x (xs ++ y ∷ [])) (records_above m (xs ++ y ∷ [])) ≡ cond b (x ∷ records_above x xs) (records_above m xs))
+    elim (nat_lt m x) as (λ b. nat_lt m x ≡ b → (if b then x ∷ records_above x (xs ++ y ∷ []) else records_above m (xs ++ y ∷ [])) ≡ if b then x ∷ records_above x xs else records_above m xs)
     [ true ↦ λ e. ap (λ l. x ∷ l) (records_above-push x xs y (grind (arith, nat_tests))) | false ↦ λ e. here ]
     refl
 
 -- a record above m is the first identity that exceeds m, or a record of the later ones
 record_cases : (m x : ℕ) (xs : List ℕ) (v : ℕ) → IsIn (records_above m (x ∷ xs)) v → ((m < x) × IsIn (x ∷ records_above x xs) v) ⊎ ((x ≤ m) × IsIn (records_above m xs) v)
 record_cases m x xs v =
-    elim (nat_lt m x) as (λ b. nat_lt m x ≡ b → IsIn (cond b (x ∷ records_above x xs) (records_above m xs)) v → ((m < x) × IsIn (x ∷ records_above x xs) v) ⊎ ((x ≤ m) × IsIn (records_above m xs) v))
+    elim (nat_lt m x) as (λ b. nat_lt m x ≡ b → IsIn (if b then x ∷ records_above x xs else records_above m xs) v → ((m < x) × IsIn (x ∷ records_above x xs) v) ⊎ ((x ≤ m) × IsIn (records_above m xs) v))
     [ true ↦ λ e h. inl (grind (arith, nat_tests), h) | false ↦ λ e h. inr (grind (arith, nat_tests), h) ]
     refl
 
@@ -75,7 +75,7 @@ length-records_above m [] = omega arith
 length-records_above m (x ∷ xs) =
     let passed = length-records_above m xs in
     let taken = length-records_above x xs in
-    elim (nat_lt m x) as (λ b. length (cond b (x ∷ records_above x xs) (records_above m xs)) ≤ suc (length xs)) [ true ↦ omega arith | false ↦ omega arith ]
+    elim (nat_lt m x) as (λ b. length (if b then x ∷ records_above x xs else records_above m xs) ≤ suc (length xs)) [ true ↦ omega arith | false ↦ omega arith ]
 
 -- there are no more records than identities
 pub length-records : (xs : List ℕ) → length (records xs) ≤ length xs

@@ -1,5 +1,5 @@
 -- The laws that keep the leader unique, for Hirschberg-Sinclair (Lynch, Distributed Algorithms, 3.4).
-use Rattle.std.specs.Prelude.{◌≡◌, ◌-◌, ◌^◌, ◌<◌, ◌≤◌, ◌==◌, ℕ, zero, suc, true, false, cond, nat_lt, List, length, Some, slice_get, refl}
+use Rattle.std.specs.Prelude.{◌≡◌, ◌-◌, ◌^◌, ◌<◌, ◌≤◌, ◌==◌, ℕ, zero, suc, true, false, if◌then◌else◌, nat_lt, List, length, Some, slice_get, refl}
 use Rattle.std.proofs.Common.{sym, ◌∙◌, ap, subst, inl, inr, arith, eqb-true}
 use Rattle.std.proofs.lemmas.Bool.Decides.{nat_tests}
 use Rattle.std.proofs.lemmas.Bool.{cases_lt}
@@ -89,9 +89,9 @@ module _ (ring : List ℕ) (i me : ℕ) (here : slice_get ring i ≡ Some me) wh
   -- the next step of a greater token, and a new token of the node's own, may be on its link
   passed_allowed : (from : Side) (v hops : ℕ) → me < v → Arrives from (Out v hops) → AllAllowed (passed from v hops)
   passed_allowed from v hops less came =
-      elim (nat_lt 1 hops) as (λ b. nat_lt 1 hops ≡ b → AllAllowed (cond b (one_to (other from) (Out v (hops - 1))) (cond (hops == 1) (one_to from (Back v)) (nothing HirschbergMsg)))) [
+      elim (nat_lt 1 hops) as (λ b. nat_lt 1 hops ≡ b → AllAllowed (if b then one_to (other from) (Out v (hops - 1)) else if hops == 1 then one_to from (Back v) else nothing HirschbergMsg)) [
         | true ↦ λ many. one_allowed (other from) (Out v (hops - 1)) (left_over hops many, goes_on from v less came.1)
-        | false ↦ λ few. elim (hops == 1) as (λ b. AllAllowed (cond b (one_to from (Back v)) (nothing HirschbergMsg))) [
+        | false ↦ λ few. elim (hops == 1) as (λ b. AllAllowed (if b then one_to from (Back v) else nothing HirschbergMsg)) [
           | true ↦ one_allowed from (Back v) (member_of ring (other from) v (neighbour (length ring) i from) came.1)
           | false ↦ nothing_allowed
         ]
@@ -102,7 +102,7 @@ module _ (ring : List ℕ) (i me : ℕ) (here : slice_get ring i ≡ Some me) wh
 
   new_token_allowed : (s next : HirschbergState) → s.me ≡ me → AllAllowed (new_token s next)
   new_token_allowed s next same =
-      elim (nat_lt (phase s) (phase next)) as (λ b. AllAllowed (cond b (to_both (Out s.me (2 ^ phase next))) (nothing HirschbergMsg))) [
+      elim (nat_lt (phase s) (phase next)) as (λ b. AllAllowed (if b then to_both (Out s.me (2 ^ phase next)) else nothing HirschbergMsg)) [
         | true ↦ own_token_allowed s.me (2 ^ phase next) same (pow_pos (phase next))
         | false ↦ nothing_allowed
       ]
@@ -110,9 +110,9 @@ module _ (ring : List ℕ) (i me : ℕ) (here : slice_get ring i ≡ Some me) wh
   -- a message that one receipt causes may be on its link
   sends_allowed : (s : HirschbergState) (from : Side) (m : HirschbergMsg) → s.me ≡ me → Arrives from m → AllAllowed (hirschberg_sends s from m)
   sends_allowed s from (Out v hops) same came =
-      elim (v == s.me) as (λ b. AllAllowed (cond b (nothing HirschbergMsg) (cond (nat_lt s.me v) (passed from v hops) (nothing HirschbergMsg)))) [
+      elim (v == s.me) as (λ b. AllAllowed (if b then nothing HirschbergMsg else if nat_lt s.me v then passed from v hops else nothing HirschbergMsg)) [
         | true ↦ nothing_allowed
-        | false ↦ elim (nat_lt s.me v) as (λ b. nat_lt s.me v ≡ b → AllAllowed (cond b (passed from v hops) (nothing HirschbergMsg))) [
+        | false ↦ elim (nat_lt s.me v) as (λ b. nat_lt s.me v ≡ b → AllAllowed (if b then passed from v hops else nothing HirschbergMsg)) [
           | true ↦ λ greater. passed_allowed from v hops (less s.me v greater same) came
           | false ↦ λ _. nothing_allowed
         ] refl
@@ -121,7 +121,7 @@ module _ (ring : List ℕ) (i me : ℕ) (here : slice_get ring i ≡ Some me) wh
       less : (x v : ℕ) → nat_lt x v ≡ true → x ≡ me → me < v
       less x v greater same = grind (arith, nat_tests)
   sends_allowed s from (Back v) same came =
-      elim (v == s.me) as (λ b. AllAllowed (cond b (new_token s (counted s from)) (one_to (other from) (Back v)))) [
+      elim (v == s.me) as (λ b. AllAllowed (if b then new_token s (counted s from) else one_to (other from) (Back v))) [
         | true ↦ new_token_allowed s (counted s from) same
         | false ↦ one_allowed (other from) (Back v) came
       ]
@@ -157,12 +157,12 @@ module _ (ring : List ℕ) (i me : ℕ) (here : slice_get ring i ≡ Some me) wh
 
       came : (s : HirschbergState) (from : Side) (m : HirschbergMsg) → IsReached s → Arrives from m → (v : ℕ) → (hirschberg_next s from m).decided ≡ Some v → HasCome
       came s from (Out w hops) is arrived v =
-          elim (w == s.me) as (λ b. w == s.me ≡ b → (cond b (record s { decided = Some s.me }) s).decided ≡ Some v → HasCome) [
+          elim (w == s.me) as (λ b. w == s.me ≡ b → (if b then record s { decided = Some s.me } else s).decided ≡ Some v → HasCome) [
             | true ↦ λ home _. record { from = from; reached = subst (λ w. Reaches ring (other from) w (neighbour (length ring) i from)) (eqb-true w s.me home ∙ is.is_own.same) arrived.1 }
             | false ↦ λ _ e. is.came v e
           ] refl
       came s from (Back w) is arrived v =
-          elim (w == s.me) as (λ b. (cond b (counted s from) s).decided ≡ Some v → HasCome) [
+          elim (w == s.me) as (λ b. (if b then counted s from else s).decided ≡ Some v → HasCome) [
             | true ↦ λ e. is.came v (sym (same_decision s from) ∙ e)
             | false ↦ λ e. is.came v e
           ]

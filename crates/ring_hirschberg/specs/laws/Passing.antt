@@ -1,5 +1,5 @@
 -- The tokens of one identity that a position passes on, weighed against those that it took.
-use Rattle.std.specs.Prelude.{◌≡◌, ◌≢◌, ◌+◌, ◌<◌, ◌≤◌, ◌==◌, ℕ, suc, cond, nat_lt, nat_le, List, Option, Some, None, refl}
+use Rattle.std.specs.Prelude.{◌≡◌, ◌≢◌, ◌+◌, ◌<◌, ◌≤◌, ◌==◌, ℕ, suc, if◌then◌else◌, nat_lt, nat_le, List, Option, Some, None, refl}
 use Rattle.std.proofs.Common.{arith, ne_of_lt}
 use Rattle.std.proofs.lemmas.Bool.Decides.{nat_tests}
 use Rattle.ring_id.specs.declared.side.Side.{Side}
@@ -16,18 +16,18 @@ use Rattle.ring_hirschberg.specs.laws.Weights.{by_side, sent_weight-less, sent_w
 
 -- a token of v on its way out weighs 1, every other message 0
 abbrev pub is_out : ℕ → HirschbergMsg → ℕ
-is_out v (Out w hops) = cond (w == v) 1 0
+is_out v (Out w hops) = if w == v then 1 else 0
 is_out v (Back w) = 0
 
 -- a token of v on its way out with 1 to `most` hops
 abbrev pub is_near : ℕ → ℕ → HirschbergMsg → ℕ
-is_near v most (Out w hops) = cond (w == v) (cond (nat_lt 0 hops) (cond (nat_le hops most) 1 0) 0) 0
+is_near v most (Out w hops) = if w == v then if nat_lt 0 hops then if nat_le hops most then 1 else 0 else 0 else 0
 is_near v most (Back w) = 0
 
 -- a token of v on its way home
 abbrev pub is_back : ℕ → HirschbergMsg → ℕ
 is_back v (Out w hops) = 0
-is_back v (Back w) = cond (w == v) 1 0
+is_back v (Back w) = if w == v then 1 else 0
 
 -- near tokens are tokens on their way out
 pub near_is_out : (v most : ℕ) (m : HirschbergMsg) → is_near v most m ≤ is_out v m

@@ -1,6 +1,6 @@
 -- Lists of receipts: facts about each receipt of a node, and what follows for its state and its
 -- messages. Nothing here knows the algorithm.
-use Rattle.std.specs.Prelude.{◌≡◌, ℕ, zero, suc, true, false, cond, ◌⊎◌, List, [], ◌∷◌, ◌++◌, length, Option, Some, None, slice_get, refl}
+use Rattle.std.specs.Prelude.{◌≡◌, ℕ, zero, suc, true, false, if◌then◌else◌, ◌⊎◌, List, [], ◌∷◌, ◌++◌, length, Option, Some, None, slice_get, refl}
 use Rattle.std.proofs.Common.{inl, inr}
 use Rattle.ring_id.specs.declared.side.Side.{Side}
 use Rattle.ring_id.specs.declared.side.Side.TheVariants.{Left, Right}
@@ -28,7 +28,7 @@ first_taken Right m receipts = refl
 -- a message taken in the later receipts was taken
 later_taken : {M : Type 0} (P : Side → M → Type 0) (r : Side × M) (receipts : List (Side × M)) → EachTaken P (r ∷ receipts) → EachTaken P receipts
 later_taken {M} P r receipts each side k m =
-    elim (same_side side r.0) as (λ same. ((k : ℕ) (m : M) → slice_get (cond same (r.1 ∷ taken_from side receipts) (taken_from side receipts)) k ≡ Some m → P side m) → slice_get (taken_from side receipts) k ≡ Some m → P side m) [
+    elim (same_side side r.0) as (λ same. ((k : ℕ) (m : M) → slice_get (if same then r.1 ∷ taken_from side receipts else taken_from side receipts) k ≡ Some m → P side m) → slice_get (taken_from side receipts) k ≡ Some m → P side m) [
       | true ↦ λ whole. whole (suc k) m
       | false ↦ λ whole. whole k m
     ] (each side)

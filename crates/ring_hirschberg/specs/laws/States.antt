@@ -1,5 +1,5 @@
 -- The states of one node: after any receipts it keeps its identity and decides only on itself.
-use Rattle.std.specs.Prelude.{◌≡◌, ◌==◌, ℕ, true, false, cond, List, Some, refl}
+use Rattle.std.specs.Prelude.{◌≡◌, ◌==◌, ℕ, true, false, if◌then◌else◌, List, Some, refl}
 use Rattle.std.proofs.Common.{◌∙◌, ap, sym}
 use Rattle.ring_id.specs.declared.side.Side.{Side}
 use Rattle.ring_id.specs.declared.side.Side.TheVariants.{Left, Right}
@@ -25,12 +25,12 @@ counted_own me s Right is = record { same = is.same; decides = is.decides }
 -- one receipt keeps it so
 pub own_next : (me : ℕ) (s : HirschbergState) (from : Side) (m : HirschbergMsg) → IsOwn me s → IsOwn me (hirschberg_next s from m)
 own_next me s from (Out v hops) is =
-    elim (v == s.me) as (λ b. IsOwn me (cond b (record s { decided = Some s.me }) s)) [
+    elim (v == s.me) as (λ b. IsOwn me (if b then record s { decided = Some s.me } else s)) [
       | true ↦ record { same = is.same; decides = λ w e. let given : w ≡ s.me = cc in given ∙ is.same }
       | false ↦ is
     ]
 own_next me s from (Back v) is =
-    elim (v == s.me) as (λ b. IsOwn me (cond b (counted s from) s)) [
+    elim (v == s.me) as (λ b. IsOwn me (if b then counted s from else s)) [
       | true ↦ counted_own me s from is
       | false ↦ is
     ]
@@ -43,12 +43,12 @@ own_after me receipts =
 -- a decision once made stays, since a node decides only on itself
 pub decision_stays : (me : ℕ) (s : HirschbergState) (from : Side) (m : HirschbergMsg) (v : ℕ) → IsOwn me s → s.decided ≡ Some v → (hirschberg_next s from m).decided ≡ Some v
 decision_stays me s from (Out w hops) v is decided =
-    elim (w == s.me) as (λ b. (cond b (record s { decided = Some s.me }) s).decided ≡ Some v) [
+    elim (w == s.me) as (λ b. (if b then record s { decided = Some s.me } else s).decided ≡ Some v) [
       | true ↦ ap Some (is.same ∙ sym (is.decides v decided))
       | false ↦ decided
     ]
 decision_stays me s from (Back w) v is decided =
-    elim (w == s.me) as (λ b. (cond b (counted s from) s).decided ≡ Some v) [
+    elim (w == s.me) as (λ b. (if b then counted s from else s).decided ≡ Some v) [
       | true ↦ counted_stays s from v decided
       | false ↦ decided
     ]

@@ -1,6 +1,6 @@
 -- Weights of messages: a node's messages weighed against those that it took, and those that one
 -- neighbour took weighed against those that the other sent. Nothing here knows the algorithm.
-use Rattle.std.specs.Prelude.{◌≡◌, ◌+◌, ◌*◌, ◌<◌, ◌≤◌, ℕ, zero, suc, true, false, cond, List, [], ◌∷◌, ◌++◌, length, Option, Some, None, slice_get, refl}
+use Rattle.std.specs.Prelude.{◌≡◌, ◌+◌, ◌*◌, ◌<◌, ◌≤◌, ℕ, zero, suc, true, false, if◌then◌else◌, List, [], ◌∷◌, ◌++◌, length, Option, Some, None, slice_get, refl}
 use Rattle.std.proofs.Common.{◌∙◌, ap, arith, append-nil}
 use Rattle.ring_id.specs.declared.side.Side.{Side}
 use Rattle.ring_id.specs.Sides.{other, same_side}
@@ -49,12 +49,12 @@ weight-bound f c (m ∷ ms) each = omega (arith, each 0 m refl, weight-bound f c
 
 -- one receipt, weighed if it came from this side
 abbrev pub by_side : {M : Type 0} → (M → ℕ) → Side → Side → M → ℕ
-by_side f side from m = cond (same_side side from) (f m) 0
+by_side f side from m = if same_side side from then f m else 0
 
 pub weight-taken : {M : Type 0} (f : M → ℕ) (side from : Side) (m : M) (receipts : List (Side × M)) →
     weight f (taken_from side ((from, m) ∷ receipts)) ≡ by_side f side from m + weight f (taken_from side receipts)
 weight-taken f side from m receipts =
-    elim (same_side side from) as (λ same. weight f (cond same (m ∷ taken_from side receipts) (taken_from side receipts)) ≡ cond same (f m) 0 + weight f (taken_from side receipts)) [
+    elim (same_side side from) as (λ same. weight f (if same then m ∷ taken_from side receipts else taken_from side receipts) ≡ (if same then f m else 0) + weight f (taken_from side receipts)) [
       | true ↦ refl
       | false ↦ omega arith
     ]

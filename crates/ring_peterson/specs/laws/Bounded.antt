@@ -1,6 +1,6 @@
 -- The messages of Peterson's election: each round at most halves, and each link carries two
 -- messages a round.
-use Rattle.std.specs.Prelude.{◌≡◌, ◌+◌, ◌*◌, ◌^◌, ◌<◌, ◌≤◌, ℕ, zero, suc, true, false, cond, nat_lt, List, [], ◌∷◌, length, Some}
+use Rattle.std.specs.Prelude.{◌≡◌, ◌+◌, ◌*◌, ◌^◌, ◌<◌, ◌≤◌, ℕ, zero, suc, true, false, if◌then◌else◌, nat_lt, List, [], ◌∷◌, length, Some}
 use Rattle.std.proofs.Common.{refl, ap, arith, inl, inr, get_or}
 use Rattle.std.proofs.lemmas.Bool.{cases_lt, ltb-true}
 use Rattle.std.proofs.lemmas.Option.{slice_get-get_or}
@@ -45,7 +45,7 @@ below_power (suc n) = let rest = below_power n in omega arith
 log2_up_to-above : (limit n : ℕ) → n < 2 ^ suc limit → n < 2 ^ suc (log2_up_to limit n)
 log2_up_to-above zero n h = h
 log2_up_to-above (suc limit) n h =
-    elim (nat_lt n (2 ^ suc limit)) as (λ b. nat_lt n (2 ^ suc limit) ≡ b → n < 2 ^ suc (cond b (log2_up_to limit n) (suc limit))) [
+    elim (nat_lt n (2 ^ suc limit)) as (λ b. nat_lt n (2 ^ suc limit) ≡ b → n < 2 ^ suc (if b then log2_up_to limit n else suc limit)) [
       | true ↦ λ below. log2_up_to-above limit n (ltb-true n (2 ^ suc limit) below)
       | false ↦ λ above. h
     ] refl

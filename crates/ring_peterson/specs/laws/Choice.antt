@@ -1,6 +1,6 @@
 -- The node that is chosen: the one at the position of the last round. It is chosen before it
 -- becomes a relay, and no other node ever is.
-use Rattle.std.specs.Prelude.{◌≡◌, ◌<◌, ◌≤◌, ◌==◌, ◌||◌, ℕ, zero, suc, Bool, true, false, cond, nat_lt, List, [], ◌∷◌, length, Option, Some, None}
+use Rattle.std.specs.Prelude.{◌≡◌, ◌<◌, ◌≤◌, ◌==◌, ◌||◌, ℕ, zero, suc, Bool, true, false, if◌then◌else◌, nat_lt, List, [], ◌∷◌, length, Option, Some, None}
 use Rattle.std.proofs.Common.{inl, inr, refl, sym, ap, ◌∙◌, arith}
 use Rattle.std.proofs.lemmas.Bool.{cases_lt, eq-eqb, lt-ltb, or_cases, or_right}
 use Rattle.std.proofs.lemmas.Bool.Decides.{nat_tests}
@@ -23,11 +23,11 @@ use Rattle.ring_peterson.specs.laws.Messages.{AreMessages, messages_next, takes_
 
 third-decided : (s : PetersonState) (second m v : ℕ) → peterson_decided s ≡ Some v → peterson_decided (third_next s second m) ≡ Some v
 third-decided s second m v h =
-    elim (is_peak s.uid1 second m) as (λ b. peterson_decided (cond b (record s { uid1 = second; uid2 = None }) (record s { mode = Relay })) ≡ Some v) [ true ↦ h | false ↦ h ]
+    elim (is_peak s.uid1 second m) as (λ b. peterson_decided (if b then record s { uid1 = second; uid2 = None } else record s { mode = Relay }) ≡ Some v) [ true ↦ h | false ↦ h ]
 
 active-decided : (s : PetersonState) (second : Option ℕ) (m v : ℕ) → peterson_decided s ≡ Some v → peterson_decided (active_next s second m) ≡ Some v
 active-decided s None m v h =
-    elim s.chosen as (λ b. cond b (Some s.me) None ≡ Some v → cond (b || (m == s.uid1)) (Some s.me) None ≡ Some v) [ true ↦ λ e. e | false ↦ λ e. absurd (cc) ] h
+    elim s.chosen as (λ b. (if b then Some s.me else None) ≡ Some v → (if b || (m == s.uid1) then Some s.me else None) ≡ Some v) [ true ↦ λ e. e | false ↦ λ e. absurd (cc) ] h
 active-decided s (Some second) m v h = third-decided s second m v h
 
 -- a decision of a state stays after a receipt
@@ -38,7 +38,7 @@ next-decided s Right m v h = h
 -- ---- A node decides on itself
 
 third-me : (s : PetersonState) (second m : ℕ) → (third_next s second m).me ≡ s.me
-third-me s second m = elim (is_peak s.uid1 second m) as (λ b. (cond b (record s { uid1 = second; uid2 = None }) (record s { mode = Relay })).me ≡ s.me) [ true ↦ refl | false ↦ refl ]
+third-me s second m = elim (is_peak s.uid1 second m) as (λ b. (if b then record s { uid1 = second; uid2 = None } else record s { mode = Relay }).me ≡ s.me) [ true ↦ refl | false ↦ refl ]
 
 active-me : (s : PetersonState) (second : Option ℕ) (m : ℕ) → (active_next s second m).me ≡ s.me
 active-me s None m = refl
@@ -72,7 +72,7 @@ comes_from_next : (limit : ℕ) (round : Round) → 2 ≤ length round → lengt
 comes_from_next zero round two le = absurd (omega arith)
 comes_from_next (suc limit) round two le =
     let half = length-next_half round in
-    record { rest = limit; enough = omega arith; same = ap (λ (b : Bool). cond b (walk_last limit (walk_next round)) round) (lt-ltb 1 (length round) two) }
+    record { rest = limit; enough = omega arith; same = ap (λ (b : Bool). if b then walk_last limit (walk_next round) else round) (lt-ltb 1 (length round) two) }
 
 walk_last-single : (limit i v : ℕ) → walk_last limit (single i v) ≡ single i v
 walk_last-single zero i v = refl
@@ -89,7 +89,7 @@ reads_itself : (round : Round) (i v : ℕ) → length round ≤ 1 → value_at r
 reads_itself [] i v le there = absurd (cc)
 reads_itself ((q, u) ∷ []) i v le there =
     let parts = cond_some (q == i) u v there in
-    elim (nat_lt q i) as (λ b. (cond b (two_of u u) (two_of u u)).last ≡ v) [ true ↦ parts.1 | false ↦ parts.1 ]
+    elim (nat_lt q i) as (λ b. (if b then two_of u u else two_of u u).last ≡ v) [ true ↦ parts.1 | false ↦ parts.1 ]
 reads_itself (e ∷ (f ∷ round)) i v le there = absurd (omega arith)
 
 -- ---- A chosen node is the last
@@ -113,8 +113,8 @@ chosen_is_last n i me v limit c round [] h below le there from before chosen = b
 chosen_is_last n i me v limit c round (m ∷ []) h below le there from before chosen = chosen_now n i v m limit c round [] h below there from before chosen
 chosen_is_last n i me v limit c round (m ∷ (third ∷ ms)) h below le there from before chosen =
     let now = chosen_now n i v m limit c round (third ∷ ms) h below there from before in
-    elim (is_peak v m third) as (λ b. value_at (walk_next round) i ≡ cond b (Some m) None →
-    (after_left (cond b (active me m (c || (m == v))) (relay me v (Some m) (c || (m == v)))) ms).chosen ≡ true → IsLast limit i round) [
+    elim (is_peak v m third) as (λ b. value_at (walk_next round) i ≡ (if b then Some m else None) →
+    (after_left (if b then active me m (c || (m == v)) else relay me v (Some m) (c || (m == v))) ms).chosen ≡ true → IsLast limit i round) [
       | true ↦ λ stays later.
           let next = comes_from_next limit round (two_or_more round i m stays) le in
           let last = chosen_is_last n i me m next.rest (c || (m == v)) (walk_next round) ms (IsRound-next n round h) below next.enough stays (messages_next round (left_of n i) m third ms from)
@@ -143,9 +143,9 @@ pub last_is_chosen : (n i me v w limit : ℕ) (c : Bool) (round : Round) (ms : L
 last_is_chosen n i me v w limit c round [] h below le there from last relays = absurd (cc)
 last_is_chosen n i me v w limit c round (m ∷ []) h below le there from last relays = absurd (cc)
 last_is_chosen n i me v w limit c round (m ∷ (third ∷ ms)) h below le there from last relays =
-    elim (is_peak v m third) as (λ b. value_at (walk_next round) i ≡ cond b (Some m) None →
-    (after_left (cond b (active me m (c || (m == v))) (relay me v (Some m) (c || (m == v)))) ms).mode ≡ Relay →
-    (after_left (cond b (active me m (c || (m == v))) (relay me v (Some m) (c || (m == v)))) ms).chosen ≡ true) [
+    elim (is_peak v m third) as (λ b. value_at (walk_next round) i ≡ (if b then Some m else None) →
+    (after_left (if b then active me m (c || (m == v)) else relay me v (Some m) (c || (m == v))) ms).mode ≡ Relay →
+    (after_left (if b then active me m (c || (m == v)) else relay me v (Some m) (c || (m == v))) ms).chosen ≡ true) [
       | true ↦ λ stays still.
           let next = comes_from_next limit round (two_or_more round i m stays) le in
           last_is_chosen n i me m w next.rest (c || (m == v)) (walk_next round) ms (IsRound-next n round h) below next.enough stays (messages_next round (left_of n i) m third ms from) (sym next.same ∙ last) still

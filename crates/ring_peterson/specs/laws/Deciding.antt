@@ -1,7 +1,7 @@
 -- If every sent message was taken, a ring under Peterson's election is decided. A node sends one
 -- message for each that it takes, and one more until it becomes a relay. So every node is a relay,
 -- and the node at the position of the last round was chosen.
-use Rattle.std.specs.Prelude.{◌≡◌, ◌+◌, ◌≤◌, ℕ, Bool, true, false, cond, List, [], ◌∷◌, length, Option, Some, None, slice_get}
+use Rattle.std.specs.Prelude.{◌≡◌, ◌+◌, ◌≤◌, ℕ, Bool, true, false, if◌then◌else◌, List, [], ◌∷◌, length, Option, Some, None, slice_get}
 use Rattle.std.proofs.Common.{refl, sym, ap, ◌∙◌, arith, get_or, length-append}
 use Rattle.std.proofs.lemmas.Option.{slice_get-get_or, slice_get_within}
 use Rattle.ring_id.specs.declared.side.Side.{Side}
@@ -32,7 +32,7 @@ lead Relay = 0
 active-lead : (s : PetersonState) (second : Option ℕ) (m : ℕ) → s.mode ≡ Active → length (listed (active_sends s second m).right) + 1 ≡ 1 + lead (active_next s second m).mode
 active-lead s None m is = ap (λ (mode : Mode). 1 + lead mode) (sym is)
 active-lead s (Some second) m is =
-    elim (is_peak s.uid1 second m) as (λ b. length (listed (cond b (rightward second) (nothing ℕ)).right) + 1 ≡ 1 + lead (cond b (record s { uid1 = second; uid2 = None }) (record s { mode = Relay })).mode) [
+    elim (is_peak s.uid1 second m) as (λ b. length (listed (if b then rightward second else nothing ℕ).right) + 1 ≡ 1 + lead (if b then record s { uid1 = second; uid2 = None } else record s { mode = Relay }).mode) [
       | true ↦ ap (λ (mode : Mode). 1 + lead mode) (sym is)
       | false ↦ refl
     ]
@@ -87,7 +87,7 @@ all_relay ring family p me complete here =
 -- a chosen node decides on itself
 decided-chosen : (s : PetersonState) (ms : List ℕ) → (after_left s ms).chosen ≡ true → peterson_decided (after_left s ms) ≡ Some s.me
 decided-chosen s ms chosen =
-    ap (λ (b : Bool). cond b (Some (after_left s ms).me) None) chosen ∙ ap (λ (x : ℕ). Some x) (after_left-me s ms)
+    ap (λ (b : Bool). if b then Some (after_left s ms).me else None) chosen ∙ ap (λ (x : ℕ). Some x) (after_left-me s ms)
 
 complete_decides : (ring : List ℕ) (family : ℕ → List (Side × ℕ)) → IsRing ring → FamilyFits peterson_fits ring family → IsComplete peterson_table ring family → HasDecided peterson_table ring family
 complete_decides ring family is_ring fits complete =

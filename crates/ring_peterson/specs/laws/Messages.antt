@@ -1,7 +1,7 @@
 -- A node sends the messages of its link, if it takes those of its left neighbour's link. State and
 -- round go together, two receipts at a time. A node that is active in a round holds the value of
 -- its position. A relay is at a position that isn't in the round.
-use Rattle.std.specs.Prelude.{◌≡◌, ◌+◌, ◌<◌, ◌==◌, ◌||◌, ℕ, zero, suc, Bool, true, false, cond, List, [], ◌∷◌, ◌++◌, Some, None, slice_get}
+use Rattle.std.specs.Prelude.{◌≡◌, ◌+◌, ◌<◌, ◌==◌, ◌||◌, ℕ, zero, suc, Bool, true, false, if◌then◌else◌, List, [], ◌∷◌, ◌++◌, Some, None, slice_get}
 use Rattle.std.proofs.Common.{refl, sym, ap, ◌∙◌}
 use Rattle.std.proofs.lemmas.Option.{same_Some}
 use Rattle.ring_roster.specs.Ring.{left_of}
@@ -78,7 +78,7 @@ takes_before n i v m third round ms below h there from =
 
 -- So it stays if and only if the node does, with the value that the node takes over.
 pub value_at-next : (n i v m third : ℕ) (round : Round) (ms : List ℕ) → i < n → Rises 0 n round → value_at round i ≡ Some v → AreMessages round (left_of n i) (m ∷ (third ∷ ms)) →
-    value_at (walk_next round) i ≡ cond (is_peak v m third) (Some m) None
+    value_at (walk_next round) i ≡ if is_peak v m third then Some m else None
 value_at-next n i v m third round ms below h there from =
     let last = takes_last n i v m round (third ∷ ms) below h there from in
     let before = takes_before n i v m third round ms below h there from in
@@ -109,8 +109,8 @@ answered-messages n i me v c round (m ∷ (third ∷ ms)) below h there from =
     messages_two round i v m (listed (third_sends state m third).right ++ answered (third_next state m third) ms)
     (own_first n i v round h there)
     (own_second n i v m round (third ∷ ms) below h there from)
-    (elim (is_peak v m third) as (λ b. value_at (walk_next round) i ≡ cond b (Some m) None →
-    AreMessages (walk_next round) i (listed (cond b (rightward m) (nothing ℕ)).right ++ answered (cond b (active me m chosen) (relay me v (Some m) chosen)) ms)) [
+    (elim (is_peak v m third) as (λ b. value_at (walk_next round) i ≡ (if b then Some m else None) →
+    AreMessages (walk_next round) i (listed (if b then rightward m else nothing ℕ).right ++ answered (if b then active me m chosen else relay me v (Some m) chosen) ms)) [
       | true ↦ λ stays. answered-messages n i me m chosen (walk_next round) ms below rises stays next
       | false ↦ λ leaves. rw (answered-relay me v (Some m) chosen ms) (messages-relay n i (walk_next round) ms below rises leaves next)
     ]

@@ -1,5 +1,5 @@
 -- The positions of a round: the values that a walk meets to the left of one, and those that stay.
-use Rattle.std.specs.Prelude.{◌≡◌, ◌+◌, ◌<◌, ◌≤◌, ◌==◌, ◌-◌, ◌≢◌, ℕ, true, false, cond, [], ◌∷◌, Option, Some, None}
+use Rattle.std.specs.Prelude.{◌≡◌, ◌+◌, ◌<◌, ◌≤◌, ◌==◌, ◌-◌, ◌≢◌, ℕ, true, false, if◌then◌else◌, [], ◌∷◌, Option, Some, None}
 use Rattle.std.proofs.Common.{refl, arith, sym, ◌∙◌}
 use Rattle.std.proofs.lemmas.Bool.Decides.{nat_tests}
 use Rattle.ring_roster.specs.Ring.{left_of}
@@ -19,7 +19,7 @@ Rises low high ((q, v) ∷ round) = IsWithin low high q × Rises (q + 1) high ro
 -- the value that a position holds, if it is active
 abbrev pub value_at : Round → ℕ → Option ℕ
 value_at [] i = None
-value_at ((q, v) ∷ round) i = cond (q == i) (Some v) (value_at round i)
+value_at ((q, v) ∷ round) i = if q == i then Some v else value_at round i
 
 -- a position that isn't active adds no value to those met
 pub two_below-relay : (two : Two) (i : ℕ) (round : Round) → value_at round i ≡ None → two_below two round (i + 1) ≡ two_below two round i
@@ -45,7 +45,7 @@ two_below_high two p low high ((q, v) ∷ round) h le = let below = h.0.below in
 pub two_below-active : (two : Two) (i v low high : ℕ) (round : Round) → Rises low high round → value_at round i ≡ Some v → two_below two round (i + 1) ≡ two_of (two_below two round i).last v
 two_below-active two i v low high [] h e = cc
 two_below-active two i v low high ((q, u) ∷ round) h e =
-    elim (q == i) as (λ b. (q == i) ≡ b → cond b (Some u) (value_at round i) ≡ Some v → two_below two ((q, u) ∷ round) (i + 1) ≡ two_of (two_below two ((q, u) ∷ round) i).last v) [
+    elim (q == i) as (λ b. (q == i) ≡ b → (if b then Some u else value_at round i) ≡ Some v → two_below two ((q, u) ∷ round) (i + 1) ≡ two_of (two_below two ((q, u) ∷ round) i).last v) [
       | true ↦ λ here at. let low_two = two_below_low (two_of two.last u) (i + 1) (q + 1) high round h.1 in grind (arith, nat_tests)
       | false ↦ λ here at. let rest = two_below-active (two_of two.last u) i v (q + 1) high round h.1 at in let none = value_at_low i (q + 1) high round h.1 in grind (arith, nat_tests)
     ] refl e
@@ -57,10 +57,10 @@ value_at-kept_none two i ((q, v) ∷ round) h = grind (arith, nat_tests, value_a
 
 -- an active position stays if the two values to its left say so, with its predecessor's value
 pub value_at-kept_some : (two : Two) (i v low high : ℕ) (round : Round) → Rises low high round → value_at round i ≡ Some v →
-    value_at (kept two round) i ≡ cond (stays_active v (two_below two round i)) (Some (two_below two round i).last) None
+    value_at (kept two round) i ≡ if stays_active v (two_below two round i) then Some (two_below two round i).last else None
 value_at-kept_some two i v low high [] h e = cc
 value_at-kept_some two i v low high ((q, u) ∷ round) h e =
-    elim (q == i) as (λ b. (q == i) ≡ b → cond b (Some u) (value_at round i) ≡ Some v → value_at (kept two ((q, u) ∷ round)) i ≡ cond (stays_active v (two_below two ((q, u) ∷ round) i)) (Some (two_below two ((q, u) ∷ round) i).last) None) [
+    elim (q == i) as (λ b. (q == i) ≡ b → (if b then Some u else value_at round i) ≡ Some v → value_at (kept two ((q, u) ∷ round)) i ≡ if stays_active v (two_below two ((q, u) ∷ round) i) then Some (two_below two ((q, u) ∷ round) i).last else None) [
       | true ↦ λ here at. let none = value_at-kept_none (two_of two.last u) i round (value_at_low i (q + 1) high round h.1 (grind (arith, nat_tests))) in grind (arith, nat_tests)
       | false ↦ λ here at. let rest = value_at-kept_some (two_of two.last u) i v (q + 1) high round h.1 at in let none = value_at_low i (q + 1) high round h.1 in grind (arith, nat_tests)
     ] refl e
@@ -76,7 +76,7 @@ Rises-kept two low high [] h = tt
 Rises-kept two low high ((q, v) ∷ round) h =
     let from = h.0.from in
     let rest = Rises-kept (two_of two.last v) (q + 1) high round h.1 in
-    elim (stays_active v two) as (λ b. Rises low high (cond b ((q, two.last) ∷ kept (two_of two.last v) round) (kept (two_of two.last v) round))) [
+    elim (stays_active v two) as (λ b. Rises low high (if b then (q, two.last) ∷ kept (two_of two.last v) round else kept (two_of two.last v) round)) [
       | true ↦ (h.0, rest)
       | false ↦ Rises_lower (q + 1) low high (kept (two_of two.last v) round) (omega arith) rest
     ]
@@ -97,7 +97,7 @@ two_before-left_of n i round h lt =
     let whole = two_after-ends round in
     let low_two = two_below_low (two_ends round) 0 0 n round h (omega arith) in
     let high_two = two_below_high (two_ends round) n 0 n round h (omega arith) in
-    elim (i == 0) as (λ b. (i == 0) ≡ b → two_before round (cond b (n - 1) (i - 1) + 1) ≡ two_before round i) [
+    elim (i == 0) as (λ b. (i == 0) ≡ b → two_before round ((if b then n - 1 else i - 1) + 1) ≡ two_before round i) [
       | true ↦ λ first. let zero_is : i ≡ 0 = grind (arith, nat_tests) in let last_is : (n - 1) + 1 ≡ n = omega arith in rw (zero_is, last_is) (high_two ∙ whole ∙ sym low_two)
       | false ↦ λ other. let positive : i ≢ 0 = grind (arith, nat_tests) in let same : (i - 1) + 1 ≡ i = omega arith in rw same refl
     ] refl

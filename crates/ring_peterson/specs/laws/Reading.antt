@@ -1,6 +1,6 @@
 -- The walks are the rounds: if positions rise, the two values met last before a position are the
 -- two to its left on the ring.
-use Rattle.std.specs.Prelude.{◌≡◌, ◌+◌, ◌≤◌, ℕ, zero, suc, true, false, cond, nat_lt, List, [], ◌∷◌, ◌++◌, length, reverse, Some}
+use Rattle.std.specs.Prelude.{◌≡◌, ◌+◌, ◌≤◌, ℕ, zero, suc, true, false, if◌then◌else◌, nat_lt, List, [], ◌∷◌, ◌++◌, length, reverse, Some}
 use Rattle.std.proofs.Common.{refl, arith, sym, ap, ap₂, ◌∙◌, append_assoc}
 use Rattle.std.proofs.lemmas.List.{append-nil}
 use Rattle.std.proofs.lemmas.Bool.Decides.{nat_tests}
@@ -34,7 +34,7 @@ values_from_low p low high ((q, v) ∷ round) h le = let from = h.0.from in let 
 two_below-pushed : (two : Two) (p low high : ℕ) (round : Round) → Rises low high round → two_below two round p ≡ two_pushed two (values_below p round)
 two_below-pushed two p low high [] h = refl
 two_below-pushed two p low high ((q, v) ∷ round) h =
-    elim (nat_lt q p) as (λ b. nat_lt q p ≡ b → cond b (two_below (two_of two.last v) round p) two ≡ two_pushed two (cond b (v ∷ values_below p round) (values_below p round))) [
+    elim (nat_lt q p) as (λ b. nat_lt q p ≡ b → (if b then two_below (two_of two.last v) round p else two) ≡ two_pushed two (if b then v ∷ values_below p round else values_below p round)) [
       | true ↦ λ below. two_below-pushed (two_of two.last v) p (q + 1) high round h.1
       | false ↦ λ from. ap (two_pushed two) (sym (values_below_low p (q + 1) high round h.1 (grind (arith, nat_tests))))
     ] refl
@@ -43,7 +43,7 @@ two_below-pushed two p low high ((q, v) ∷ round) h =
 values-parts : (p low high : ℕ) (round : Round) → Rises low high round → values round ≡ values_below p round ++ values_from p round
 values-parts p low high [] h = refl
 values-parts p low high ((q, v) ∷ round) h =
-    elim (nat_lt q p) as (λ b. nat_lt q p ≡ b → v ∷ values round ≡ cond b (v ∷ values_below p round) (values_below p round) ++ cond b (values_from p round) (v ∷ values_from p round)) [
+    elim (nat_lt q p) as (λ b. nat_lt q p ≡ b → v ∷ values round ≡ (if b then v ∷ values_below p round else values_below p round) ++ (if b then values_from p round else v ∷ values_from p round)) [
       | true ↦ λ below. ap (λ (l : List ℕ). v ∷ l) (values-parts p (q + 1) high round h.1)
       | false ↦ λ from.
           let none = values_below_low p (q + 1) high round h.1 (grind (arith, nat_tests)) in
@@ -149,5 +149,5 @@ message_of-walk n (e ∷ round) i (suc (suc k)) h =
 pub last_round-walk : (n limit : ℕ) (round : Round) → Rises 0 n round → last_round limit round ≡ walk_last limit round
 last_round-walk n zero round h = refl
 last_round-walk n (suc limit) round h =
-    ap (λ (r : Round). cond (nat_lt 1 (length round)) r round)
+    ap (λ (r : Round). if nat_lt 1 (length round) then r else round)
     (ap (last_round limit) (next_round-walk n round h) ∙ last_round-walk n limit (walk_next round) (Rises-kept (two_ends round) 0 n round h))

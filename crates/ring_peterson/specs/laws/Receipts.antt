@@ -1,6 +1,6 @@
 -- A node's state and messages are a fold over the messages that it took from the left. A message
 -- from the right changes nothing.
-use Rattle.std.specs.Prelude.{◌≡◌, ℕ, Bool, true, false, cond, List, [], ◌∷◌, ◌++◌, Option, Some, None}
+use Rattle.std.specs.Prelude.{◌≡◌, ℕ, Bool, true, false, if◌then◌else◌, List, [], ◌∷◌, ◌++◌, Option, Some, None}
 use Rattle.std.proofs.Common.{refl, ap, ◌∙◌}
 use Rattle.ring_id.specs.declared.side.Side.{Side}
 use Rattle.ring_id.specs.declared.side.Side.TheVariants.{Left, Right}
@@ -33,7 +33,7 @@ relay me v second c = record { me = me; mode = Relay; uid1 = v; uid2 = second; c
 pub state_from-left : (s : PetersonState) (receipts : List (Side × ℕ)) → state_from peterson_table s receipts ≡ after_left s (taken_from Left receipts)
 state_from-left s [] = refl
 state_from-left s (r ∷ receipts) =
-    elim r.0 as (λ side. state_from peterson_table (peterson_next s side r.1) receipts ≡ after_left s (cond (same_side Left side) (r.1 ∷ taken_from Left receipts) (taken_from Left receipts))) [
+    elim r.0 as (λ side. state_from peterson_table (peterson_next s side r.1) receipts ≡ after_left s (if same_side Left side then r.1 ∷ taken_from Left receipts else taken_from Left receipts)) [
       | Left ↦ state_from-left (left_next s s.mode r.1) receipts
       | Right ↦ state_from-left s receipts
     ]
@@ -42,7 +42,7 @@ state_from-left s (r ∷ receipts) =
 pub sent_from-right : (s : PetersonState) (receipts : List (Side × ℕ)) → sent_from peterson_table Right s receipts ≡ answered s (taken_from Left receipts)
 sent_from-right s [] = refl
 sent_from-right s (r ∷ receipts) =
-    elim r.0 as (λ side. listed (to_side Right (peterson_sends s side r.1)) ++ sent_from peterson_table Right (peterson_next s side r.1) receipts ≡ answered s (cond (same_side Left side) (r.1 ∷ taken_from Left receipts) (taken_from Left receipts))) [
+    elim r.0 as (λ side. listed (to_side Right (peterson_sends s side r.1)) ++ sent_from peterson_table Right (peterson_next s side r.1) receipts ≡ answered s (if same_side Left side then r.1 ∷ taken_from Left receipts else taken_from Left receipts)) [
       | Left ↦ ap (λ (l : List ℕ). listed (left_sends s s.mode r.1).right ++ l) (sent_from-right (left_next s s.mode r.1) receipts)
       | Right ↦ sent_from-right s receipts
     ]
@@ -60,7 +60,7 @@ answered-relay me v second c (m ∷ ms) = ap (λ (l : List ℕ). m ∷ l) (answe
 -- no answer goes to the left
 active_sends-left : (s : PetersonState) (second : Option ℕ) (m : ℕ) → (active_sends s second m).left ≡ None
 active_sends-left s None m = refl
-active_sends-left s (Some second) m = elim (is_peak s.uid1 second m) as (λ b. (cond b (rightward second) (nothing ℕ)).left ≡ None) [ true ↦ refl | false ↦ refl ]
+active_sends-left s (Some second) m = elim (is_peak s.uid1 second m) as (λ b. (if b then rightward second else nothing ℕ).left ≡ None) [ true ↦ refl | false ↦ refl ]
 
 peterson_sends-left : (s : PetersonState) (side : Side) (m : ℕ) → (peterson_sends s side m).left ≡ None
 peterson_sends-left s Left m = elim s.mode as (λ mode. (left_sends s mode m).left ≡ None) [ Active ↦ active_sends-left s s.uid2 m | Relay ↦ refl ]

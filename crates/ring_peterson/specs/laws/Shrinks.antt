@@ -1,6 +1,6 @@
 -- A round of two or more leaves at least one position, and at most half of them. So the rounds come
 -- to one position, which was active in all of them.
-use Rattle.std.specs.Prelude.{◌≡◌, ◌≢◌, ◌+◌, ◌*◌, ◌<◌, ◌≤◌, ℕ, zero, suc, true, false, cond, nat_lt, [], ◌∷◌, length, Some, None}
+use Rattle.std.specs.Prelude.{◌≡◌, ◌≢◌, ◌+◌, ◌*◌, ◌<◌, ◌≤◌, ℕ, zero, suc, true, false, if◌then◌else◌, nat_lt, [], ◌∷◌, length, Some, None}
 use Rattle.std.proofs.Common.{refl, arith, sym, ap, ◌∙◌, ◌⊎◌, inl, inr}
 use Rattle.std.proofs.lemmas.Bool.{cases_lt}
 use Rattle.std.proofs.lemmas.Bool.Decides.{nat_tests}
@@ -11,7 +11,7 @@ use Rattle.ring_peterson.specs.laws.Values.{AreDifferent, IsRound, IsRound-next,
 
 -- 1 if the second of two values is the greater, otherwise 0
 abbrev rise : Two → ℕ
-rise two = cond (nat_lt two.before two.last) 1 0
+rise two = if nat_lt two.before two.last then 1 else 0
 
 -- An entry that stays is after a rise, and no entry that stays follows it. So at most half of the
 -- entries stay, apart from the rises at the two ends of the walk.
@@ -20,7 +20,7 @@ kept_half two [] = omega arith
 kept_half two ((q, v) ∷ round) =
     let rest = kept_half (two_of two.last v) round in
     let after = rise (two_after (two_of two.last v) round) in
-    elim (stays_active v two) as (λ b. stays_active v two ≡ b → 2 * length (cond {A = Round} b ((q, two.last) ∷ kept (two_of two.last v) round) (kept (two_of two.last v) round)) + after ≤ suc (length round) + rise two) [
+    elim (stays_active v two) as (λ b. stays_active v two ≡ b → 2 * length (if b then (q, two.last) ∷ kept (two_of two.last v) round else kept (two_of two.last v) round) + after ≤ suc (length round) + rise two) [
       | true ↦ λ stays. grind (arith, nat_tests)
       | false ↦ λ leaves. grind (arith, nat_tests)
     ] refl
@@ -41,7 +41,7 @@ neighbours_from_different y ((q, v) ∷ round) h = (h.0.0, neighbours_from_diffe
 -- if nothing stays, the first entry doesn't, and nothing stays of the rest
 none_kept : (two : Two) (q v : ℕ) (round : Round) → kept two ((q, v) ∷ round) ≡ [] → (stays_active v two ≡ false) × (kept (two_of two.last v) round ≡ [])
 none_kept two q v round none =
-    elim (stays_active v two) as (λ b. cond b ((q, two.last) ∷ kept (two_of two.last v) round) (kept (two_of two.last v) round) ≡ [] → (b ≡ false) × (kept (two_of two.last v) round ≡ [])) [
+    elim (stays_active v two) as (λ b. (if b then (q, two.last) ∷ kept (two_of two.last v) round else kept (two_of two.last v) round) ≡ [] → (b ≡ false) × (kept (two_of two.last v) round ≡ [])) [
       | true ↦ λ e. absurd (cc)
       | false ↦ λ e. (refl, e)
     ] none
@@ -115,7 +115,7 @@ pub walk_last-alone : (n limit : ℕ) (round : Round) → IsRound n round → 1 
 walk_last-alone n zero round h some le = absurd (omega arith)
 walk_last-alone n (suc limit) round h some le =
     let half = length-next_half round in
-    elim (nat_lt 1 (length round)) as (λ b. nat_lt 1 (length round) ≡ b → IsLastOne n (cond b (walk_last limit (walk_next round)) round)) [
+    elim (nat_lt 1 (length round)) as (λ b. nat_lt 1 (length round) ≡ b → IsLastOne n (if b then walk_last limit (walk_next round) else round)) [
       | true ↦ λ more. let two : 2 ≤ length round = grind (arith, nat_tests) in walk_last-alone n limit (walk_next round) (IsRound-next n round h) (length-next_some n round h two) (omega arith)
       | false ↦ λ one. one_left n round h some (grind (arith, nat_tests))
     ] refl
@@ -132,7 +132,7 @@ was_active two p round stays =
 pub last_was_active : (limit p w : ℕ) (round : Round) → walk_last limit round ≡ single p w → (v : ℕ) × (value_at round p ≡ Some v)
 last_was_active zero p w round last = (w, ap (λ (r : Round). value_at r p) last ∙ grind (arith, nat_tests))
 last_was_active (suc limit) p w round last =
-    elim (nat_lt 1 (length round)) as (λ b. cond b (walk_last limit (walk_next round)) round ≡ single p w → (v : ℕ) × (value_at round p ≡ Some v)) [
+    elim (nat_lt 1 (length round)) as (λ b. (if b then walk_last limit (walk_next round) else round) ≡ single p w → (v : ℕ) × (value_at round p ≡ Some v)) [
       | true ↦ λ next. was_active (two_ends round) p round (last_was_active limit p w (walk_next round) next)
       | false ↦ λ here. (w, ap (λ (r : Round). value_at r p) here ∙ grind (arith, nat_tests))
     ] last

@@ -1,5 +1,5 @@
 -- The values of a round are all different, and so are those of the next round.
-use Rattle.std.specs.Prelude.{◌≡◌, ◌≢◌, ◌+◌, ◌==◌, ℕ, true, false, cond, List, [], ◌∷◌, Some}
+use Rattle.std.specs.Prelude.{◌≡◌, ◌≢◌, ◌+◌, ◌==◌, ℕ, true, false, if◌then◌else◌, List, [], ◌∷◌, Some}
 use Rattle.std.proofs.Common.{refl, arith, ap₂, sym}
 use Rattle.std.proofs.lemmas.Option.{cond_some}
 use Rattle.std.proofs.lemmas.Bool.Decides.{nat_tests}
@@ -41,7 +41,7 @@ kept_apart : (y : ℕ) (two : Two) (round : Round) → IsApart y (shifted two.la
 kept_apart y two [] h = tt
 kept_apart y two ((q, v) ∷ round) h =
     let rest = kept_apart y (two_of two.last v) round h.1 in
-    elim (stays_active v two) as (λ b. IsApart y (values (cond b ((q, two.last) ∷ kept (two_of two.last v) round) (kept (two_of two.last v) round)))) [
+    elim (stays_active v two) as (λ b. IsApart y (values (if b then (q, two.last) ∷ kept (two_of two.last v) round else kept (two_of two.last v) round))) [
       | true ↦ (h.0, rest)
       | false ↦ rest
     ]
@@ -51,7 +51,7 @@ kept_different : (two : Two) (round : Round) → AreDifferent (shifted two.last 
 kept_different two [] h = tt
 kept_different two ((q, v) ∷ round) h =
     let rest = kept_different (two_of two.last v) round h.1 in
-    elim (stays_active v two) as (λ b. AreDifferent (values (cond b ((q, two.last) ∷ kept (two_of two.last v) round) (kept (two_of two.last v) round)))) [
+    elim (stays_active v two) as (λ b. AreDifferent (values (if b then (q, two.last) ∷ kept (two_of two.last v) round else kept (two_of two.last v) round))) [
       | true ↦ (kept_apart two.last (two_of two.last v) round h.0, rest)
       | false ↦ rest
     ]
@@ -89,7 +89,7 @@ IsRound-next n ((q, v) ∷ round) h = record {
 value_apart : (two : Two) (i v low high : ℕ) (round : Round) → Rises low high round → AreDifferent (two.last ∷ values round) → value_at round i ≡ Some v → v ≢ (two_below two round i).last
 value_apart two i v low high [] h d e = absurd (cc)
 value_apart two i v low high ((q, u) ∷ round) h d e =
-    elim (q == i) as (λ b. (q == i) ≡ b → cond b (Some u) (value_at round i) ≡ Some v → v ≢ (two_below two ((q, u) ∷ round) i).last) [
+    elim (q == i) as (λ b. (q == i) ≡ b → (if b then Some u else value_at round i) ≡ Some v → v ≢ (two_below two ((q, u) ∷ round) i).last) [
       | true ↦ λ here at same. let apart = d.0.0 in grind (arith, nat_tests)
       | false ↦ λ here at same. let none = value_at_low i (q + 1) high round h.1 in let rest = value_apart (two_of two.last u) i v (q + 1) high round h.1 d.1 at in grind (arith, nat_tests)
     ] refl e
@@ -98,7 +98,7 @@ value_apart two i v low high ((q, u) ∷ round) h d e =
 never_alone : (ends : Two) (n i v q u : ℕ) (round : Round) → Rises 0 n ((q, u) ∷ round) → AreDifferent (u ∷ values round) → u ≢ ends.last →
     value_at ((q, u) ∷ round) i ≡ Some v → v ≢ (two_below ends ((q, u) ∷ round) i).last
 never_alone ends n i v q u round h d ne e =
-    elim (q == i) as (λ b. (q == i) ≡ b → cond b (Some u) (value_at round i) ≡ Some v → v ≢ (two_below ends ((q, u) ∷ round) i).last) [
+    elim (q == i) as (λ b. (q == i) ≡ b → (if b then Some u else value_at round i) ≡ Some v → v ≢ (two_below ends ((q, u) ∷ round) i).last) [
       | true ↦ λ here at same. grind (arith, nat_tests)
       | false ↦ λ here at same. let none = value_at_low i (q + 1) n round h.1 in let rest = value_apart (two_of ends.last u) i v (q + 1) n round h.1 d at in grind (arith, nat_tests)
     ] refl e

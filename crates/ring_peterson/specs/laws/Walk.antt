@@ -1,12 +1,12 @@
 -- The rounds as walks: one pass over the entries, from left to right, that carries the two values
 -- met last. `Reading` proves that these are the rounds. All other proofs are about the walks.
-use Rattle.std.specs.Prelude.{◌+◌, ℕ, zero, suc, cond, nat_lt, [], ◌∷◌, length, Option, Some, None}
+use Rattle.std.specs.Prelude.{◌+◌, ℕ, zero, suc, if◌then◌else◌, nat_lt, [], ◌∷◌, length, Option, Some, None}
 use Rattle.ring_peterson.specs.Rounds.{Round, Two, stays_active, two_of}
 
 -- the two values met last on a walk over the entries below p that begins with these two
 abbrev pub two_below : Two → Round → ℕ → Two
 two_below two [] p = two
-two_below two ((q, v) ∷ round) p = cond (nat_lt q p) (two_below (two_of two.last v) round p) two
+two_below two ((q, v) ∷ round) p = if nat_lt q p then two_below (two_of two.last v) round p else two
 
 -- the two values met last on a walk over all entries
 abbrev pub two_after : Two → Round → Two
@@ -22,8 +22,8 @@ two_ends ((q, v) ∷ round) = two_after (two_of v v) ((q, v) ∷ round)
 abbrev pub kept : Two → Round → Round
 kept two [] = []
 kept two ((q, v) ∷ round) =
-    cond (stays_active v two) ((q, two.last) ∷ kept (two_of two.last v) round)
-    (kept (two_of two.last v) round)
+    if stays_active v two then (q, two.last) ∷ kept (two_of two.last v) round
+    else kept (two_of two.last v) round
 
 -- the next round
 abbrev pub walk_next : Round → Round
@@ -44,4 +44,4 @@ walk_message (e ∷ round) i (suc (suc k)) = walk_message (walk_next (e ∷ roun
 abbrev pub walk_last : ℕ → Round → Round
 walk_last zero round = round
 walk_last (suc limit) round =
-    cond (nat_lt 1 (length round)) (walk_last limit (walk_next round)) round
+    if nat_lt 1 (length round) then walk_last limit (walk_next round) else round

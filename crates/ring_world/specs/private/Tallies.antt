@@ -1,6 +1,6 @@
 -- The tallies of a world: how many packets are in flight or stuck, and on which links something is
 -- in flight. A world keeps them next to its nodes and its cuts.
-use Rattle.std.specs.Prelude.{◌≡◌, ◌≢◌, ◌*◌, ◌^◌, ◌<◌, ◌≤◌, ◌⊎◌, ℕ, Bool, cond, List, [], ◌∷◌, length}
+use Rattle.std.specs.Prelude.{◌≡◌, ◌≢◌, ◌*◌, ◌^◌, ◌<◌, ◌≤◌, ◌⊎◌, ℕ, Bool, if◌then◌else◌, List, [], ◌∷◌, length}
 use Rattle.ring_id.specs.declared.side.Side.{Side}
 use Rattle.ring_id.specs.Sides.{other}
 use Rattle.ring_roster.specs.Ring.{neighbour}
@@ -17,7 +17,7 @@ some_or_none (x ∷ xs) = 1
 -- a packet was taken from a link, and the link's bit was cleared if it was the last there; no other
 -- bit changed
 pub record HasLeft (old : List ℕ) (i : ℕ) (side : Side) (is_last : Bool) (new : List ℕ) : Type 0 where
-  pub bit : bit_of new (link_place i side) ≡ cond is_last 0 1
+  pub bit : bit_of new (link_place i side) ≡ if is_last then 0 else 1
   pub others : (place : ℕ) → place ≢ link_place i side → bit_of new place ≡ bit_of old place
 
 module _ {E S M : Type 0} (t : E → Table S M) (world : Running E M) where
