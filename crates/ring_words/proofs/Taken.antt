@@ -1,9 +1,8 @@
 -- Words that the command line takes, and that name `serve`, `run` or `journal`, give the rows that
 -- these need.
-use Rattle.std.proofs.Common.{◌≡◌, ◌∙◌, ◌||◌, Bool, ℕ, codes, cond, true, false, not, refl, sym, ap, subst, inl, inr, List, [], ◌∷◌, length, IfOk, Option, Some, None, Result, Ok, Err, option_map}
-use Rattle.std.specs.Prelude.{find, pos, slice_get, unwrap_or, option_and_then}
+use Rattle.std.proofs.Common.{◌≡◌, ◌∙◌, ◌||◌, Bool, ℕ, codes, cond, true, false, not, refl, sym, ap, subst, inl, inr, List, [], ◌∷◌, IfOk, Option, Some, None, Result, Ok, Err, option_map}
+use Rattle.std.specs.Prelude.{find, pos, slice_get, option_and_then}
 use Rattle.std.specs.Str.{bytes_eq}
-use Rattle.clap.specs.Kinds.{range_kinds}
 use Rattle.clap.specs.Lexer.{without_minus}
 use Rattle.clap.specs.Takes.{is_given}
 use Rattle.clap.specs.ValueTests.{accepts}
@@ -13,67 +12,18 @@ use Rattle.clap.specs.declared.builder.value_parser.Reading.{Reading}
 use Rattle.clap.specs.declared.builder.value_parser.Reading.TheVariants.{WithoutMinus}
 use Rattle.clap.specs.declared.builder.value_parser.ValueParser.{ValueParser}
 use Rattle.clap.specs.Walk.{Row, Rule, Text, first_of, one_of, row_text, rows_after}
-use Rattle.clap.specs.declared.error.kind.ErrorKind.TheVariants.{DisplayHelp, MissingRequiredArgument}
+use Rattle.clap.specs.declared.error.kind.ErrorKind.TheVariants.{MissingRequiredArgument}
 use Rattle.clap.specs.declared.builder.value_parser.ValueParser.TheVariants as parser
 use Rattle.clap.proofs.ValueTestLemmas.{accepts-Accepts}
 use Rattle.ring_words.specs.private.Words.{HasFile, HasNumber, IsJournalOf, IsRun, IsRunOf, IsServeOf, IsServed, MayHaveNumber}
-use Rattle.ring_words.specs.Words.{IsGiven, Names, config_rule}
+use Rattle.ring_words.specs.Words.{IsGiven, Names}
 use Rattle.ring_words.specs.declared.words.Order.{Order}
 use Rattle.ring_words.specs.declared.words.Order.TheVariants.{Journal, Replay, Run, Serve}
 use Rattle.command_line.specs.declared.words.WordsFault.{WordsFault}
+use Rattle.ring_words.proofs.Arguments.{serve_config, serve_connections, run_config, run_sessions, run_idle, journal_file, help_flag, help_keeps, serve_keeps_config, serve_keeps_connections, run_keeps_config, run_keeps_sessions, run_keeps_idle, serve_defaults, run_defaults}
 use Rattle.ring_words.proofs.CommandLine.{IsLevel, journal_below, names_one, run_below, serve_below}
-use Rattle.ring_words.proofs.Levels.{Each, EachKeeps, Keeps}
-use Rattle.ring_words.proofs.Rows.{IsRead, KeepDefaults, flag_keeps, level_checks, level_reads, no_default, other_default, other_use, own_use, row_given, row_reads, set_keeps}
-use Rattle.ring_words.proofs.Subcommands.{second_has_none}
-
--- the arguments of `serve`, as a parse reads them
-abbrev serve_config : Rule
-serve_config = unwrap_or (slice_get serve_below.rules 0) config_rule
-
-abbrev serve_connections : Rule
-serve_connections = unwrap_or (slice_get serve_below.rules 1) config_rule
-
-abbrev serve_socket : Rule
-serve_socket = unwrap_or (slice_get serve_below.rules 2) config_rule
-
-abbrev serve_mode : Rule
-serve_mode = unwrap_or (slice_get serve_below.rules 3) config_rule
-
--- those of `run`
-abbrev run_config : Rule
-run_config = unwrap_or (slice_get run_below.rules 0) config_rule
-
-abbrev run_sessions : Rule
-run_sessions = unwrap_or (slice_get run_below.rules 1) config_rule
-
-abbrev run_idle : Rule
-run_idle = unwrap_or (slice_get run_below.rules 2) config_rule
-
-abbrev run_places : Rule
-run_places = unwrap_or (slice_get run_below.rules 3) config_rule
-
-abbrev run_journal : Rule
-run_journal = unwrap_or (slice_get run_below.rules 4) config_rule
-
-abbrev run_campaign : Rule
-run_campaign = unwrap_or (slice_get run_below.rules 5) config_rule
-
-abbrev run_http : Rule
-run_http = unwrap_or (slice_get run_below.rules 6) config_rule
-
-abbrev run_socket : Rule
-run_socket = unwrap_or (slice_get run_below.rules 7) config_rule
-
-abbrev run_mode : Rule
-run_mode = unwrap_or (slice_get run_below.rules 8) config_rule
-
--- the argument of `journal`
-abbrev journal_file : Rule
-journal_file = unwrap_or (slice_get journal_below.rules 0) config_rule
-
--- the help flag of each
-abbrev help_flag : Rule
-help_flag = unwrap_or (slice_get serve_below.rules 4) config_rule
+use Rattle.ring_words.proofs.Levels.{Each, EachKeeps}
+use Rattle.ring_words.proofs.Rows.{IsRead, KeepDefaults, level_checks, level_reads, no_default, own_use, row_given, row_reads, set_keeps}
 
 -- rows of a file that was given
 has_file : (a : Rule) (name : Text) (rows : List Row) → a.id ≡ name → Each (IsRead a) rows → is_given a.id rows ≡ true → HasFile name rows
@@ -108,202 +58,6 @@ may_have_number a name least most rows named parsed read = go (find (λ (r : Row
     go : (o : Option Row) → find (λ (r : Row). bytes_eq r.id a.id) rows ≡ o → MayHaveNumber name least most rows
     go None none = inl (ap (λ (id : Text). one_of id rows) (sym named) ∙ ap (option_and_then row_text) none)
     go (Some row) found = inr (has_number a name least most rows row named parsed read found)
-
--- a use of the help flag never keeps anything from being answered by help
-help_keeps : (good : Row → Type 0) → Keeps serve_below good help_flag
-help_keeps good values rows all none =
-    let asked : DisplayHelp ∷ [] ≡ [] = second_has_none (range_kinds 0 0 (length values)) (DisplayHelp ∷ []) none in
-    absurd (cc)
-
--- each argument of `serve` keeps the rows of its file well read, and those of its number
-serve_keeps_config : EachKeeps serve_below (IsRead serve_config) serve_below.rules
-serve_keeps_config = (
-  set_keeps false serve_config serve_config (own_use serve_config) refl,
-  (
-    set_keeps false serve_config serve_connections (other_use serve_config serve_connections refl) refl,
-    (
-      set_keeps false serve_config serve_socket (other_use serve_config serve_socket refl) refl,
-      (
-        set_keeps false serve_config serve_mode (other_use serve_config serve_mode refl) refl,
-        (
-          help_keeps (IsRead serve_config),
-          tt,
-        ),
-      ),
-    ),
-  ),
-)
-
-serve_keeps_connections : EachKeeps serve_below (IsRead serve_connections) serve_below.rules
-serve_keeps_connections = (
-  set_keeps false serve_connections serve_config (other_use serve_connections serve_config refl) refl,
-  (
-    set_keeps false serve_connections serve_connections (own_use serve_connections) refl,
-    (
-      set_keeps false serve_connections serve_socket (other_use serve_connections serve_socket refl) refl,
-      (
-        set_keeps false serve_connections serve_mode (other_use serve_connections serve_mode refl) refl,
-        (
-          help_keeps (IsRead serve_connections),
-          tt,
-        ),
-      ),
-    ),
-  ),
-)
-
--- so does each argument of `run`
-run_keeps_config : EachKeeps run_below (IsRead run_config) run_below.rules
-run_keeps_config = (
-  set_keeps false run_config run_config (own_use run_config) refl,
-  (
-    set_keeps false run_config run_sessions (other_use run_config run_sessions refl) refl,
-    (
-      set_keeps false run_config run_idle (other_use run_config run_idle refl) refl,
-      (
-        flag_keeps false run_config run_places refl refl,
-        (
-          set_keeps false run_config run_journal (other_use run_config run_journal refl) refl,
-          (
-            set_keeps false run_config run_campaign (other_use run_config run_campaign refl) refl,
-            (
-              set_keeps false run_config run_http (other_use run_config run_http refl) refl,
-              (
-                set_keeps false run_config run_socket (other_use run_config run_socket refl) refl,
-                (
-                  set_keeps false run_config run_mode (other_use run_config run_mode refl) refl,
-                  (
-                    help_keeps (IsRead run_config),
-                    tt,
-                  ),
-                ),
-              ),
-            ),
-          ),
-        ),
-      ),
-    ),
-  ),
-)
-
-run_keeps_sessions : EachKeeps run_below (IsRead run_sessions) run_below.rules
-run_keeps_sessions = (
-  set_keeps false run_sessions run_config (other_use run_sessions run_config refl) refl,
-  (
-    set_keeps false run_sessions run_sessions (own_use run_sessions) refl,
-    (
-      set_keeps false run_sessions run_idle (other_use run_sessions run_idle refl) refl,
-      (
-        flag_keeps false run_sessions run_places refl refl,
-        (
-          set_keeps false run_sessions run_journal (other_use run_sessions run_journal refl) refl,
-          (
-            set_keeps false run_sessions run_campaign (other_use run_sessions run_campaign refl) refl,
-            (
-              set_keeps false run_sessions run_http (other_use run_sessions run_http refl) refl,
-              (
-                set_keeps false run_sessions run_socket (other_use run_sessions run_socket refl) refl,
-                (
-                  set_keeps false run_sessions run_mode (other_use run_sessions run_mode refl) refl,
-                  (
-                    help_keeps (IsRead run_sessions),
-                    tt,
-                  ),
-                ),
-              ),
-            ),
-          ),
-        ),
-      ),
-    ),
-  ),
-)
-
-run_keeps_idle : EachKeeps run_below (IsRead run_idle) run_below.rules
-run_keeps_idle = (
-  set_keeps false run_idle run_config (other_use run_idle run_config refl) refl,
-  (
-    set_keeps false run_idle run_sessions (other_use run_idle run_sessions refl) refl,
-    (
-      set_keeps false run_idle run_idle (own_use run_idle) refl,
-      (
-        flag_keeps false run_idle run_places refl refl,
-        (
-          set_keeps false run_idle run_journal (other_use run_idle run_journal refl) refl,
-          (
-            set_keeps false run_idle run_campaign (other_use run_idle run_campaign refl) refl,
-            (
-              set_keeps false run_idle run_http (other_use run_idle run_http refl) refl,
-              (
-                set_keeps false run_idle run_socket (other_use run_idle run_socket refl) refl,
-                (
-                  set_keeps false run_idle run_mode (other_use run_idle run_mode refl) refl,
-                  (
-                    help_keeps (IsRead run_idle),
-                    tt,
-                  ),
-                ),
-              ),
-            ),
-          ),
-        ),
-      ),
-    ),
-  ),
-)
-
--- no argument of `serve` has a default
-serve_defaults : (wanted : Rule) → KeepDefaults (IsRead wanted) serve_below.rules
-serve_defaults wanted = (
-  no_default (IsRead wanted) serve_config refl,
-  (
-    no_default (IsRead wanted) serve_connections refl,
-    (
-      no_default (IsRead wanted) serve_socket refl,
-      (
-        no_default (IsRead wanted) serve_mode refl,
-        (
-          no_default (IsRead wanted) help_flag refl,
-          tt,
-        ),
-      ),
-    ),
-  ),
-)
-
--- the default of the flag of `run` keeps the rows of any other argument well read, and no other argument has one
-run_defaults : (wanted : Rule) → bytes_eq run_places.id wanted.id ≡ false → KeepDefaults (IsRead wanted) run_below.rules
-run_defaults wanted other = (
-  no_default (IsRead wanted) run_config refl,
-  (
-    no_default (IsRead wanted) run_sessions refl,
-    (
-      no_default (IsRead wanted) run_idle refl,
-      (
-        other_default wanted run_places other,
-        (
-          no_default (IsRead wanted) run_journal refl,
-          (
-            no_default (IsRead wanted) run_campaign refl,
-            (
-              no_default (IsRead wanted) run_http refl,
-              (
-                no_default (IsRead wanted) run_socket refl,
-                (
-                  no_default (IsRead wanted) run_mode refl,
-                  (
-                    no_default (IsRead wanted) help_flag refl,
-                    tt,
-                  ),
-                ),
-              ),
-            ),
-          ),
-        ),
-      ),
-    ),
-  ),
-)
 
 -- a required argument was given, if the last checks have no mistake
 both_given : (x y : Bool) → cond (not x || (not y || false)) (MissingRequiredArgument ∷ []) [] ≡ [] → (x ≡ true) × (y ≡ true)

@@ -2,6 +2,7 @@ pub mod Announcements
 pub mod Answering
 pub mod Beginnings
 pub mod Bits
+pub mod Counting
 pub mod Cuts
 pub mod Deliveries
 pub mod Links
