@@ -1,3 +1,4 @@
 pub mod Cleared
 pub mod Looking
 pub mod Told
+pub mod WhoReplies
