@@ -1,4 +1,4 @@
-"""Shared by the checks of ringchart and ringctl: runs of a program, and checks one after another."""
+"""Shared by many checks: runs of a program to its end, and functions that are checks, made one after another."""
 
 import os
 import pathlib
@@ -54,6 +54,17 @@ def same_text(what, seen, wanted):
     for number, (one, other) in enumerate(zip(ours, theirs), 1):
         same(f"{what}: line {number}", one, other)
     same(f"{what}: number of lines", len(ours), len(theirs))
+
+
+def listed():
+    """An empty list of checks, and the decorator that adds a function to it."""
+    checks = []
+
+    def check(function):
+        checks.append(function)
+        return function
+
+    return checks, check
 
 
 def make_all(checks, title, make):

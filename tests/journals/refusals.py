@@ -5,11 +5,12 @@ import os
 import random
 import stat
 
+from checking import listed
 from journals.changes import MOST_LIVES, WORDS, first_line, marked, text_of_changes
 from journals.lives import AHEAD, Life, client_of, listing, living
 from serving import Differs, same
 
-CHECKS = []
+CHECKS, check = listed()
 NOBODY = 65534
 IN_USE = b"ringd: journal in use\n"
 UNREADABLE = b"ringd: journal unreadable\n"
@@ -23,12 +24,6 @@ NO_LIFE = b"ringd: journal has no life left\n"
 OF_FILE = (NOT_A_FILE, VERSION, NO_LIFE)
 CHANGES = [b"create a chang", b"join a 5/9", b"join a 7", b"leave a 7", b"join a 8", b"start a", b"know a 1 8 5/9",
            b"know a 1 5/9 5/9", b"create b peterson", b"start a", b"join b 1", b"leave a 5"]
-
-
-def check(function):
-    """Lists a function among the checks, under its name."""
-    CHECKS.append(function)
-    return function
 
 
 def bad_at(place):

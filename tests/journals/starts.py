@@ -1,20 +1,15 @@
 """Checks of starts and of running services that shorten a journal, one by one."""
 
+from checking import listed
 from journals.changes import text_of_changes, whole_text
 from journals.lives import asked, client_of, living
 from journals.restarts import say, until
 from journals.shortening import LEAST
 from serving import Differs, same
 
-CHECKS = []
+CHECKS, check = listed()
 # How often members come and go.
 OFTEN = 2000
-
-
-def check(function):
-    """Lists a function among the checks, under its name."""
-    CHECKS.append(function)
-    return function
 
 
 def see_text(file, text):

@@ -1,9 +1,7 @@
-"""A client of the place of `ringd run --http`, and what the program uses meanwhile."""
+"""A client of the place of `ringd run --http`."""
 
 import http.client
 import json
-import os
-import pathlib
 import time
 
 from serving import HOST, PATIENCE, Differs, connected, same
@@ -11,8 +9,6 @@ from web.metrics import samples_in
 
 POLICY = "default-src 'self'"
 JSON, METRICS = "application/json", "text/plain; version=0.0.4; charset=utf-8"
-
-
 # After how many seconds without a request a client connects anew, since the program lets silent clients go.
 FRESH = 1
 
@@ -75,23 +71,3 @@ class Web:
     def close(self):
         """Ends the connection."""
         self.link.close()
-
-
-def used(pid):
-    """The threads, the descriptors and the resident bytes of a process."""
-    threads = len(os.listdir(f"/proc/{pid}/task"))
-    pages = int(pathlib.Path(f"/proc/{pid}/statm").read_text(encoding="utf-8").split()[1])
-    return threads, len(os.listdir(f"/proc/{pid}/fd")), pages * os.sysconf("SC_PAGE_SIZE")
-
-
-def at_rest(pid):
-    """What a process uses, once the number of its threads and descriptors has been the same for half a second. The
-    program closes a connection some time after its client."""
-    seen, since = used(pid), time.monotonic()
-    while time.monotonic() < since + 0.5:
-        time.sleep(0.02)
-        now = used(pid)
-        if now[:2] != seen[:2]:
-            since = time.monotonic()
-        seen = now
-    return seen

@@ -2,9 +2,10 @@
 
 import time
 
+from processes import used
 from serving import PATIENCE, Client, Differs, same
 from web import metrics
-from web.asking import METRICS, Web, used
+from web.asking import METRICS, Web
 from web.metrics import of
 from web.refused import GOOD
 
