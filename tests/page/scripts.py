@@ -1,0 +1,48 @@
+"""What the page shows, as scripts for the browser."""
+
+LISTED = "return [...document.querySelectorAll('#groups .title')].some((it) => it.textContent === arguments[0])"
+SAYS = "return document.getElementById(arguments[0]).innerText.includes(arguments[1])"
+IS = "return document.body.dataset.service === arguments[0]"
+RING = """return [...document.querySelectorAll('#ring .member')].map((it) =>
+    [it.querySelector('title').textContent, Boolean(it.querySelector('circle.knows')), it.matches('.leading')])"""
+CROWNED = "return document.querySelector('#ring .leading title')?.textContent.startsWith(arguments[0])"
+LIST = "return document.body.dataset.view === 'list'"
+MISSING = "return !document.getElementById('missing').hidden"
+FOCUS = """const it = document.activeElement, style = getComputedStyle(it);
+    return [it.getAttribute('href') ?? it.id, style.outlineStyle !== 'none' && parseFloat(style.outlineWidth) >= 2]"""
+WIDER = """const is_wide = (it) => it.checkVisibility() && it.getBoundingClientRect().right > innerWidth + 1;
+    const all = [...document.body.querySelectorAll('*')].filter((it) => is_wide(it) && !it.closest('.skip, #picture'));
+    return [document.documentElement.scrollWidth, ...all.map((it) => it.tagName)]"""
+
+HIDDEN = "return document.getElementById(arguments[0]).hidden"
+ELECTION = "document.getElementById('election').open = arguments[0]"
+# A picture is there, and says of which term it is.
+DRAWN = """const it = document.getElementById('picture');
+    return it.checkVisibility() && it.complete && it.naturalWidth > 0 && it.alt.includes(arguments[0])"""
+# Whether the box of a picture is within the window, whether it scrolls, and its ground.
+CHART = """const it = document.getElementById('chart');
+    const within = it.getBoundingClientRect().right < innerWidth;
+    return [within, it.scrollWidth > it.clientWidth, getComputedStyle(it).backgroundColor]"""
+
+# Each text whose contrast with the ground is less than 4.5 to 1.
+PALE = """
+    const parts = (color) => color.match(/[0-9.]+/g).map(Number);
+    const light = (color) => parts(color).slice(0, 3).map((it) => it / 255)
+        .map((it) => it <= 0.04045 ? it / 12.92 : ((it + 0.055) / 1.055) ** 2.4)
+        .reduce((sum, it, place) => sum + it * [0.2126, 0.7152, 0.0722][place], 0);
+    const ground = (it) => {
+        for (; it; it = it.parentElement) {
+            const color = getComputedStyle(it).backgroundColor;
+            if (parts(color)[3] !== 0) return color;
+        }
+        return 'rgb(255, 255, 255)';
+    };
+    const pale = [];
+    for (const it of document.body.querySelectorAll('*')) {
+        const own = [...it.childNodes].some((node) => node.nodeType === 3 && node.data.trim());
+        if (!own || !it.checkVisibility() || it.closest('svg') || it.closest('.skip, noscript')) continue;
+        const [one, other] = [light(getComputedStyle(it).color), light(ground(it))];
+        const contrast = (Math.max(one, other) + 0.05) / (Math.min(one, other) + 0.05);
+        if (contrast < 4.5) pale.push(`${it.textContent.trim()} ${contrast.toFixed(2)}`);
+    }
+    return pale;"""
