@@ -9,7 +9,7 @@ import time
 from identity import numbers_of
 from journals.changes import line_of
 from ports import next_port
-from serving import HOST, PATIENCE, Client, Differs, short, text_of
+from serving import HOST, PATIENCE, Client, Differs, same, short, text_of
 
 # How often the program is started because somebody else took its port.
 TRIES = 5
@@ -162,3 +162,19 @@ def go_on(client, history, count):
 def client_of(life):
     """A client of a life, which ends with its use."""
     return contextlib.closing(Client(life.port))
+
+
+def say(life, lines, replies):
+    """Sends lines over a connection of their own, and compares the replies."""
+    same("replies", Client(life.port).told(lines), replies)
+
+
+def until(life, line, reply, first):
+    """Asks a question until it has this reply; before that it may have the first one."""
+    patience = time.monotonic() + LONG
+    with client_of(life) as client:
+        seen = client.ask(line)
+        while seen == first and time.monotonic() < patience:
+            time.sleep(PAUSE)
+            seen = client.ask(line)
+    same("reply", seen, reply)

@@ -2,8 +2,7 @@
 
 from checking import listed
 from journals.changes import text_of_changes, whole_text
-from journals.lives import asked, client_of, living
-from journals.restarts import say, until
+from journals.lives import asked, client_of, living, say, until
 from journals.shortening import LEAST
 from serving import Differs, same
 
