@@ -5,6 +5,7 @@ behind a first part of its output. ringctl asks a service of this script's own.
 """
 
 import contextlib
+import itertools
 import re
 import socketserver
 import subprocess
@@ -12,11 +13,13 @@ import tempfile
 import threading
 
 from sweep import Bad, ROOT, run
+from table import Sweep, sweep_all
 
 CHART, CTL = (ROOT / "crates" / name / "out" / name for name in ("ringchart", "ringctl"))
-SCHEDULE = (ROOT / "crates/ringchart/stdin").read_bytes() + b"cut a 1 left\nstart a => term 3\ncut a 2 left\ndrain a 9\n"
-REPLIES = {b"groups": b"groups a", b"members a": b"members 7/9", b"who a 7": b"leader 1 7/9", b"terms a": b"terms 1:7/9",
-           b"join a 7/9": b"ok\nundecided 1\nleader 1 7/9\nno term-limit"}
+SCHEDULE = (ROOT / "crates/ringchart/stdin").read_bytes()
+SCHEDULE += b"cut a 1 left\nstart a => term 3\ncut a 2 left\ndrain a 9\n"
+REPLIES = {b"groups": b"groups a", b"members a": b"members 7/9", b"who a 7": b"leader 1 7/9",
+           b"terms a": b"terms 1:7/9", b"join a 7/9": b"ok\nundecided 1\nleader 1 7/9\nno term-limit"}
 # How a run may end that was refused memory. A row of a schedule that says its reply is then answered otherwise.
 FAULTS = {CHART: {1: rb"ringchart: (no memory|line [0-9]+ got another reply: .*\bno-memory)\n"},
           CTL: {1: rb"ringctl: (no memory|cannot (read standard input|write standard output))\n",
@@ -74,3 +77,12 @@ def refuse(library, case, growth):
     if ended != case.usual and not (ran.told and is_fault):
         raise Bad(f"{case.command}, growth {growth}: status {ran.status}, {ran.out[-200:]!r}, {ran.err[-200:]!r}")
     return True if ran.told else None
+
+
+def sweep_beside(pool, library):
+    for program, cases in ((CHART, cases_of_chart), (CTL, cases_of_ctl)):
+        sweep = Sweep(f"growth, {program.name}")
+        with cases() as made:
+            for case in made:
+                sweep_all(pool, sweep, lambda n: refuse(library, case, n), itertools.count(1))
+        yield sweep

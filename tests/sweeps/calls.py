@@ -6,6 +6,7 @@ memory have to pass whichever growth is refused. Tests that start threads are le
 of such a test is refused memory, the other may wait for it for ever.
 """
 
+from collections import Counter
 import itertools
 import os
 import re
@@ -13,11 +14,12 @@ import subprocess
 import tempfile
 
 from sweep import Bad, ROOT
+from table import Sweep
 
 # Sessions over a front, some of which fail, and two threads at one table.
 SHARED = ("session_rows::", "thread_rows::")
-# A service that is refused memory. Where that is a thread's own, the fault is that no thread could be started, and the test
-# stops at an assertion.
+# A service that is refused memory. If that is a thread's own memory, the fault is that no thread could be started, and
+# the test stops at an assertion.
 STARVED = ("starved_rows::",)
 # Tests that ask once more, by crate and by the beginnings of their names: for each growth they have to pass.
 ASK_AGAIN = {
@@ -34,7 +36,8 @@ THREADED = {
     "test_server_tests": ("listening::a_failed_", "running::a_run_says_", "running::a_spent_guest_"),
     "test_table_tests": SHARED + STARVED,
 }
-# Tests in which each growth is refused, without a gap: worked cases of a mux, a node, a book, a table, a service and a worker.
+# Tests in which each growth is refused, without a gap: worked cases of a mux, a node, a book, a table, a service and
+# a worker.
 WHOLE = {
     "test_nodes_tests": ("node_rows::", "note_rows::", "schedules::", "workers::starved_worker::"),
     "test_table_tests": ("closing_rows::", "starved_rows::", "table_rows::"),
@@ -69,8 +72,8 @@ def is_left_out(library, program, name):
 
 
 def numbers(program, name, is_full):
-    """Which growths of a test are refused: the first forty, and then each a fifth further than the last; or ten times as
-    many; or all."""
+    """Which growths of a test are refused: the first forty, and then each a fifth further than the last; or ten times
+    as many; or all."""
     if is_among(program, name, WHOLE):
         yield from itertools.count(1)
     each, part = (400, 50) if is_full else (40, 5)
@@ -120,3 +123,34 @@ def how(ran):
     if ran.returncode == -6 and ran.stdout.startswith(STOPPED):
         return "stopped"
     return None
+
+
+def sweep_test(library, program, name, is_full):
+    """The runs of one test, one after another: how many, how they ended, and what was bad. Nothing where the test is
+    left out."""
+    ended, runs = Counter(), 0
+    try:
+        if is_left_out(library, program, name):
+            return None
+        for number in numbers(program, name, is_full):
+            runs += 1
+            said = refuse(library, program, name, number)
+            if said is None:
+                break
+            ended[said] += 1
+    except Bad as bad:
+        return runs, ended, [str(bad)]
+    return runs, ended, []
+
+
+def sweep_tests(pool, library, is_full):
+    for program in programs():
+        sweep, names = Sweep(""), tests_of(program)
+        made = [pool.submit(sweep_test, library, program, name, is_full) for name in names]
+        swept = [it for it in (each.result() for each in made) if it]
+        for runs, ended, bad in swept:
+            sweep.runs, sweep.told, sweep.bad = sweep.runs + runs, sweep.told + ended.total(), sweep.bad + bad
+        passed = sum(not ended["stopped"] and not bad for _, ended, bad in swept)
+        crate = program.name.removesuffix("_tests")
+        sweep.name = f"growth, {len(swept)} of {len(names)} tests of {crate}, {passed} of which always pass"
+        yield sweep

@@ -1,7 +1,10 @@
 """Reads and writes of `ringd replay` that fail, are interrupted, or move one byte, in turn."""
 
-from sweep import Bad, FAULTS, run
+import itertools
+
 from lines import text
+from sweep import Bad, FAULTS, run
+from table import Sweep, or_none, sweep_all
 
 
 def replies_to_whole(lines, given):
@@ -42,3 +45,17 @@ def fails(library, program, lines, call, number, by_bytes):
             raise Bad(f"{lines.name}: {what}: what was written is no front of the replies")
     expect(lines, what, ran, 1, out, FAULTS[call.encode()])
     return True
+
+
+def sweep_ends(pool, library, program, files):
+    for call in ("read", "write"):
+        for by_bytes in (False, True):
+            chosen = [file for file in files if file.name == "first_run"] if by_bytes else files
+            sweep = Sweep(f"{call}s of replay{', one byte each' if by_bytes else ''}")
+            for file in chosen:
+                failing = lambda n: or_none(fails(library, program, file, call, n, by_bytes))
+                sweep_all(pool, sweep, failing, itertools.count(1))
+                for how in ("interrupt", "byte"):
+                    passing = lambda n: or_none(passes(library, program, file, call, how, n, by_bytes))
+                    sweep_all(pool, sweep, passing, itertools.count(1))
+            yield sweep

@@ -1,20 +1,22 @@
-"""Calls on the journal's files that go wrong in turn in `ringd run --journal`, and growths refused in its start. In some
-runs the service rewrites the journal while it runs.
+"""Calls on the journal's files that go wrong in turn in `ringd run --journal`, and growths refused in its start. In
+some runs the service rewrites the journal while it runs.
 
-The program begins with a journal that has a torn end and that its start shortens. One client asks line by line, and then sends many changes at
-once, so that the file grows. A call fails, is interrupted or moves one byte, or the process ends at it. Then the
-program says that its journal failed and ends with status 1; or it ends at the call; or all replies are as they have to
-be. After that it is started once more, with no call going wrong. Each change with a reply has to be there. A change
-without a reply is there whole, with all changes before it, or not at all.
+The program begins with a journal that has a torn end and that its start shortens. One client asks line by line, and
+then sends many changes at once, so that the file grows. A call fails, is interrupted or moves one byte, or the process
+ends at it. Then the program says that its journal failed and ends with status 1; or it ends at the call; or all replies
+are as they have to be. After that it is started once more, with no call going wrong. Each change with a reply has to be
+there. A change without a reply is there whole, with all changes before it, or not at all.
 """
 
 import contextlib
 import errno
+import itertools
 import subprocess
 import zlib
 
 from serving import Client, Lost, serving
 from sweep import Bad, NO_MEMORY
+from table import Sweep, or_none, sweep_all
 
 # How long a run in which a call went wrong has to end by itself before it is ended from outside.
 MOMENT = 0.2
@@ -46,8 +48,9 @@ CONFIG, UNREADABLE = b"ringd: config unreadable\n", b"ringd: journal unreadable\
 FAILED = b"ringd: journal failed\n"
 # What the program may say if such a call fails.
 FAULTS = {"open": {CONFIG, UNREADABLE, FAILED}, "statx": {UNREADABLE}, "flock": {UNREADABLE}, "unlink": {FAILED},
-          "rename": {FAILED}, "fsync": {FAILED}, "fdatasync": {FAILED}, "pwrite": {FAILED}, "write": {FAILED, b"ringd: write failed\n"},
-          "read": {CONFIG, UNREADABLE}, "spawn": {b"ringd: thread failed\n"}}
+          "rename": {FAILED}, "fsync": {FAILED}, "fdatasync": {FAILED}, "pwrite": {FAILED},
+          "write": {FAILED, b"ringd: write failed\n"}, "read": {CONFIG, UNREADABLE},
+          "spawn": {b"ringd: thread failed\n"}}
 # What it may say if memory is refused in its start, before it listens or soon after.
 LACKING = (NO_MEMORY, *FAULTS["spawn"])
 KINDS = (b"lelann", b"chang", b"hirschberg", b"peterson")
@@ -157,8 +160,8 @@ def expect_states(shown, lines, told, sent):
 
 
 def expect_end(server, call, how):
-    """The program has ended as it has to, or it is there. If a call went wrong it may be about to end by itself, and gets
-    a moment for that."""
+    """The program has ended as it has to, or it is there. If a call went wrong it may be about to end by itself, and
+    gets a moment for that."""
     if server.told():
         with contextlib.suppress(subprocess.TimeoutExpired):
             server.run.wait(timeout=MOMENT)
@@ -206,8 +209,8 @@ def running():
 
 
 def lacks_memory(library, program, number, spared=()):
-    """One run of `run` in which that growth is refused, most likely in its start over a journal with these spared changes
-    too, and a restart after it: whether a growth was refused, or `None` if there was none."""
+    """One run of `run` in which that growth is refused, most likely in its start over a journal with these spared
+    changes too, and a restart after it: whether a growth was refused, or `None` if there was none."""
     groups, changes = Groups(), [*BEFORE, *running()]
     for change in changes:
         groups.after(change, b"ok")
@@ -228,3 +231,23 @@ def lacks_memory(library, program, number, spared=()):
         if shown_by(server) != groups.shown():
             raise Bad(f"a restart shows {shown_by(server)}")
         return True if was_told else None
+
+
+def sweep_journal(pool, library, program):
+    for call, hows in HOWS.items():
+        sweep = Sweep(f"{call} calls of run with a journal")
+        for how, error in hows:
+            one = lambda n: or_none(goes_wrong(library, program, call, n, how, error))
+            sweep_all(pool, sweep, one, itertools.count(1))
+        yield sweep
+    for call in REWRITING:
+        sweep = Sweep(f"{call} calls of run that rewrites a journal")
+        for how, error in HOWS[call]:
+            one = lambda n: or_none(goes_wrong(library, program, call, n, how, error, LONG))
+            sweep_all(pool, sweep, one, itertools.count(1))
+        yield sweep
+    for name, spared in (("keep", ()), ("shorten", SPARED)):
+        sweep = Sweep(f"growth, starts of run that {name} a journal")
+        one = lambda n: lacks_memory(library, program, n, spared)
+        sweep_all(pool, sweep, one, itertools.count(1), is_certain=False)
+        yield sweep

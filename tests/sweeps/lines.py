@@ -1,9 +1,11 @@
 """Growth refused in turn in `ringd replay`, over the files of rows."""
 
 from importlib.machinery import SourceFileLoader
+import itertools
 import re
 
 from sweep import Bad, NO_MEMORY, ROOT, run
+from table import Sweep, sweep_all
 
 ROWS = SourceFileLoader("check_rows", str(ROOT / "tests/check-rows")).load_module()
 DRAIN = re.compile(rb"drain (\S+) ([0-9]+)")
@@ -11,13 +13,16 @@ STARVED = re.compile(rb"drained ([0-9]+) left [0-9]+ no-memory")
 DRAINED = re.compile(rb"drained ([0-9]+) left ([0-9]+)")
 
 # An election of LeLann's on the ring 3, 1, 2, whose first delivery makes a list grow.
-BEGIN = [(b"create a lelann", b"ok"), (b"join a 3", b"ok"), (b"join a 1", b"ok"), (b"join a 2", b"ok"), (b"start a", b"term 1")]
+BEGIN = [(b"create a lelann", b"ok"), (b"join a 3", b"ok"), (b"join a 1", b"ok"), (b"join a 2", b"ok"),
+         (b"start a", b"term 1")]
 # What is asked then, and the replies where the growth of that delivery is refused.
 FIRST_DELIVERY = {
     "alone": [(b"deliver a 3 left", b"no no-memory"), (b"pending a", b"pending 3"), (b"deliver a 3 left", b"moved"),
               (b"drain a 100", b"drained 11 left 0")],
     "of a drain": [(b"drain a 100", b"drained 0 left 3 no-memory"), (b"drain a 100", b"drained 12 left 0")],
 }
+# Of a file of rows each growth before this one is refused, and then each so many further.
+EACH, STRIDE = 1000, 7
 
 
 class Lines:
@@ -86,10 +91,22 @@ def refuse(library, program, lines, growth):
 
 
 def starves(library, program, asked, growth):
-    """One run of the election in which this growth is refused: whether it is that of the first delivery, which is asked for
-    alone or in a drain, and all replies are as written; `None` where no such growth is made."""
+    """One run of the election in which this growth is refused: whether it is that of the first delivery, which is asked
+    for alone or in a drain, and all replies are as written; `None` where no such growth is made."""
     commands, replies = zip(*BEGIN, *asked)
     ran = run(library, [program, "replay"], text(commands), growth=growth)
     if not ran.told:
         return None
     return ran.status == 0 and not ran.err and ran.out == text(replies)
+
+
+def sweep_lines(pool, library, program, files, is_full):
+    for file in files:
+        sweep = Sweep(f"growth, rows of {file.name}")
+        numbers = itertools.count(1) if is_full else itertools.chain(range(1, EACH), itertools.count(EACH, STRIDE))
+        sweep_all(pool, sweep, lambda n: refuse(library, program, file, n), numbers)
+        yield sweep
+    for name, asked in FIRST_DELIVERY.items():
+        sweep = Sweep(f"growth, the first delivery {name}")
+        sweep_all(pool, sweep, lambda n: starves(library, program, asked, n), itertools.count(1))
+        yield sweep

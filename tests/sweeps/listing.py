@@ -6,12 +6,14 @@ as it is.
 
 import contextlib
 import errno
+import itertools
 import pathlib
 import subprocess
 import tempfile
 
 import journal
 from sweep import Bad, NO_MEMORY, run
+from table import Sweep, sweep_all
 
 UNREADABLE, UNWRITTEN = journal.UNREADABLE, b"ringd: write failed\n"
 # The calls, what it says if such a call fails, and how each goes wrong.
@@ -56,3 +58,13 @@ def goes_wrong(library, case, call, number, how, error):
         name = errno.errorcode.get(error, "")
         raise Bad(f"journal, {call} {number}, {how} {name}: status {ran.status}, {ran.out!r}, {ran.err!r}")
     return True if ran.told else None
+
+
+def sweep_listing(pool, library, program):
+    with listed(program) as case:
+        for call, (_, hows) in CALLS.items():
+            sweep = Sweep(f"{call} calls of ringd journal" if call != "growth" else "growth, ringd journal")
+            for how, error in hows:
+                one = lambda n: goes_wrong(library, case, call, n, how, error)
+                sweep_all(pool, sweep, one, itertools.count(1))
+            yield sweep

@@ -7,11 +7,13 @@ Where many growths are refused in a run, chance picks them by a seed.
 """
 
 import contextlib
+import itertools
 import re
 import time
 
 from serving import Client, Lost, serving
 from sweep import Bad, NO_MEMORY
+from table import CHANCES, IN_A_ROW, Sweep, growths_behind, seeds_of, sweep_all
 
 # Who leads the ring 3, 1, 2.
 LEADERS = {b"lelann": 3, b"chang": 3, b"hirschberg": 3, b"peterson": 1}
@@ -246,3 +248,39 @@ def expect_run(server, election):
     if not was_there or out != server.listening() or error:
         raise Bad(f"it ended, or said {out!r}, {error!r}")
     return True if server.told() else None
+
+
+def sweep_sessions(pool, library, program, is_full):
+    for kind in LEADERS:
+        sweep = Sweep(f"growth, sessions that elect by {kind.decode()}")
+        one = lambda n: refuse(library, program, kind, n)
+        sweep_all(pool, sweep, one, itertools.count(1), is_certain=False)
+        yield sweep
+    sweep = Sweep("growth, sessions over inboxes of one")
+    one = lambda n: refuse(library, program, b"hirschberg", n, workers=3, inbox=1)
+    sweep_all(pool, sweep, one, itertools.count(1), is_certain=False)
+    yield sweep
+    sweep = Sweep("growth, sessions of run")
+    one = lambda n: refuse_in_run(library, program, b"lelann", n)
+    sweep_all(pool, sweep, one, itertools.count(1), is_certain=False)
+    yield sweep
+    sweep = Sweep("growth, sessions of run with a journal")
+    one = lambda n: refuse_with_journal(library, program, b"hirschberg", n)
+    sweep_all(pool, sweep, one, itertools.count(1), is_certain=False)
+    yield sweep
+    yield from sweep_many_growths(pool, library, program, is_full)
+
+
+def sweep_many_growths(pool, library, program, is_full):
+    """Growths that are refused some in a row, and many by chance."""
+    behind = growths_behind(growths_before(library, program))
+    sweep = Sweep("growths in a row, sessions")
+    for times in IN_A_ROW:
+        one = lambda n: refuse(library, program, b"lelann", n, times=times)
+        sweep_all(pool, sweep, one, behind, is_certain=False)
+    yield sweep
+    sweep = Sweep("growths by chance, sessions")
+    seeds = itertools.product(seeds_of(is_full), CHANCES, LEADERS, behind)
+    by_chance = lambda it: refuse(library, program, it[2], it[3], seed=it[0], chance=it[1])
+    sweep_all(pool, sweep, by_chance, seeds, is_certain=False)
+    yield sweep

@@ -4,10 +4,12 @@ Three clients come to `serve`: one asks line by line, one sends all its lines at
 Each works in a group of its own, so the replies of each are the same whatever befalls the others.
 """
 
+import itertools
 import time
 
 from serving import PATIENCE, Client, Lost, serving
 from sweep import Bad
+from table import Sweep, or_none, sweep_all
 
 LINES = (
     (b"create a chang", b"ok"), (b"join a 3", b"ok"), (b"join a 1", b"ok"), (b"start a", b"term 1"),
@@ -213,3 +215,37 @@ def run_lacks_thread(library, program, number, workers):
         if not was_there or error or server.told():
             raise Bad(f"it ended, or said {error!r}")
         return False
+
+
+def sweep_sockets(pool, library, program):
+    for call in ("read", "write"):
+        for by_bytes in (False, True):
+            sweep = Sweep(f"{call}s of serve{', one byte each' if by_bytes else ''}")
+            failing = lambda n: or_none(fails(library, program, call, n, by_bytes))
+            sweep_all(pool, sweep, failing, itertools.count(1))
+            for how in ("interrupt", "byte"):
+                passing = lambda n: or_none(passes(library, program, call, how, n, by_bytes))
+                sweep_all(pool, sweep, passing, itertools.count(1))
+            yield sweep
+
+
+def sweep_threads(pool, library, program):
+    for call in ("accept", "spawn"):
+        sweep = Sweep(f"{call}s of serve")
+        for workers in (1, 2, 8):
+            failing = lambda n: or_none(ends_behind(library, program, call, n, workers))
+            sweep_all(pool, sweep, failing, itertools.count(1))
+        if call == "accept":
+            interrupted = lambda n: or_none(passes(library, program, call, "interrupt", n, False))
+            sweep_all(pool, sweep, interrupted, itertools.count(1))
+        yield sweep
+    sweep = Sweep("accepts of run")
+    for times in (1, 2):
+        failing = lambda n: or_none(goes_on(library, program, n, times))
+        sweep_all(pool, sweep, failing, itertools.count(1))
+    yield sweep
+    sweep = Sweep("spawns of run")
+    for workers in (1, 2, 8):
+        failing = lambda n: or_none(run_lacks_thread(library, program, n, workers))
+        sweep_all(pool, sweep, failing, itertools.count(1))
+    yield sweep
