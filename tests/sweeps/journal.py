@@ -194,8 +194,6 @@ def goes_wrong(library, program, call, number, how, error, many=MANY):
         if not was_made and told != len(lines):
             raise Bad(f"{told} of {len(lines)} lines were answered, and no call went wrong")
         server.start_anew()
-        if not server.listens():
-            raise Bad(f"a restart ends: {server.ends()}")
         expect_states(shown_by(server), lines, told, sent)
         return was_made
 
@@ -226,8 +224,6 @@ def lacks_memory(library, program, number, spared=()):
             raise Bad(f"{out!r}, {error!r}, status {server.run.returncode}")
         was_told = server.told()
         server.start_anew()
-        if not server.listens():
-            raise Bad(f"a restart ends: {server.ends()}")
         if shown_by(server) != groups.shown():
             raise Bad(f"a restart shows {shown_by(server)}")
         return True if was_told else None

@@ -80,7 +80,8 @@ class Server:
     """A run of the program that serves clients, where the calls go wrong that the names say. It has a journal if the
     bytes of one are given, and a second port if campaigns or HTTP are asked for."""
 
-    def __init__(self, library, program, words, workers=2, inbox=64, journal=None, campaigns=False, http=False, **wrong):
+    def __init__(self, library, program, words, workers=2, inbox=64, journal=None, campaigns=False, http=False,
+                 **wrong):
         self.program, self.words, self.workers, self.inbox = program, words, workers, inbox
         self.campaigns, self.http, self.may_refuse_ports = campaigns, http, "setsockopt" in wrong
         settings = {f"SWEEP_{name.upper()}": str(value) for name, value in wrong.items()}
@@ -93,13 +94,15 @@ class Server:
         self.start()
 
     def start_anew(self, campaigns=None):
-        """Starts the program once more, with no call going wrong. It serves campaigns or not, as it did before or as it
-        is said."""
+        """Starts the program once more, with no call going wrong, until it listens. It serves campaigns or not, as it
+        did before or as it is said."""
         self.stop()
         self.environment = dict(os.environ)
         if campaigns is not None:
             self.campaigns = campaigns
         self.start()
+        if not self.listens():
+            raise Bad(f"a restart ends: {self.ends()}")
 
     def start(self):
         """Starts the program on free ports."""
