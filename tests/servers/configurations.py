@@ -1,4 +1,4 @@
-"""Checks of the configurations that `serve` and `run` read, and of those that they refuse."""
+"""Checks of the configurations that `serve` and `run` read or refuse, and of a port that is in use."""
 
 import os
 import socket

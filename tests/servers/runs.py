@@ -1,4 +1,4 @@
-"""Checks of `run`: clients that wait for a place, and sessions that are ended."""
+"""Checks of `run`: it serves on, lets clients wait, and ends sessions that are silent or read nothing."""
 
 import contextlib
 import signal

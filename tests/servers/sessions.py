@@ -11,6 +11,14 @@ from serving import PATIENCE, Client, Differs, same
 CHECKS, check = listed()
 
 
+def expect_news(client, line, first, wanted):
+    """Asks a line for as long as it has the first reply. The reply after that must be the wanted one."""
+    reply, patience = first, time.monotonic() + PATIENCE
+    while reply == first and time.monotonic() < patience:
+        reply = client.ask(line)
+    same("reply", reply, wanted)
+
+
 @check
 def two_clients_share_the_groups(program):
     with program.serving(2) as port:
@@ -42,10 +50,7 @@ def a_term_that_was_started_is_decided(program):
                 same("reply", client.ask(b"join a %d\n" % member), b"ok\n")
             same("reply", client.ask(b"start a\n"), b"term 1\n")
             for member in (4, 1, 3, 2):
-                reply, patience = b"undecided 1\n", time.monotonic() + PATIENCE
-                while reply == b"undecided 1\n" and time.monotonic() < patience:
-                    reply = client.ask(b"who a %d\n" % member)
-                same("reply", reply, b"leader 1 %d\n" % leader)
+                expect_news(client, b"who a %d\n" % member, b"undecided 1\n", b"leader 1 %d\n" % leader)
             same("reply", client.ask(b"terms a\n"), b"terms 1:%d\n" % leader)
             client.close()
 
@@ -57,10 +62,7 @@ def a_term_is_decided_over_inboxes_of_one_item(program):
         for line, reply in [(b"create a chang\n", b"ok\n"), (b"join a 1\n", b"ok\n"), (b"join a 2\n", b"ok\n"),
                             (b"start a\n", b"term 1\n")]:
             same("reply", client.ask(line), reply)
-        reply, patience = b"terms 1:-\n", time.monotonic() + PATIENCE
-        while reply == b"terms 1:-\n" and time.monotonic() < patience:
-            reply = client.ask(b"terms a\n")
-        same("reply", reply, b"terms 1:2\n")
+        expect_news(client, b"terms a\n", b"terms 1:-\n", b"terms 1:2\n")
         client.close()
 
 
@@ -74,10 +76,7 @@ def the_member_that_weighs_most_is_elected(program):
                 same("reply", client.ask(b"join a %s\n" % member), b"ok\n")
             same("reply", client.ask(b"join a 1/3\n"), b"no member\n")
             same("reply", client.ask(b"start a\n"), b"term 1\n")
-            reply, patience = b"undecided 1\n", time.monotonic() + PATIENCE
-            while reply == b"undecided 1\n" and time.monotonic() < patience:
-                reply = client.ask(b"who a 1\n")
-            same("reply", reply, b"leader 1 %s\n" % leader)
+            expect_news(client, b"who a 1\n", b"undecided 1\n", b"leader 1 %s\n" % leader)
             same("reply", client.ask(b"who a 1/9\n"), b"no bad-line\n")
             same("reply", client.ask(b"members a\n"), b"members 4 1/9 3 2\n")
             client.close()
