@@ -1,3 +1,4 @@
 pub mod Envelopes
 pub mod Journals
 pub mod Kept
+pub mod Ports

@@ -9,6 +9,7 @@
 //! winner of the ring. These are facts of their types, whichever thread made them.
 #![tactic(auto)]
 
+mod announced;
 mod charter;
 mod envelope;
 mod fault;
@@ -16,6 +17,7 @@ mod filed;
 mod node;
 mod packet;
 mod port;
+mod receipt;
 mod report;
 mod room;
 mod step;
@@ -26,4 +28,5 @@ pub use fault::TakeFault;
 pub use filed::Filed;
 pub use node::Node;
 pub use packet::Packet;
+pub use receipt::Receipt;
 pub use report::Report;
