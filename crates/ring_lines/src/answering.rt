@@ -99,9 +99,15 @@ pub fn answer_lines<A: Answerer, R: Intake, W: Outlet>(
     requires { A.holds answerer.now state.old }
     ensures kept { A.holds answerer.now state.new }
     ensures told { (state.new ≡ state.old) ⊎ A.may_tell answerer.now state.new }
-    ensures lines { AnswersLines R.read_gives W.write_gives (A.answers answerer.now)
-        A.Answer.spelling A.Answer.is_legal
-        reader.old writer.old state.old reads result reader.new writer.new state.new }
+    ensures lines { AnswersLines
+        (record { gives = R.read_gives; from = reader.old; to = reader.new })
+        (record { gives = W.write_gives; from = writer.old; to = writer.new })
+        (record {
+          answers = A.answers answerer.now;
+          spelling = A.Answer.spelling;
+          is_legal = A.Answer.is_legal;
+        })
+        reads result state.old state.new }
 {
     let Ok(mut lines) = LineBuffer::new(alloc, reads) else {
         return Err(LineFault::NoMemory);

@@ -13,7 +13,7 @@ use Rattle.ring_terms.specs.Steps.{Step}
 use Rattle.ring_mux.specs.Views.{Held}
 use Rattle.ring_mux.specs.WorldSteps.{StepOfWorlds}
 use Rattle.ring_grammar.specs.Spelling.{IsReply, Spells, reply_line}
-use Rattle.ring_lines.specs.Ends.{Reading, Writing}
+use Rattle.ring_lines.specs.Ends.{End, Reading, Writing}
 use Rattle.ring_lines.specs.Rounds.{AnswersLines}
 use Rattle.ring_lines.specs.declared.answers.LineFault.{LineFault}
 
@@ -37,6 +37,9 @@ abbrev pub RepliesTo : List ℕ → Held Any AnyMsg → Reply → Held Any AnyMs
 RepliesTo line old answer new = IsStep line old answer new ⊎ IsBad line old answer new
 
 -- A replay: the lines are answered by rounds, from no groups at all.
-pub record Replays {S V : Type 0} (reading : S → Reading → S → Type 0) (writing : V → Writing → V → Type 0) (reader : S) (writer : V) (reads : ℕ) (result : Result ℕ LineFault) (reader_now : S) (writer_now : V) : Type 0 where
+pub record Replays {S V : Type 0} (reader : End S Reading) (writer : End V Writing) (reads : ℕ)
+    (result : Result ℕ LineFault) : Type 0 where
   pub final : Held Any AnyMsg
-  pub answered : AnswersLines reading writing RepliesTo reply_line IsReply reader writer (record { object = []; worlds = [] }) reads result reader_now writer_now final
+  pub answered : AnswersLines reader writer
+      (record { answers = RepliesTo; spelling = reply_line; is_legal = IsReply })
+      reads result (record { object = []; worlds = [] }) final

@@ -79,8 +79,8 @@ pub fn replay<R: Intake, W: Outlet>(
     writer: &mut W,
     reads: u32,
 ) -> Result<u64, LineFault>
-    ensures { Replays R.read_gives W.write_gives reader.old writer.old reads result reader.new
-        writer.new }
+    ensures { Replays (record { gives = R.read_gives; from = reader.old; to = reader.new })
+        (record { gives = W.write_gives; from = writer.old; to = writer.new }) reads result }
 {
     let Ok(mut mux) = Mux::new(alloc) else {
         return Err(LineFault::NoMemory);

@@ -2,14 +2,14 @@
 use Rattle.std.proofs.Common.{◌≡◌, ℕ, List, [], ◌∷◌, ◌++◌, Result, Ok, Err, refl, subst, append_assoc, append-nil}
 use Rattle.std.specs.Prelude.{MatchOption, Option, Some, None}
 use Rattle.ring_any.specs.declared.any.Any.{Any}
-use Rattle.ring_lines.specs.Ends.{CallsLead, Reading, Writing, Wrote, WroteFront}
-use Rattle.ring_lines.specs.Rounds.{AnswersLines, Round, Rounds, Writes, calls_of}
+use Rattle.ring_lines.specs.Ends.{CallsLead, End, Reading, Writing, Wrote, WroteFront}
+use Rattle.ring_lines.specs.Rounds.{AnswerRules, AnswersLines, Round, Rounds, WroteAll, Writes, calls_of}
 use Rattle.ring_lines.specs.declared.answers.LineFault.{LineFault}
 use Rattle.ring_lines.specs.declared.answers.LineFault.TheVariants as fault
 use Rattle.ring_service.specs.Places.{ServesPlaced}
 use Rattle.ring_service.specs.Sessions.{Serves}
 use Rattle.ring_turn.specs.Seats.{SeatView}
-use Rattle.ring_server.specs.Sessions.{Adds, HasServed}
+use Rattle.ring_server.specs.Sessions.{Adds, HasServed, logged}
 
 -- calls lead from each list to the list with them at its end
 calls_logged : {A : Type 0} (calls before : List A) → CallsLead Adds before calls (before ++ calls)
@@ -17,12 +17,12 @@ calls_logged [] before = append-nil before
 calls_logged (call ∷ calls) before =
     (before ++ call ∷ [], refl, subst (λ log. CallsLead Adds (before ++ call ∷ []) calls log) (append_assoc before (call ∷ []) calls) (calls_logged calls (before ++ call ∷ [])))
 
-module _ {S V : Type 0} (reading : S → Reading → S → Type 0) (writing : V → Writing → V → Type 0) where
+module _ {S V : Type 0} (reader : End S Reading) (writer : End V Writing) where
   -- a text, and a prefix of one
-  wrote_logged : (from to : V) (text : List ℕ) (before : List Writing) → (wrote : Wrote writing from text to) → Wrote Adds before text (before ++ wrote.log)
+  wrote_logged : (from to : V) (text : List ℕ) (before : List Writing) → (wrote : Wrote writer.gives from text to) → Wrote Adds before text (before ++ wrote.log)
   wrote_logged from to text before wrote = record { log = wrote.log; calls = calls_logged wrote.log before; taken = wrote.taken; went_on = wrote.went_on }
 
-  front_logged : (from to : V) (text : List ℕ) (before : List Writing) → (front : WroteFront writing from text to) → WroteFront Adds before text (before ++ (front.before ++ front.last ∷ []))
+  front_logged : (from to : V) (text : List ℕ) (before : List Writing) → (front : WroteFront writer.gives from text to) → WroteFront Adds before text (before ++ (front.before ++ front.last ∷ []))
   front_logged from to text before front = record {
     before = front.before;
     last = front.last;
@@ -35,73 +35,71 @@ module _ {S V : Type 0} (reading : S → Reading → S → Type 0) (writing : V 
   }
 
   -- rounds
-  rounds_logged : (rounds : List Round) (reader reader_now : S) (writer writer_now : V) → Rounds reading writing reader writer rounds reader_now writer_now
+  rounds_logged : (rounds : List Round) (mid : S) (out : V) → Rounds reader.gives writer.gives reader.from writer.from rounds mid out
       → (written : List Writing) × Rounds Adds Adds [] [] rounds (calls_of rounds) written
-  rounds_logged [] reader reader_now writer writer_now made = ([], (refl, refl))
-  rounds_logged (round ∷ earlier) reader reader_now writer writer_now made =
-      let before : (written : List Writing) × Rounds Adds Adds [] [] earlier (calls_of earlier) written = rounds_logged earlier reader made.0 writer made.1 made.2 in
-      (before.0 ++ made.4.log, (calls_of earlier, before.0, before.1, refl, wrote_logged made.1 writer_now round.text before.0 made.4))
+  rounds_logged [] mid out made = ([], (refl, refl))
+  rounds_logged (round ∷ earlier) mid out made =
+      let before : (written : List Writing) × Rounds Adds Adds [] [] earlier (calls_of earlier) written = rounds_logged earlier made.0 made.1 made.2 in
+      (before.0 ++ made.4.log, (calls_of earlier, before.0, before.1, refl, wrote_logged made.1 out round.text before.0 made.4))
 
-  -- the calls that wrote a text
-  writes_logged : (rounds : List Round) (text : List ℕ) (result : Result ℕ LineFault) (reader reader_now : S) (writer writer_now : V) → Writes reading writing reader writer rounds text result reader_now writer_now
-      → (written : List Writing) × Writes Adds Adds [] [] rounds text result (calls_of rounds) written
-  writes_logged rounds text (Ok count) reader reader_now writer writer_now writes =
-      let all : (written : List Writing) × Rounds Adds Adds [] [] rounds (calls_of rounds) written = rounds_logged rounds reader reader_now writer writer_now writes.made in
-      (all.0, record { made = all.1; all = writes.all })
-  writes_logged rounds text (Err fault.Read) reader reader_now writer writer_now writes =
-      let all : (written : List Writing) × Rounds Adds Adds [] [] rounds (calls_of rounds) written = rounds_logged rounds reader reader_now writer writer_now writes.made in
-      (all.0, record { made = all.1; all = writes.all })
-  writes_logged rounds text (Err fault.Endless) reader reader_now writer writer_now writes =
-      let all : (written : List Writing) × Rounds Adds Adds [] [] rounds (calls_of rounds) written = rounds_logged rounds reader reader_now writer writer_now writes.made in
-      (all.0, record { made = all.1; all = writes.all })
-  writes_logged rounds text (Err fault.NoMemory) reader reader_now writer writer_now writes =
-      let all : (written : List Writing) × Rounds Adds Adds [] [] rounds (calls_of rounds) written = rounds_logged rounds reader reader_now writer writer_now writes.made in
-      (all.0, record { made = all.1; all = writes.all })
-  writes_logged rounds text (Err fault.Write) reader reader_now writer writer_now writes =
-      let all : (written : List Writing) × Rounds Adds Adds [] [] rounds (calls_of rounds) written = rounds_logged rounds reader reader_now writer writes.out writes.made in (
-        all.0 ++ (writes.failed.before ++ writes.failed.last ∷ []),
-        record { out = all.0; made = all.1; owed = writes.owed; whole = writes.whole; failed = front_logged writes.out writer_now writes.owed all.0 writes.failed },
+  -- the calls that wrote all of a text
+  all_logged : (rounds : List Round) (text : List ℕ) → WroteAll reader writer rounds text
+      → (written : List Writing) × WroteAll (logged (calls_of rounds)) (logged written) rounds text
+  all_logged rounds text wrote =
+      let made = rounds_logged rounds reader.to writer.to wrote.made in
+      (made.0, record { made = made.1; all = wrote.all })
+
+  -- the calls that wrote a text, by the result
+  writes_logged : (rounds : List Round) (text : List ℕ) (result : Result ℕ LineFault) → Writes reader writer rounds text result
+      → (written : List Writing) × Writes (logged (calls_of rounds)) (logged written) rounds text result
+  writes_logged rounds text (Ok count) writes = all_logged rounds text writes
+  writes_logged rounds text (Err fault.Read) writes = all_logged rounds text writes
+  writes_logged rounds text (Err fault.Endless) writes = all_logged rounds text writes
+  writes_logged rounds text (Err fault.NoMemory) writes = all_logged rounds text writes
+  writes_logged rounds text (Err fault.Write) writes =
+      let made = rounds_logged rounds reader.to writes.out writes.made in (
+        made.0 ++ (writes.failed.before ++ writes.failed.last ∷ []),
+        record { out = made.0; made = made.1; owed = writes.owed; whole = writes.whole; failed = front_logged writes.out writer.to writes.owed made.0 writes.failed },
       )
 
   -- lines that were answered
-  answers_logged : {A B : Type 0} (answers : List ℕ → A → B → A → Type 0) (spelling : B → List ℕ) (is_legal : B → Type 0) (reader reader_now : S) (writer writer_now : V) (old new : A) (reads : ℕ) (result : Result ℕ LineFault)
-      → AnswersLines reading writing answers spelling is_legal reader writer old reads result reader_now writer_now new
-      → (read : List Reading) × (written : List Writing) × AnswersLines Adds Adds answers spelling is_legal [] [] old reads result read written new
-  answers_logged answers spelling is_legal reader reader_now writer writer_now old new reads result served =
-      let writes = writes_logged served.rounds _ result reader reader_now writer writer_now served.writes in (
-        calls_of served.rounds,
+  answers_logged : {A B : Type 0} (rules : AnswerRules A B) (reads : ℕ) (result : Result ℕ LineFault) (old new : A) → AnswersLines reader writer rules reads result old new
+      → (read : List Reading) × (written : List Writing) × AnswersLines (logged read) (logged written) rules reads result old new
+  answers_logged rules reads result old new answers =
+      let writes = writes_logged answers.rounds _ result answers.writes in (
+        calls_of answers.rounds,
         writes.0,
         record {
-          rounds = served.rounds;
-          lines = served.lines;
-          given = served.given;
-          run = served.run;
-          legal = served.legal;
-          granted = served.granted;
-          in_turn = served.in_turn;
-          answered = served.answered;
+          rounds = answers.rounds;
+          lines = answers.lines;
+          given = answers.given;
+          run = answers.run;
+          legal = answers.legal;
+          granted = answers.granted;
+          in_turn = answers.in_turn;
+          answered = answers.answered;
           writes = writes.1;
         },
       )
 
   -- a session
-  pub session_logged : (base : Option ℕ) (most session reads : ℕ) (old new : SeatView Any) (reader reader_now : S) (writer writer_now : V) (result : Result ℕ LineFault)
+  pub session_logged : (base : Option ℕ) (most session reads : ℕ) (result : Result ℕ LineFault) (old new : SeatView Any)
       → MatchOption base
-      (Serves reading writing (λ (seat : SeatView Any). seat.mine) session old reader writer reads result new reader_now writer_now)
-      (λ (b : ℕ). ServesPlaced reading writing (λ (seat : SeatView Any). seat.mine) b most session old reader writer reads result new reader_now writer_now)
+      (Serves reader writer (λ (seat : SeatView Any). seat.mine) session reads result old new)
+      (λ (b : ℕ). ServesPlaced reader writer (λ (seat : SeatView Any). seat.mine) b most session reads result old new)
       → HasServed base most session reads old new
-  session_logged (Some base) most session reads old new reader reader_now writer writer_now result served =
-      let logged = answers_logged _ _ _ reader reader_now writer writer_now old new reads result served in
-      record { result = result; read = logged.0; written = logged.1; served = logged.2 }
-  session_logged None most session reads old new reader reader_now writer writer_now result served =
-      let logged = answers_logged _ _ _ reader reader_now writer writer_now old new reads result served in
-      record { result = result; read = logged.0; written = logged.1; served = logged.2 }
+  session_logged (Some base) most session reads result old new served =
+      let calls = answers_logged _ reads result old new served in
+      record { result = result; read = calls.0; written = calls.1; served = calls.2 }
+  session_logged None most session reads result old new served =
+      let calls = answers_logged _ reads result old new served in
+      record { result = result; read = calls.0; written = calls.1; served = calls.2 }
 
   -- the session under another name of the base
-  pub session_logged_as : (base told : Option ℕ) (most session reads : ℕ) (old new : SeatView Any) (reader reader_now : S) (writer writer_now : V) (result : Result ℕ LineFault) → told ≡ base
+  pub session_logged_as : (base told : Option ℕ) (most session reads : ℕ) (result : Result ℕ LineFault) (old new : SeatView Any) → told ≡ base
       → MatchOption told
-      (Serves reading writing (λ (seat : SeatView Any). seat.mine) session old reader writer reads result new reader_now writer_now)
-      (λ (b : ℕ). ServesPlaced reading writing (λ (seat : SeatView Any). seat.mine) b most session old reader writer reads result new reader_now writer_now)
+      (Serves reader writer (λ (seat : SeatView Any). seat.mine) session reads result old new)
+      (λ (b : ℕ). ServesPlaced reader writer (λ (seat : SeatView Any). seat.mine) b most session reads result old new)
       → HasServed base most session reads old new
-  session_logged_as base told most session reads old new reader reader_now writer writer_now result is served =
-      subst (λ (b : Option ℕ). HasServed b most session reads old new) is (session_logged told most session reads old new reader reader_now writer writer_now result served)
+  session_logged_as base told most session reads result old new is served =
+      subst (λ (b : Option ℕ). HasServed b most session reads old new) is (session_logged told most session reads result old new served)

@@ -1,7 +1,7 @@
 -- A session over a socket, and the entries that it adds to those of its seat.
 use Rattle.std.specs.Prelude.{◌≡◌, ℕ, Bool, true, false, List, [], ◌∷◌, ◌++◌, Option, Some, None, Result, All, MatchOption}
 use Rattle.ring_any.specs.declared.any.Any.{Any}
-use Rattle.ring_lines.specs.Ends.{Reading, Writing}
+use Rattle.ring_lines.specs.Ends.{End, Reading, Writing}
 use Rattle.ring_lines.specs.declared.answers.LineFault.{LineFault}
 use Rattle.ring_service.specs.Places.{ServesPlaced}
 use Rattle.ring_service.specs.Sessions.{Serves}
@@ -24,6 +24,11 @@ pub record GainsCalls (session : ℕ) (mine now : List (Entry Any)) : Type 0 whe
 abbrev pub Adds : {A : Type 0} → List A → A → List A → Type 0
 Adds log call now = now ≡ log ++ call ∷ []
 
+-- A reader or a writer of which nothing is known but these calls. Its state is the list of the calls
+-- so far.
+abbrev pub logged : {A : Type 0} → List A → End (List A) A
+logged calls = record { gives = Adds; from = []; to = calls }
+
 -- the base of the places, if places are written
 abbrev pub base_if : Bool → ℕ → Option ℕ
 base_if true base = Some base
@@ -38,7 +43,7 @@ pub record HasServed (base : Option ℕ) (most session reads : ℕ)
   pub read : List Reading
   pub written : List Writing
   pub served : MatchOption base
-      (Serves Adds Adds (λ seat. seat.mine) session old [] [] reads result new read written)
+      (Serves (logged read) (logged written) (λ seat. seat.mine) session reads result old new)
       (λ base.
-      ServesPlaced Adds Adds (λ seat. seat.mine) base most session old [] [] reads result new
-      read written)
+      ServesPlaced (logged read) (logged written) (λ seat. seat.mine) base most session reads
+      result old new)

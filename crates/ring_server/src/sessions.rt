@@ -295,11 +295,15 @@ fn answer<R: Wait, I: Intake, O: Outlet, T: Tabled<Any> + Drop>(
     ensures gained { GainsCalls session seat.old.mine seat.new.mine }
     ensures told { (seat.new ≡ seat.old) ⊎ Settled seat.new }
     ensures served { MatchOption base
-        (Serves I.read_gives O.write_gives (λ seat. seat.mine) session seat.old reader.old
-        writer.old reads result seat.new reader.new writer.new)
+        (Serves
+        (record { gives = I.read_gives; from = reader.old; to = reader.new })
+        (record { gives = O.write_gives; from = writer.old; to = writer.new })
+        (λ seat. seat.mine) session reads result seat.old seat.new)
         (λ base.
-        ServesPlaced I.read_gives O.write_gives (λ seat. seat.mine) base T.most session seat.old
-        reader.old writer.old reads result seat.new reader.new writer.new) }
+        ServesPlaced
+        (record { gives = I.read_gives; from = reader.old; to = reader.new })
+        (record { gives = O.write_gives; from = writer.old; to = writer.new })
+        (λ seat. seat.mine) base T.most session reads result seat.old seat.new) }
 {
     match base {
         Some(base) => front.serve_placed(rt, seat, base, session, reader, writer, reads),

@@ -1,7 +1,7 @@
 -- Sessions that write the place of each reply.
 use Rattle.std.specs.Prelude.{◌≡◌, ◌<◌, ◌+◌, ℕ, List, [], ◌∷◌, ◌++◌, Result}
 use Rattle.ring_any.specs.declared.any.Any.{Any}
-use Rattle.ring_lines.specs.Ends.{Reading, Writing}
+use Rattle.ring_lines.specs.Ends.{End, Reading, Writing}
 use Rattle.ring_lines.specs.Rounds.{AnswersLines}
 use Rattle.ring_lines.specs.declared.answers.LineFault.{LineFault}
 use Rattle.ring_table.specs.Accesses.{reply_of}
@@ -29,10 +29,13 @@ PlacesIn base most session line mine answer now =
 
 -- A session with places. Its lines are answered by rounds, and each line goes on from the seat that
 -- the lines before it left. Places are counted from a base.
-abbrev pub ServesPlaced : {S V T : Type 0} → (S → Reading → S → Type 0) → (V → Writing → V → Type 0)
-    → (T → List (Entry Any)) → ℕ → ℕ → ℕ → T → S → V → ℕ → Result ℕ LineFault → T → S → V → Type 0
-ServesPlaced reading writing mine base most session seat reader writer reads result seat_now
-    reader_now writer_now =
-    AnswersLines reading writing
-    (λ line old answer new. PlacesIn base most session line (mine old) answer (mine new))
-    placed_line has_reply reader writer seat reads result reader_now writer_now seat_now
+abbrev pub ServesPlaced : {S V T : Type 0} → End S Reading → End V Writing
+    → (T → List (Entry Any)) → ℕ → ℕ → ℕ → ℕ → Result ℕ LineFault → T → T → Type 0
+ServesPlaced reader writer mine base most session reads result seat seat_now =
+    AnswersLines reader writer
+    (record {
+      answers = λ line old answer new. PlacesIn base most session line (mine old) answer (mine new);
+      spelling = placed_line;
+      is_legal = has_reply;
+    })
+    reads result seat seat_now

@@ -10,7 +10,7 @@ use Rattle.ring_events.specs.declared.event.Event.TheVariants.{Client}
 use Rattle.ring_events.specs.declared.reply.Reply.{Reply}
 use Rattle.ring_events.specs.declared.reply.Reply.TheVariants.{Refused}
 use Rattle.ring_grammar.specs.Spelling.{IsReply as IsLegalReply, Spells, reply_line}
-use Rattle.ring_lines.specs.Ends.{Reading, Writing}
+use Rattle.ring_lines.specs.Ends.{End, Reading, Writing}
 use Rattle.ring_lines.specs.Rounds.{AnswersLines}
 use Rattle.ring_lines.specs.declared.answers.LineFault.{LineFault}
 use Rattle.ring_table.specs.Accesses.{HasStep, LeavesOut}
@@ -55,9 +55,13 @@ AnswersIn session line mine answer now =
 
 -- A session. Its lines are answered by rounds, and each line goes on from the seat that the lines
 -- before it left.
-abbrev pub Serves : {S V T : Type 0} → (S → Reading → S → Type 0) → (V → Writing → V → Type 0)
-    → (T → List (Entry Any)) → ℕ → T → S → V → ℕ → Result ℕ LineFault → T → S → V → Type 0
-Serves reading writing mine session seat reader writer reads result seat_now reader_now writer_now =
-    AnswersLines reading writing
-    (λ line old answer new. AnswersIn session line (mine old) answer (mine new)) reply_line
-    IsLegalReply reader writer seat reads result reader_now writer_now seat_now
+abbrev pub Serves : {S V T : Type 0} → End S Reading → End V Writing → (T → List (Entry Any)) → ℕ
+    → ℕ → Result ℕ LineFault → T → T → Type 0
+Serves reader writer mine session reads result seat seat_now =
+    AnswersLines reader writer
+    (record {
+      answers = λ line old answer new. AnswersIn session line (mine old) answer (mine new);
+      spelling = reply_line;
+      is_legal = IsLegalReply;
+    })
+    reads result seat seat_now

@@ -93,8 +93,10 @@ impl<A: Access<Any> + Drop> Front<A> {
     ) -> Result<u64, LineFault>
         requires { A.has_seat self.now seat.old }
         ensures seat { A.has_seat self.now seat.new }
-        ensures served { Serves I.read_gives O.write_gives A.mine session seat.old reader.old
-            writer.old reads result seat.new reader.new writer.new }
+        ensures served { Serves
+            (record { gives = I.read_gives; from = reader.old; to = reader.new })
+            (record { gives = O.write_gives; from = writer.old; to = writer.new })
+            A.mine session reads result seat.old seat.new }
         ensures told { (seat.new ≡ seat.old) ⊎ A.is_settled seat.new }
     {
         let session = Session {
@@ -122,8 +124,10 @@ impl<A: Access<Any> + Drop> Front<A> {
         requires seat { A.has_seat self.now seat.old }
         requires base { base + A.most ≤ 2 ^ 64 }
         ensures seat { A.has_seat self.now seat.new }
-        ensures served { ServesPlaced I.read_gives O.write_gives A.mine base A.most session seat.old
-            reader.old writer.old reads result seat.new reader.new writer.new }
+        ensures served { ServesPlaced
+            (record { gives = I.read_gives; from = reader.old; to = reader.new })
+            (record { gives = O.write_gives; from = writer.old; to = writer.new })
+            A.mine base A.most session reads result seat.old seat.new }
         ensures told { (seat.new ≡ seat.old) ⊎ A.is_settled seat.new }
     {
         let session = Session {

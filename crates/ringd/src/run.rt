@@ -44,8 +44,8 @@ fn replay_ends<I: Intake, O: Outlet>(
     reader: &mut I,
     writer: &mut O,
 ) -> Result<(), ProgramFault>
-    ensures { Replayed I.read_gives O.write_gives reader.old writer.old 1000000000 result reader.new
-        writer.new }
+    ensures { Replayed (record { gives = I.read_gives; from = reader.old; to = reader.new })
+        (record { gives = O.write_gives; from = writer.old; to = writer.new }) 1000000000 result }
 {
     match ring_schedule::replay(alloc, reader, writer, READS) {
         Ok(_) => Ok(()),

@@ -1,6 +1,6 @@
 -- Clauses of inner functions that replay and run.
 use Rattle.std.specs.Prelude.{◌≡◌, ◌⊎◌, ℕ, Result, Ok, Err}
-use Rattle.ring_lines.specs.Ends.{Reading, Writing}
+use Rattle.ring_lines.specs.Ends.{End, Reading, Writing}
 use Rattle.ring_lines.specs.declared.answers.LineFault.{LineFault}
 use Rattle.ring_accept.specs.Faults.{told_as}
 use Rattle.ring_accept.specs.declared.fault.ProgramFault.{ProgramFault}
@@ -10,13 +10,11 @@ use Rattle.ringd.specs.Run.{SpellsNone}
 
 -- a replay of all lines, or one that ended by a fault, which becomes the program's fault of its
 -- kind
-abbrev pub Replayed : {S V A : Type 0} → (S → Reading → S → Type 0) → (V → Writing → V → Type 0) → S
-    → V → ℕ → Result A ProgramFault → S → V → Type 0
-Replayed reading writing reader writer reads (Ok done) reader_now writer_now =
-    (count : ℕ) × Replays reading writing reader writer reads (Ok count) reader_now writer_now
-Replayed reading writing reader writer reads (Err told) reader_now writer_now =
-    (fault : LineFault) × (told ≡ told_as fault)
-    × Replays reading writing reader writer reads (Err fault) reader_now writer_now
+abbrev pub Replayed : {S V A : Type 0} → End S Reading → End V Writing → ℕ
+    → Result A ProgramFault → Type 0
+Replayed reader writer reads (Ok done) = (count : ℕ) × Replays reader writer reads (Ok count)
+Replayed reader writer reads (Err told) =
+    (fault : LineFault) × (told ≡ told_as fault) × Replays reader writer reads (Err fault)
 
 -- a fault of reading a file: it cannot be read or is too long, or an allocation failed
 abbrev pub IsOfReading : ProgramFault → Type 0

@@ -5,7 +5,7 @@ use Rattle.ring_server.proofs.sessions.SessionHandlerClientHandler.serve.Goals a
 
 pub returns-clause-served : goal.returns-clause-served
 returns-clause-served g c =
-    session_logged_as _ _ _ c.told_base-base.result _ c.args.session c.args.self.now.reads _ _ _ _ _ _ _ c.told_base-base.ensures.value c.answer.ensures.served
+    session_logged_as _ _ _ c.told_base-base.result _ c.args.session c.args.self.now.reads _ _ _ c.told_base-base.ensures.value c.answer.ensures.served
 
 pub returns-clause-gained : goal.returns-clause-gained
 returns-clause-gained g c = c.answer.ensures.gained
