@@ -15,7 +15,12 @@ from sums import sum_of
 from sweep import Bad, ROOT
 
 PAGE = ROOT / "crates/ring_http/page"
-FILES = {"/": "index.html", "/app.js": "app.js", "/app.css": "app.css"}
+# The files whose texts each path has, one after another.
+FILES = {
+    "/": ("index.html",),
+    "/app.js": tuple(f"script/{part}.js" for part in ("service", "words", "ring", "views", "run")),
+    "/app.css": ("app.css",),
+}
 POLICY = b"\r\ncontent-security-policy: default-src 'self'\r\n"
 GROUP, PICTURE = "/v1/groups/a", "/v1/groups/a/election.svg"
 # The texts of a 503. It has none if an allocation fails for it.
@@ -148,9 +153,9 @@ class Crowd(Failing):
 
     def look(self):
         """Looks at all paths."""
-        for path, name in FILES.items():
-            if self.viewer.get(path) != (PAGE / name).read_bytes():
-                raise Bad(f"{path} is not {name}")
+        for path, names in FILES.items():
+            if self.viewer.get(path) != b"".join((PAGE / name).read_bytes() for name in names):
+                raise Bad(f"{path} is not its files")
         if self.viewer.get("/healthz") != b"ok\n":
             raise Bad("there is no health")
         if self.viewer.picture(self.viewer.get("/v1/groups")) != {"groups": ["a"]}:

@@ -5,7 +5,6 @@ ghost use Rattle.http_server.specs.Response.{IsBlank, IsResponse, fields_of};
 ghost use Rattle.ring_http.specs.Answers.{Says, code_of, fault_code, fields_for, fields_with, kind_in, no_picture, policy_fields, reason_kind, reason_of, refusal_text, text_of};
 
 use crate::asking::Lack;
-use crate::page::{APP, INDEX, STYLE};
 use crate::route::{Resource, Route};
 use crate::text::put;
 use http::{HeaderValue, StatusCode, header};
@@ -96,16 +95,6 @@ fn text_of(route: &Route) -> &'static str
         Route::NotAllowed => "GET and HEAD alone are allowed.\n",
         Route::Unknown => "There is nothing at this path.\n",
         Route::Found(_) => "",
-    }
-}
-
-/// The page, its script or its style; empty for the other resources.
-pub(crate) fn page_of(resource: &Resource) -> &'static str {
-    match resource {
-        Resource::Page => INDEX,
-        Resource::Script => APP,
-        Resource::Style => STYLE,
-        _ => "",
     }
 }
 

@@ -11,8 +11,9 @@ ghost use Rattle.ring_http.specs.declared.route.Route.TheVariants as Route;
 use crate::asking::Asker;
 use crate::beside::Beside;
 use crate::metrics::put_metrics;
+use crate::page::put_page;
 use crate::route::{Resource, Route, route_of};
-use crate::saying::{add_kind, begin, end, fail, fault_code, kind_in, lack_picture, page_of};
+use crate::saying::{add_kind, begin, end, fail, fault_code, kind_in, lack_picture};
 use crate::text::put;
 use crate::values::{put_group, put_names};
 use crate::waiting::{seen_of, wait_of};
@@ -258,6 +259,6 @@ fn show_page(resource: &Resource, response: &mut Response) -> Result<(), AllocEr
     ensures { OnOk result (IsResponse 200 (fields_with (kind_in resource.now))
         response.new.body.items response.new) }
 {
-    put(page_of(resource).as_bytes(), &mut response.body)?;
+    put_page(resource, &mut response.body)?;
     add_kind(kind_in(resource), response)
 }
