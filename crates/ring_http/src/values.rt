@@ -63,25 +63,20 @@ fn put_line(alloc: Global, value: &Value, out: &mut Rope) -> Result<(), AllocErr
 fn groups_to_json(alloc: Global, place: usize, names: &[GroupName]) -> Result<Value, AllocError>
     ensures { IfOk result (λ value. view value ≡ groups_value place names.now) }
 {
-    let groups = names_to_json(alloc, names)?;
-    json!(in alloc; {"place": place, "groups": groups})
+    json!(in alloc; {"place": place, "groups": names_to_json(alloc, names)?})
 }
 
 // A group, and a place.
 fn group_to_json(alloc: Global, place: usize, group: &GroupPicture) -> Result<Value, AllocError>
     ensures { IfOk result (λ value. view value ≡ group_value place group.now) }
 {
-    let algorithm = algorithm_to_json(alloc, group.algorithm)?;
-    let members = members_to_json(alloc, group.members.as_slice())?;
-    let terms = terms_to_json(alloc, group.leaders.as_slice())?;
-    let informed = numbers_to_json(alloc, &group.informed)?;
     json!(in alloc; {
         "place": place,
         "group": text_of(group.name.bytes()),
-        "algorithm": algorithm,
-        "members": members,
-        "terms": terms,
-        "informed": informed
+        "algorithm": algorithm_to_json(alloc, group.algorithm)?,
+        "members": members_to_json(alloc, group.members.as_slice())?,
+        "terms": terms_to_json(alloc, group.leaders.as_slice())?,
+        "informed": numbers_to_json(alloc, &group.informed)?
     })
 }
 
@@ -149,8 +144,7 @@ fn leader_to_json(alloc: Global, leader: Option<NodeId>) -> Result<Value, AllocE
 fn term_to_json(alloc: Global, term: u64, leader: Option<NodeId>) -> Result<Value, AllocError>
     ensures { IfOk result (λ value. view value ≡ term_value term leader) }
 {
-    let leader = leader_to_json(alloc, leader)?;
-    json!(in alloc; {"term": term, "leader": leader})
+    json!(in alloc; {"term": term, "leader": leader_to_json(alloc, leader)?})
 }
 
 // The list of the terms with these leaders, from term 1.
