@@ -43,15 +43,14 @@ impl<A: Access<Any> + Drop, R: Wait + Clock, B: Beside> Asker<'_, A, R, B> {
         ensures rises { place.old ≤ place.new }
     {
         let mut shown = self.look(seat, place, name)?;
-        if shown.is_news(seen) {
-            return Ok(shown);
-        }
+        let mut is_news = shown.is_news(seen);
         for _ in 0..wait * LOOKS {
+            if is_news {
+                break;
+            }
             thread::sleep(self.rt, Duration::from_micros(PAUSE));
             let next = self.look(seat, place, name)?;
-            if !shown.is_same(&next) {
-                return Ok(next);
-            }
+            is_news = !shown.is_same(&next);
             shown = next;
         }
         Ok(shown)

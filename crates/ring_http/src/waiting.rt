@@ -11,28 +11,23 @@ const MOST: u32 = 60;
 pub(crate) fn wait_of(query: Option<&str>) -> u32
     ensures { result ≤ 60 }
 {
-    let Some(query) = query else {
-        return 0;
-    };
-    let mut wait = 0;
-    let mut follows = false;
-    for part in query.as_bytes().split(|b| *b == b'&') {
-        if let Some(text) = part.strip_prefix(b"wait=") {
-            wait = seconds_in(text);
-        }
-        if part.starts_with(b"after=") {
-            follows = true;
-        }
+    match (value_of(query, b"after="), value_of(query, b"wait=")) {
+        (Some(_), Some(text)) => seconds_in(text),
+        _ => 0,
     }
-    if follows { wait.min(MOST) } else { 0 }
 }
 
 /// The sum of the picture that a client has seen, by its query `seen=SUM`, or `None` if it says
 /// none.
 pub(crate) fn seen_of(query: Option<&str>) -> Option<u32> {
+    sum_in(value_of(query, b"seen=")?)
+}
+
+// The text after a key of a query, or `None` if the query does not have it.
+fn value_of<'a>(query: Option<&'a str>, key: &[u8]) -> Option<&'a [u8]> {
     for part in query?.as_bytes().split(|b| *b == b'&') {
-        if let Some(text) = part.strip_prefix(b"seen=") {
-            return sum_in(text);
+        if let Some(text) = part.strip_prefix(key) {
+            return Some(text);
         }
     }
     None

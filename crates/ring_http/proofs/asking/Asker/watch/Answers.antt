@@ -7,16 +7,10 @@ use Rattle.ring_http.proofs.asking.Asker.watch.Goals as goal
 pub loop-init : goal.loop-init
 loop-init g c = record { has = c.in_ok-shown.ensures.seat; watched = watched_first _ _ _ _ _ c.in_ok-shown.ensures.ok.0 c.in_ok-shown.ensures.ok.1; placed = c.in_ok-shown.ensures.placed }
 
-pub returns-then-is_news-clause-ok : goal.returns-then-is_news-clause-ok
-returns-then-is_news-clause-ok g c = watched_first _ _ _ _ _ c.in_ok-shown.ensures.ok.0 c.in_ok-shown.ensures.ok.1
-
 pub returns-in_err-next-clause-err : goal.returns-in_err-next-clause-err
 returns-in_err-next-clause-err g c =
     let p = err_from_is_err_and c.from_residual-in_err-next.result c.from_residual-in_err-next.ensures.1 in
     rw (p.1, p.2) (lacks_after _ _ _ _ _ (watched_questions _ _ _ _ _ c.loop.invariant.watched) c.in_err-next.ensures.err)
-
-pub returns-then-not-is_same-clause-ok : goal.returns-then-not-is_same-clause-ok
-returns-then-not-is_same-clause-ok g c = watched_next _ _ _ _ _ _ _ c.loop.invariant.watched c.in_ok-next.ensures.ok.0 c.in_ok-next.ensures.ok.1
 
 pub loop-preserved : goal.loop-preserved
 loop-preserved g c = record {
