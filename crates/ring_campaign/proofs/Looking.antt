@@ -19,7 +19,6 @@ use Rattle.ring_campaign.specs.declared.finding.Found.{Found}
 use Rattle.ring_campaign.specs.declared.finding.Found.TheVariants as found
 use Rattle.ring_campaign.specs.private.Looking.{AddsLeader, AddsLook, AddsMembers, AddsQuestions, AddsStart, AddsWho, Finds, IsAt, Never, Seeks, SeeksOn, Starts}
 
-
 module _ (session : ℕ) (group : List ℕ) (number : ℕ) where
   -- ---- one question after another
 
