@@ -1,6 +1,6 @@
 -- One more receipt: what follows from a journal that has one more packet at its end.
-use Rattle.std.proofs.Common.{◌≡◌, ◌+◌, ◌≤◌, ℕ, zero, suc, true, false, cond, List, [], ◌∷◌, ◌++◌, length, map, take, Option, Some, None, slice_get, refl, sym, ap, ap₂, ◌∙◌, append_assoc, inl, inr, ◌⊎◌, arith, add-one}
-use Rattle.std.proofs.lemmas.List.{append-nil, map_push}
+use Rattle.std.proofs.Common.{◌≡◌, ◌+◌, ◌≤◌, ℕ, zero, suc, true, false, cond, List, [], ◌∷◌, ◌++◌, length, take, Option, Some, None, slice_get, refl, sym, ap, ap₂, ◌∙◌, append_assoc, inl, inr, ◌⊎◌, arith, add-one}
+use Rattle.std.proofs.lemmas.List.{append-nil}
 use Rattle.ring_id.specs.declared.side.Side.{Side}
 use Rattle.ring_id.specs.declared.side.Side.TheVariants.{Left, Right}
 use Rattle.ring_id.specs.Sides.{other, same_side}
@@ -10,17 +10,10 @@ use Rattle.ring_election.specs.Tables.{Table, to_side}
 use Rattle.ring_election.specs.Traces.{listed, sent_after, sent_from, state_after, state_from, taken_from}
 use Rattle.ring_node.specs.declared.packet.Packet.{Packet}
 use Rattle.ring_node.specs.declared.packet.Packet.TheVariants.{Algo, Leader}
-use Rattle.ring_node.specs.declared.receipt.Receipt.{Receipt}
 use Rattle.ring_node.specs.Journals.{algo_count, algo_part, algo_receipt, algo_sends, announcement, brought, kept_or, known_after, known_from, leader_count, news, packets_after, packets_from, state_on}
 use Rattle.ring_node.specs.private.Journals.{algo_of, algos_of}
 use Rattle.ring_node.specs.private.Kept.{AllName}
 use Rattle.ring_node.specs.Ports.{all_algos}
-use Rattle.ring_node.specs.Receipts.{receipt_of}
-
--- a journal after one more receipt
-pub one_more : {M : Type 0} (before kept after : List (Receipt M)) (r : Receipt M) (from : Side) (p : Packet M)
-    → kept ≡ before → after ≡ kept ++ r ∷ [] → receipt_of r ≡ (from, p) → map receipt_of after ≡ map receipt_of before ++ (from, p) ∷ []
-one_more before kept after r from p same more is = rw (more, same, map_push receipt_of before r, is) refl
 
 -- the element after a list, or one of the list's own
 pub get_snoc : {A : Type 0} (xs : List A) (x : A) (k : ℕ) (y : A) → slice_get (xs ++ x ∷ []) k ≡ Some y → (slice_get xs k ≡ Some y) ⊎ ((k ≡ length xs) × (x ≡ y))

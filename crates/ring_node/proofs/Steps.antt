@@ -1,5 +1,5 @@
 -- One step of a node keeps the invariant of its type, with any lawful algorithm.
-use Rattle.std.proofs.Common.{◌≡◌, ◌+◌, ℕ, Bool, false, List, [], ◌∷◌, ◌++◌, length, Option, Some, None, IfSome, slice_get, take, refl, sym, ap, ap₂, ◌∙◌, append_assoc, arith}
+use Rattle.std.proofs.Common.{◌≡◌, ◌+◌, ℕ, Bool, false, List, [], ◌∷◌, ◌++◌, length, Option, Some, None, IfSome, slice_get, take, refl, sym, ap, ap₂, ◌∙◌, append_assoc}
 use Rattle.std.proofs.lemmas.List.{append-nil}
 use Rattle.std.proofs.lemmas.Option.{slice_get_within}
 use Rattle.ring_id.specs.declared.side.Side.{Side}
@@ -18,11 +18,9 @@ use Rattle.ring_node.specs.private.Envelopes.{AllSendable}
 use Rattle.ring_node.specs.Envelopes.{IsProper, IsSendable, index_after}
 use Rattle.ring_node.specs.Journals.{algo_count, algo_part, algo_sends, announcement, brought, kept_or, known_after, leader_count, news, packets_after, state_on}
 use Rattle.ring_node.specs.private.Kept.{AllName, IsPort, IsSeated}
-use Rattle.ring_node.specs.private.Ports.{packets_of}
 use Rattle.ring_node.specs.Nodes.{Seated}
 use Rattle.ring_node.specs.Ports.{all_algos, all_leaders}
 use Rattle.ring_node.specs.Reports.{IsTruthful}
-use Rattle.ring_node.proofs.Announcing.{leader_count-algo_sends, none_announced, silent_before}
 use Rattle.ring_node.proofs.Receipts.{AllFit-snoc, algo_at, algos_of-packets_after, leader_at, AllName-all_algos, AllName-announcement, AllName-append, algo_count-append, algo_part-snoc, known_after-snoc, leader_count-append, length-taken_from-algo_part, packets_after-snoc, state_after-snoc, taken_from-append}
 
 -- what the algorithm sends has no announcement
@@ -43,8 +41,8 @@ pub seated_first : {S M : Type 0} (t : Table S M) (fits : Fitting M) (winner : L
     → slice_get ring position ≡ Some me
     → (state : S) → state ≡ t.first me
     → (left right : Port M)
-    → packets_of left ≡ all_algos (to_side Left (t.first_sends me)) × (left.algos ≡ 0) × (left.leaders ≡ 0)
-    → packets_of right ≡ all_algos (to_side Right (t.first_sends me)) × (right.algos ≡ 0) × (right.leaders ≡ 0)
+    → left.sent.items ≡ all_algos (to_side Left (t.first_sends me)) × (left.algos ≡ 0) × (left.leaders ≡ 0)
+    → right.sent.items ≡ all_algos (to_side Right (t.first_sends me)) × (right.algos ≡ 0) × (right.leaders ≡ 0)
     → IsSeated t fits winner ring position me state [] left right None
 seated_first t fits winner ring position me is_ring here state state_is left right left_is right_is = record {
   is_ring = is_ring;
@@ -64,8 +62,8 @@ pub seated_still : {S M : Type 0} (t : Table S M) (fits : Fitting M) (winner : L
     → (state' : S) → state' ≡ state
     → (js' : List (Side × Packet M)) → js' ≡ js
     → (left' right' : Port M)
-    → (packets_of left' ≡ packets_of left) × (left'.algos ≡ left.algos) × (left'.leaders ≡ left.leaders)
-    → (packets_of right' ≡ packets_of right) × (right'.algos ≡ right.algos) × (right'.leaders ≡ right.leaders)
+    → (left'.sent.items ≡ left.sent.items) × (left'.algos ≡ left.algos) × (left'.leaders ≡ left.leaders)
+    → (right'.sent.items ≡ right.sent.items) × (right'.algos ≡ right.algos) × (right'.leaders ≡ right.leaders)
     → IsSeated t fits winner ring position me state' js' left' right' known
 seated_still t fits winner ring position me state js left right known old state' same_state js' same_journal left' right' same_left same_right =
     rw (same_state, same_journal)
@@ -104,12 +102,6 @@ sendable_at fits winner ring from side packets k all (Some p) is = all.each k p 
 news_of_kept : (known coming : Option ℕ) → news known (kept_or known coming) ≡ news known coming
 news_of_kept None coming = refl
 news_of_kept (Some v) coming = refl
-
--- what is news was not known before
-news_first : {P : Type 0} (known came told : Option ℕ) → told ≡ news known came → (known ≡ None → P) → IfSome told (λ _. P)
-news_first known came None told_is first = tt
-news_first None came (Some v) told_is first = first refl
-news_first (Some w) came (Some v) told_is first = cc
 
 -- an element after a list is at its length
 after_all : {A : Type 0} (xs : List A) (y : A) (ys : List A) → slice_get (xs ++ y ∷ ys) (length xs) ≡ Some y
@@ -179,14 +171,14 @@ module _ {S M : Type 0} {two_way greatest : Bool} (t : Table S M) (fits : Fittin
   -- a port after the step
   port_after : (to : Side) (p : Packet M) (port port' : Port M)
       → IsPort (packets_after t me to js) (taken_from to js) port
-      → packets_of port' ≡ (packets_of port ++ algo_sends t to state from p) ++ announcement to (news known (brought t state from p))
+      → port'.sent.items ≡ (port.sent.items ++ algo_sends t to state from p) ++ announcement to (news known (brought t state from p))
       → port'.algos ≡ port.algos + algo_count (taken_from to ((from, p) ∷ []))
       → port'.leaders ≡ port.leaders + leader_count (taken_from to ((from, p) ∷ []))
       → IsPort (packets_after t me to (js ++ (from, p) ∷ [])) (taken_from to (js ++ (from, p) ∷ [])) port'
   port_after to p port port' is sent algos leaders = record {
     sent_is =
         sent
-        ∙ append_assoc (packets_of port) (algo_sends t to state from p) (announcement to (news known (brought t state from p)))
+        ∙ append_assoc port.sent.items (algo_sends t to state from p) (announcement to (news known (brought t state from p)))
         ∙ ap (λ (l : List (Packet M)). l ++ (algo_sends t to state from p ++ announcement to (news known (brought t state from p)))) is.sent_is
         ∙ sym (sent_next to p);
     algos_is = algos ∙ ap (λ (n : ℕ). n + algo_count (taken_from to ((from, p) ∷ []))) is.algos_is ∙ sym (port_counts to from p js);
@@ -221,20 +213,20 @@ module _ {S M : Type 0} {two_way greatest : Bool} (t : Table S M) (fits : Fittin
       → (known' : Option ℕ) → known' ≡ kept_or known came
       → (told : Option ℕ) → told ≡ news known came
       → (ready-left ran-left left' : Port M)
-      → (packets_of ready-left ≡ packets_of left) × (ready-left.algos ≡ left.algos) × (ready-left.leaders ≡ left.leaders)
-      → packets_of ran-left ≡ packets_of ready-left ++ algo_sends given Left state from p
+      → (ready-left.sent.items ≡ left.sent.items) × (ready-left.algos ≡ left.algos) × (ready-left.leaders ≡ left.leaders)
+      → ran-left.sent.items ≡ ready-left.sent.items ++ algo_sends given Left state from p
       → (ran-left.algos ≡ ready-left.algos) × (ran-left.leaders ≡ ready-left.leaders)
-      → packets_of left' ≡ packets_of ran-left
+      → left'.sent.items ≡ ran-left.sent.items
       → left'.algos ≡ ran-left.algos + algo_count (taken_from Left ((from, p) ∷ []))
       → left'.leaders ≡ ran-left.leaders + leader_count (taken_from Left ((from, p) ∷ []))
       → (ready-right ran-right told-right right' : Port M)
-      → (packets_of ready-right ≡ packets_of right) × (ready-right.algos ≡ right.algos) × (ready-right.leaders ≡ right.leaders)
-      → packets_of ran-right ≡ packets_of ready-right ++ algo_sends given Right state from p
+      → (ready-right.sent.items ≡ right.sent.items) × (ready-right.algos ≡ right.algos) × (ready-right.leaders ≡ right.leaders)
+      → ran-right.sent.items ≡ ready-right.sent.items ++ algo_sends given Right state from p
       → (ran-right.algos ≡ ready-right.algos) × (ran-right.leaders ≡ ready-right.leaders)
-      → packets_of told-right ≡ packets_of ran-right ++ all_leaders told
+      → told-right.sent.items ≡ ran-right.sent.items ++ all_leaders told
       → told-right.algos ≡ ran-right.algos
       → told-right.leaders ≡ ran-right.leaders
-      → packets_of right' ≡ packets_of told-right
+      → right'.sent.items ≡ told-right.sent.items
       → right'.algos ≡ told-right.algos + algo_count (taken_from Right ((from, p) ∷ []))
       → right'.leaders ≡ told-right.leaders + leader_count (taken_from Right ((from, p) ∷ []))
       → (js' : List (Side × Packet M)) → js' ≡ js ++ (from, p) ∷ []
@@ -252,15 +244,6 @@ module _ {S M : Type 0} {two_way greatest : Bool} (t : Table S M) (fits : Fittin
       (sent_right ∙ told_right ∙ ap₂ (λ (l : List (Packet M)) (o : Option ℕ). l ++ all_leaders o) (rw (same, ready_right.0) at ran_right) (told_is ∙ ap (news known) brought_is))
       (algos_right ∙ ap (λ (n : ℕ). n + algo_count (taken_from Right ((from, p) ∷ []))) (told_algos ∙ counts_right.0 ∙ ready_right.1))
       (leaders_right ∙ ap (λ (n : ℕ). n + leader_count (taken_from Right ((from, p) ∷ []))) (told_leaders ∙ counts_right.1 ∙ ready_right.2))))
-
-  -- a port that is made ready for news has announced nothing before
-  pub unannounced : (given : Table S M) (p : Packet M) (ready ran : Port M) → packets_of ready ≡ packets_of right → packets_of ran ≡ packets_of ready ++ algo_sends given Right state from p
-      → (told came : Option ℕ) → told ≡ news known came → IfSome told (λ _. ran.announced ≡ None)
-  unannounced given p ready ran made_ready has_run told came told_is =
-      let silent : known ≡ None → leader_count (packets_of ran) ≡ 0 = λ unknown.
-      let before : leader_count (packets_of ready) ≡ 0 = ap leader_count (made_ready ∙ old.right_is.sent_is) ∙ silent_before t me Right js (sym old.known_is ∙ unknown) in
-      ap leader_count has_run ∙ omega (arith, before, leader_count-append (packets_of ready) (algo_sends given Right state from p), leader_count-algo_sends given Right state from p) in
-      news_first known came told told_is (λ unknown. none_announced ran.sent.items ran.announced (silent unknown))
 
   -- the news of the step, by the leaders known before and after it
   pub news_next : (p : Packet M) → news (known_after t me js) (known_after t me (js ++ (from, p) ∷ [])) ≡ news known (brought t state from p)

@@ -3,6 +3,5 @@ pub mod Journals
 pub mod Links
 pub mod Nodes
 pub mod Ports
-pub mod Receipts
 pub mod Reports
 pub mod private

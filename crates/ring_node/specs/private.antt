@@ -1,4 +1,3 @@
 pub mod Envelopes
 pub mod Journals
 pub mod Kept
-pub mod Ports

@@ -9,7 +9,6 @@
 //! winner of the ring. These are facts of their types, whichever thread made them.
 #![tactic(auto)]
 
-mod announced;
 mod charter;
 mod envelope;
 mod fault;
@@ -17,7 +16,6 @@ mod filed;
 mod node;
 mod packet;
 mod port;
-mod receipt;
 mod report;
 mod room;
 mod step;
@@ -28,5 +26,4 @@ pub use fault::TakeFault;
 pub use filed::Filed;
 pub use node::Node;
 pub use packet::Packet;
-pub use receipt::Receipt;
 pub use report::Report;

@@ -1,9 +1,8 @@
-ghost use Rattle.std.specs.Prelude.{◌≡◌, ◌+◌, ◌^◌, ◌<◌, [], IfOk, IfSome, MatchOption, OnErr, OnOk, length, map, slice_get, take};
+ghost use Rattle.std.specs.Prelude.{◌≡◌, ◌+◌, ◌^◌, ◌<◌, [], IfOk, IfSome, MatchOption, OnErr, OnOk, length, slice_get, take};
 ghost use Rattle.ring_id.specs.Sides.{other};
 ghost use Rattle.ring_node.specs.private.Envelopes.{AllSendable};
 ghost use Rattle.ring_election.specs.Traces.{taken_from};
 ghost use Rattle.ring_node.specs.Nodes.{Gains, HasSentFew, IsComing, IsFaithful, IsFault, IsForNode, IsNext, IsSentWell, Takes, envelope_of, known_of, member_of, news_of, receiving, report_of, sent_of, taken_of};
-ghost use Rattle.ring_node.specs.Receipts.{receipt_of};
 ghost use Rattle.ring_node.specs.Reports.{IsTruthful};
 
 use crate::charter::Charter;
@@ -11,7 +10,6 @@ use crate::envelope::Envelope;
 use crate::fault::TakeFault;
 use crate::packet::Packet;
 use crate::port::Port;
-use crate::receipt::Receipt;
 use crate::report::Report;
 use crate::step::{count, learn, prepare, run};
 use ring_election::RingElection;
@@ -29,16 +27,14 @@ pub struct Node<E: RingElection> {
     position: usize,
     me: NodeId,
     state: E::State,
-    journal: Vec<Receipt<E::Msg>>,
+    journal: Vec<(Side, Packet<E::Msg>)>,
     left: Port<E::Msg>,
     right: Port<E::Msg>,
     known: Option<NodeId>,
 }
 
 impl<E: RingElection> Model for Node<E> {
-    ghost use Rattle.std.specs.Prelude.{map};
     ghost use Rattle.ring_node.specs.Nodes.{Seated};
-    ghost use Rattle.ring_node.specs.Receipts.{receipt_of};
     ghost use Rattle.ring_node.specs.private.Kept.{IsSeated};
 
     ghost Value = { Seated E E.Msg };
@@ -46,13 +42,12 @@ impl<E: RingElection> Model for Node<E> {
     ghost view = { λ a. record {
       charter = a.charter.value;
       position = a.position;
-      journal = map receipt_of a.journal.items;
+      journal = a.journal.items;
     } };
 
     ghost invariant = { λ a. IsSeated (E.table a.charter.value.algorithm)
         (E.fits a.charter.value.algorithm) (E.winner a.charter.value.algorithm)
-        a.charter.value.roster a.position a.me a.state (map receipt_of a.journal.items) a.left
-        a.right a.known };
+        a.charter.value.roster a.position a.me a.state a.journal.items a.left a.right a.known };
 }
 
 impl<E: RingElection> Node<E> {
@@ -107,7 +102,7 @@ impl<E: RingElection> Node<E> {
     pub fn sent(&self, side: Side) -> usize
         ensures { result ≡ length (sent_of E.table self.now side) }
     {
-        self.port(side).len()
+        self.port(side).sent.len()
     }
 
     /// The number of packets that it has taken from a side.
@@ -142,9 +137,9 @@ impl<E: RingElection> Node<E> {
         nth_from(&self.journal, side, place)
     }
 
-    /// The receipts in order.
-    pub fn receipts(&self) -> &[Receipt<E::Msg>]
-        ensures { map receipt_of result.now ≡ self.now.journal }
+    /// The receipts in order: the side from which each packet came, and the packet.
+    pub fn receipts(&self) -> &[(Side, Packet<E::Msg>)]
+        ensures { result.now ≡ self.now.journal }
     {
         &self.journal
     }
@@ -237,7 +232,7 @@ impl<E: RingElection> Node<E> {
         let news = learn(&mut self.known, brought);
         self.right.announce(&news);
         count(from, packet, &mut self.left, &mut self.right);
-        self.journal.push_reserved(Receipt::new(from, packet));
+        self.journal.push_reserved((from, packet));
         Ok(news)
     }
 
@@ -280,14 +275,14 @@ impl<E: RingElection> Node<E> {
 }
 
 /// The packet at this place of those that came from a side; `None` past the last.
-fn nth_from<M: Copy>(journal: &[Receipt<M>], side: Side, place: usize) -> Option<Packet<M>>
-    ensures { result ≡ slice_get (taken_from side (map receipt_of journal.now)) place }
+fn nth_from<M: Copy>(journal: &[(Side, Packet<M>)], side: Side, place: usize) -> Option<Packet<M>>
+    ensures { result ≡ slice_get (taken_from side journal.now) place }
 {
     let mut before = place;
     for receipt in journal {
-        if receipt.side() == side {
+        if receipt.0 == side {
             if before == 0 {
-                return Some(receipt.packet());
+                return Some(receipt.1);
             }
             before -= 1;
         }

@@ -2,11 +2,9 @@ ghost use Rattle.std.specs.Prelude.{◌≡◌, ◌+◌, ◌^◌, ◌<◌, ◌≤
 ghost use Rattle.ring_id.specs.declared.side.Side.TheVariants.{Left, Right};
 ghost use Rattle.ring_election.specs.Traces.{taken_from};
 ghost use Rattle.ring_node.specs.Journals.{algo_count, algo_sends, brought, kept_or, leader_count, news, state_on};
-ghost use Rattle.ring_node.specs.private.Ports.{packets_of};
 
 use crate::packet::Packet;
 use crate::port::Port;
-use crate::receipt::Receipt;
 use crate::room::find_room;
 use ring_election::RingElection;
 use ring_id::{NoMemory, NodeId, Side};
@@ -19,21 +17,21 @@ pub fn prepare<M: Copy>(
     ring: usize,
     left: &mut Port<M>,
     right: &mut Port<M>,
-    journal: &mut Vec<Receipt<M>>,
+    journal: &mut Vec<(Side, Packet<M>)>,
 ) -> Result<(), NoMemory>
-    ensures left { (packets_of left.new ≡ packets_of left.old) × (left.new.algos ≡ left.old.algos)
+    ensures left { (left.new.sent.items ≡ left.old.sent.items) × (left.new.algos ≡ left.old.algos)
         × (left.new.leaders ≡ left.old.leaders) }
-    ensures right { (packets_of right.new ≡ packets_of right.old)
+    ensures right { (right.new.sent.items ≡ right.old.sent.items)
         × (right.new.algos ≡ right.old.algos) × (right.new.leaders ≡ right.old.leaders) }
     ensures journal { journal.new.items ≡ journal.old.items }
     ensures room_left { OnOk result
-        (two_way ≡ true → vec_len left.new.sent < vec_capacity left.new.sent) }
-    ensures room_right { OnOk result (vec_len right.new.sent < vec_capacity right.new.sent) }
-    ensures room_journal { OnOk result (vec_len journal.new < vec_capacity journal.new) }
+        (two_way ≡ true → vec_len left.new.sent + 2 ≤ vec_capacity left.new.sent) }
+    ensures room_right { OnOk result (vec_len right.new.sent + 2 ≤ vec_capacity right.new.sent) }
+    ensures room_journal { OnOk result (vec_len journal.new + 1 ≤ vec_capacity journal.new) }
 {
     left.make_room(two_way, ring)?;
     right.make_room(true, ring)?;
-    find_room(journal, ring)
+    find_room(journal, 1, ring)
 }
 
 /// Gives a packet to the algorithm: changes the state, sends its messages, and returns the leader
@@ -47,25 +45,26 @@ pub fn run<E: RingElection>(
     right: &mut Port<E::Msg>,
 ) -> Result<Option<NodeId>, NoMemory>
     requires room_left { E.is_two_way algorithm ≡ true
-        → vec_len left.old.sent < vec_capacity left.old.sent }
+        → vec_len left.old.sent + 2 ≤ vec_capacity left.old.sent }
     requires closed { E.is_two_way algorithm ≡ false
         → algo_sends (E.table algorithm) Left state.old from packet ≡ [] }
-    requires room_right { vec_len right.old.sent < vec_capacity right.old.sent }
+    requires room_right { vec_len right.old.sent + 2 ≤ vec_capacity right.old.sent }
     ensures state { OnOk result (state.new ≡ state_on (E.table algorithm) state.old from packet) }
     ensures brought { IfOk result (λ o. o ≡ brought (E.table algorithm) state.old from packet) }
     ensures left { OnOk result
-        (packets_of left.new
-        ≡ packets_of left.old ++ algo_sends (E.table algorithm) Left state.old from packet) }
+        (left.new.sent.items
+        ≡ left.old.sent.items ++ algo_sends (E.table algorithm) Left state.old from packet) }
     ensures right { OnOk result
-        (packets_of right.new
-        ≡ packets_of right.old ++ algo_sends (E.table algorithm) Right state.old from packet) }
+        (right.new.sent.items
+        ≡ right.old.sent.items ++ algo_sends (E.table algorithm) Right state.old from packet) }
     ensures counts_left { (left.new.algos ≡ left.old.algos)
         × (left.new.leaders ≡ left.old.leaders) }
     ensures counts_right { (right.new.algos ≡ right.old.algos)
         × (right.new.leaders ≡ right.old.leaders) }
+    ensures room { vec_len right.new.sent + 1 ≤ vec_capacity right.new.sent }
     ensures err { OnErr result (state.new ≡ state.old) }
-    ensures err_left { OnErr result (packets_of left.new ≡ packets_of left.old) }
-    ensures err_right { OnErr result (packets_of right.new ≡ packets_of right.old) }
+    ensures err_left { OnErr result (left.new.sent.items ≡ left.old.sent.items) }
+    ensures err_right { OnErr result (right.new.sent.items ≡ right.old.sent.items) }
 {
     match packet {
         Packet::Algo(message) => {
@@ -95,8 +94,8 @@ pub fn learn(known: &mut Option<NodeId>, brought: Option<NodeId>) -> Option<Node
 pub fn count<M: Copy>(from: Side, packet: Packet<M>, left: &mut Port<M>, right: &mut Port<M>)
     requires left_fits { (left.old.algos + 1 < 2 ^ 64) × (left.old.leaders + 1 < 2 ^ 64) }
     requires right_fits { (right.old.algos + 1 < 2 ^ 64) × (right.old.leaders + 1 < 2 ^ 64) }
-    ensures sent_left { packets_of left.new ≡ packets_of left.old }
-    ensures sent_right { packets_of right.new ≡ packets_of right.old }
+    ensures sent_left { left.new.sent.items ≡ left.old.sent.items }
+    ensures sent_right { right.new.sent.items ≡ right.old.sent.items }
     ensures algos_left { left.new.algos
         ≡ left.old.algos + algo_count (taken_from Left ((from, packet) ∷ [])) }
     ensures algos_right { right.new.algos

@@ -1,10 +1,10 @@
 -- Settled terms: the comparison of a kind of packet, and why every node knows where all positions are
 -- settled.
-use Rattle.std.proofs.Common.{◌≡◌, ◌≢◌, ◌+◌, ◌<◌, ◌≤◌, ◌==◌, ◌↔◌, ℕ, zero, suc, Bool, true, false, cond, IsTrue, List, [], ◌∷◌, length, drop, map, get_or, Option, Some, None, not, is_some, option_map, slice_get, slice_index, refl, sym, ap, ap₂, ◌∙◌, subst, arith, rules, inl, inr}
+use Rattle.std.proofs.Common.{◌≡◌, ◌≢◌, ◌+◌, ◌<◌, ◌≤◌, ◌==◌, ◌↔◌, ℕ, zero, suc, Bool, true, false, cond, IsTrue, List, [], ◌∷◌, length, drop, Option, Some, None, not, is_some, option_map, slice_get, slice_index, refl, sym, ap, ap₂, ◌∙◌, subst, arith, rules, inl, inr}
 use denote.Enum.Bare.{sameb, same_false, same_true}
 use Rattle.std.proofs.lemmas.Bool.Decides.{nat_tests}
 use Rattle.std.proofs.lemmas.List.{drop_all}
-use Rattle.std.proofs.lemmas.Option.{get_or_from_slice_get, same_Some, slice_get-map, slice_get_read, slice_get_within}
+use Rattle.std.proofs.lemmas.Option.{get_or_from_slice_get, same_Some, slice_get_within}
 use Rattle.ring_id.specs.contracts.side.Side.{the_type}
 use Rattle.ring_id.specs.declared.side.Side.{Side}
 use Rattle.ring_id.specs.declared.side.Side.TheVariants.{Left, Right}
@@ -17,10 +17,8 @@ use Rattle.ring_election.specs.Traces.{taken_from}
 use Rattle.ring_election.proofs.Rings.{neighbour-below}
 use Rattle.ring_node.specs.declared.charter.Charter.{Charter}
 use Rattle.ring_node.specs.declared.packet.Packet.{Packet}
-use Rattle.ring_node.specs.declared.receipt.Receipt.{Receipt}
 use Rattle.ring_node.specs.Journals.{algo_part}
 use Rattle.ring_node.specs.Nodes.{IsFaithful, Seated, known_of, member_of, sent_of, taken_of}
-use Rattle.ring_node.specs.Receipts.{receipt_of}
 use Rattle.ring_node.specs.Reports.{Told}
 use Rattle.ring_world.specs.declared.packet_kind.PacketKind.{PacketKind}
 use Rattle.ring_world.specs.declared.packet_kind.PacketKind.TheVariants.{Message, Announcement}
@@ -54,10 +52,6 @@ of_kind_none kind (p ∷ ps) (suc k) none = of_kind_none kind ps k none
 pub of_kind_past : {M : Type 0} (kind : PacketKind) (ps : List (Packet M)) (k : ℕ) (p : Packet M) → slice_get ps k ≡ Some p → is_of kind p ≡ false → of_kind kind (drop k ps) ≡ of_kind kind (drop (k + 1) ps)
 of_kind_past kind ps k p there is =
     ap (of_kind kind) (drop_at ps k p there) ∙ ap (λ b. cond b (p ∷ of_kind kind (drop (k + 1) ps)) (of_kind kind (drop (k + 1) ps))) is
-
--- the receipt at a place of a node's list is at that place of its journal
-pub receipt_at : {M : Type 0} (rs : List (Receipt M)) (k : ℕ) (r : Receipt M) → k < length rs → r ≡ get_or rs k r → slice_get (map receipt_of rs) k ≡ Some (receipt_of r)
-receipt_at rs k r inside is = slice_get-map receipt_of rs k ∙ ap (option_map receipt_of) (slice_get_read rs (length rs) k r refl inside is)
 
 module _ {M : Type 0} (kind : PacketKind) (side : Side) (js : List (Side × Packet M)) (k : ℕ) (r : Side × Packet M) (there : slice_get js k ≡ Some r) where
   -- the packet of a receipt from the side is the next that was taken there

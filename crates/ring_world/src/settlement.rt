@@ -111,8 +111,8 @@ fn has_taken<E: RingElection>(
     let mut next = 0;
     let receipts = node.receipts();
     for receipt in receipts {
-        let packet = receipt.packet();
-        if receipt.side() == side && kind.has(packet) {
+        let packet = receipt.1;
+        if receipt.0 == side && kind.has(packet) {
             let Some((at, sent)) = next_of(sender, side.other(), kind, next) else {
                 return false;
             };

@@ -6,7 +6,7 @@ use crate::rings::{charter, identity};
 use ring_chang::Chang;
 use ring_election::RingElection;
 use ring_id::Side;
-use ring_node::{Charter, Node, Packet, Receipt, TakeFault};
+use ring_node::{Charter, Node, Packet, TakeFault};
 use std::alloc::Global;
 use std::process::Abort;
 use std::sync::Arc;
@@ -67,7 +67,7 @@ fn a_node_passes_a_greater_on_and_shows_what_it_has_received(rt: HostRuntime) {
     ];
     let wanted = [Some(Packet::Algo(three)), None, None];
     equal(&rt, "receipts by place", receipts, wanted);
-    let all = [Receipt::LeftAlgo(three)];
+    let all = [(Side::Left, Packet::Algo(three))];
     equal(&rt, "all receipts", second.receipts(), all.as_slice());
     drop(second);
 }

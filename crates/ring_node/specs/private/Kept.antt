@@ -11,11 +11,10 @@ use Rattle.ring_node.specs.declared.packet.Packet.{Packet}
 use Rattle.ring_node.specs.declared.packet.Packet.TheVariants.{Algo, Leader}
 use Rattle.ring_node.specs.declared.port.Port.{Port}
 use Rattle.ring_node.specs.Journals.{algo_count, algo_part, known_after, leader_count, packets_after}
-use Rattle.ring_node.specs.private.Ports.{packets_of}
 
--- a port holds the packets sent to its side, and the numbers of those taken there
+-- a port holds the packets sent at its side, and the numbers of those taken there
 pub record IsPort {M : Type 0} (sent taken : List (Packet M)) (port : Port M) : Type 0 where
-  pub sent_is : packets_of port ≡ sent
+  pub sent_is : port.sent.items ≡ sent
   pub algos_is : port.algos ≡ algo_count taken
   pub leaders_is : port.leaders ≡ leader_count taken
 

@@ -1,12 +1,11 @@
 -- The algorithm's messages come after those sent before. If an allocation fails, nothing has
 -- changed. An announcement does not change the algorithm's state.
-use Rattle.std.proofs.Common.{◌++◌, refl, sym, ap, ◌∙◌}
+use Rattle.std.proofs.Common.{◌++◌, refl, sym, ap, ◌∙◌, arith}
 use Rattle.std.proofs.lemmas.List.{append-nil}
 use Rattle.std.proofs.lemmas.Result.{err_from_is_err_and}
 use Rattle.ring_id.specs.declared.side.Side.TheVariants.{Left, Right}
 use Rattle.ring_election.specs.declared.sends.Sends.{Sends}
 use Rattle.ring_election.specs.Tables.{to_side}
-use Rattle.ring_node.specs.private.Ports.{packets_of}
 use Rattle.ring_node.specs.Ports.{all_algos}
 use Rattle.ring_node.proofs.step.run.Goals as goal
 
@@ -21,6 +20,7 @@ returns-in_err-sends-in-Algo g c =
       right = tt;
       counts_left = (refl, refl);
       counts_right = (refl, refl);
+      room = omega (arith, c.requires.room_right);
       err = c.in_err-sends-in-Algo.ensures.err;
       err_left = refl;
       err_right = refl;
@@ -36,6 +36,7 @@ returns-in-Leader g c =
       right = sym (append-nil _);
       counts_left = (refl, refl);
       counts_right = (refl, refl);
+      room = omega (arith, c.requires.room_right);
       err = tt;
       err_left = tt;
       err_right = tt;
@@ -49,10 +50,11 @@ returns-in_ok-sends-in-Algo g c =
     (record {
       state = given.state;
       brought = c.decision.ensures ∙ ap table.decided given.state;
-      left = c.post.ensures.sent ∙ ap (λ (s : Sends g.row.E-Msg.Denot). packets_of c.args.left.now ++ all_algos (to_side Left s)) given.sends;
-      right = c.post-in-Algo.ensures.sent ∙ ap (λ (s : Sends g.row.E-Msg.Denot). packets_of c.args.right.now ++ all_algos (to_side Right s)) given.sends;
+      left = c.post.ensures.sent ∙ ap (λ (s : Sends g.row.E-Msg.Denot). c.args.left.now.sent.items ++ all_algos (to_side Left s)) given.sends;
+      right = c.post-in-Algo.ensures.sent ∙ ap (λ (s : Sends g.row.E-Msg.Denot). c.args.right.now.sent.items ++ all_algos (to_side Right s)) given.sends;
       counts_left = (c.post.ensures.algos, c.post.ensures.leaders);
       counts_right = (c.post-in-Algo.ensures.algos, c.post-in-Algo.ensures.leaders);
+      room = omega (arith, c.post-in-Algo.ensures.len, c.post-in-Algo.ensures.capacity, c.requires.room_right);
       err = tt;
       err_left = tt;
       err_right = tt;

@@ -1,8 +1,7 @@
-use Rattle.std.proofs.Common.{◌≡◌, ◌↔◌, drop, map}
+use Rattle.std.proofs.Common.{◌≡◌, ◌↔◌, drop}
 use Rattle.ring_election.specs.Traces.{taken_from}
 use Rattle.ring_id.specs.Sides.{other}
 use Rattle.ring_node.specs.Nodes.{sent_of, taken_of}
-use Rattle.ring_node.specs.Receipts.{receipt_of}
 use Rattle.ring_world.specs.PacketKinds.{of_kind}
 use Rattle.ring_world.proofs.settlement.has_taken.Given as goal
 
@@ -10,4 +9,4 @@ use Rattle.ring_world.proofs.settlement.has_taken.Given as goal
 abbrev pub invariant-loop-receipt : goal.invariant-loop-receipt
 invariant-loop-receipt g l =
     (of_kind l.kind (taken_of l.node l.side) ≡ of_kind l.kind (sent_of g.E.RingElection.table l.sender (other l.side)))
-    ↔ (of_kind l.kind (taken_from l.side (drop l.receipt-index (map receipt_of l.receipts))) ≡ of_kind l.kind (drop l.next (sent_of g.E.RingElection.table l.sender (other l.side))))
+    ↔ (of_kind l.kind (taken_from l.side (drop l.receipt-index l.receipts)) ≡ of_kind l.kind (drop l.next (sent_of g.E.RingElection.table l.sender (other l.side))))

@@ -1,10 +1,8 @@
 -- Every packet is of one sort, and no more is taken from a side than is received.
-use Rattle.std.proofs.Common.{map, arith}
-use Rattle.std.proofs.lemmas.List.{length-map}
+use Rattle.std.proofs.Common.{arith}
 use Rattle.std.proofs.lemmas.Option.{get_or_from_slice_get}
 use Rattle.ring_id.specs.declared.side.Side.TheVariants.{Left, Right}
 use Rattle.ring_election.specs.Traces.{taken_from}
-use Rattle.ring_node.specs.Receipts.{receipt_of}
 use Rattle.ring_node.proofs.Receipts.{counts-length, length-taken_from}
 use Rattle.ring_node.proofs.Steps.{sent_sendable}
 use Rattle.ring_node.proofs.node.Node.port.Goals as goal
@@ -12,16 +10,14 @@ use Rattle.ring_node.proofs.node.Node.port.Goals as goal
 pub returns-in-Left-clause-few : goal.returns-in-Left-clause-few
 returns-in-Left-clause-few g c =
     let journal = c.self.inside.journal in
-    let taken = map receipt_of journal.items in
     let is = c.self.invariant.left_is in
-    omega (arith, is.algos_is, is.leaders_is, counts-length (taken_from Left taken), length-taken_from Left taken, length-map journal.items receipt_of, journal.ok.0, journal.ok.1, journal.small)
+    omega (arith, is.algos_is, is.leaders_is, counts-length (taken_from Left journal.items), length-taken_from Left journal.items, journal.ok.0, journal.ok.1, journal.small)
 
 pub returns-in-Right-clause-few : goal.returns-in-Right-clause-few
 returns-in-Right-clause-few g c =
     let journal = c.self.inside.journal in
-    let taken = map receipt_of journal.items in
     let is = c.self.invariant.right_is in
-    omega (arith, is.algos_is, is.leaders_is, counts-length (taken_from Right taken), length-taken_from Right taken, length-map journal.items receipt_of, journal.ok.0, journal.ok.1, journal.small)
+    omega (arith, is.algos_is, is.leaders_is, counts-length (taken_from Right journal.items), length-taken_from Right journal.items, journal.ok.0, journal.ok.1, journal.small)
 
 pub returns-in-Right-clause-port : goal.returns-in-Right-clause-port
 returns-in-Right-clause-port g c =
