@@ -1,28 +1,15 @@
+//! The log of a case has a mark of each step: `r` a line was read, `l` a long one, `(` a batch is
+//! answered, `a` or `A` one of its lines was, `)` all were, `s` an answer was spelled, `<` a read
+//! call, `>` a write call.
+
 use crate::equal::equal;
-use crate::memory::room;
+use crate::texts::{Log, Text, note};
 use ring_grammar::{Sink, SinkFailed};
 use ring_lines::{
     Answerer, Intake, LineFault, Outlet, ReadFault, Spell, WriteFailed, answer_lines,
 };
 use std::alloc::Global;
-use std::cell::RefCell;
-use std::process::Abort;
-
-// A mark of each step: `r` a line was read, `l` a long one, `(` a batch is answered, `a` or `A` one
-// of its lines was, `)` all were, `s` an answer was spelled, `<` a read call, `>` a write call.
-#[derive(Drop)]
-struct Log {
-    marks: RefCell<Vec<u8>>,
-}
-
-impl Log {
-    // Notes a mark; nothing if an allocation fails.
-    fn note(&self, mark: u8) {
-        if let Ok(mut marks) = self.marks.try_borrow_mut() {
-            let _ = marks.push(mark);
-        }
-    }
-}
+use std::cell::Cell;
 
 // Answers each line by a text. The question of a line is the mark of its answer.
 #[derive(Drop)]
@@ -44,7 +31,7 @@ impl Spell for Marked<'_> {
     ghost is_legal = { λ _. Unit {0} };
 
     fn spell<S: Sink>(&self, out: &mut S) -> Result<(), SinkFailed> {
-        self.log.note(b's');
+        note(self.log, b"s");
         out.put(self.text)
     }
 }
@@ -65,12 +52,12 @@ impl<'b> Answerer for Marking<'b> {
     ghost may_tell = { λ _ _. Unit {0} };
 
     fn read(&self, _line: &[u8]) -> u8 {
-        self.log.note(b'r');
+        note(self.log, b"r");
         b'a'
     }
 
     fn read_long(&self) -> u8 {
-        self.log.note(b'l');
+        note(self.log, b"l");
         b'A'
     }
 
@@ -81,15 +68,15 @@ impl<'b> Answerer for Marking<'b> {
         asked: &[u8],
         given: &mut Vec<Marked<'b>>,
     ) {
-        self.log.note(b'(');
+        note(self.log, b"(");
         for mark in asked {
-            self.log.note(*mark);
+            note(self.log, &[*mark]);
             given.push_reserved(Marked {
                 log: self.log,
                 text: self.text,
             });
         }
-        self.log.note(b')');
+        note(self.log, b")");
     }
 }
 
@@ -105,7 +92,7 @@ impl Intake for Pieces<'_> {
     ghost read_gives = { λ _ _ _. Unit {0} };
 
     fn read(&mut self, buffer: &mut [u8]) -> Result<usize, ReadFault> {
-        self.log.note(b'<');
+        note(self.log, b"<");
         let Some(piece) = self.pieces.get(self.next) else {
             return Ok(0);
         };
@@ -126,40 +113,9 @@ impl Outlet for Taking<'_> {
     ghost write_gives = { λ _ _ _. Unit {0} };
 
     fn write(&mut self, bytes: &[u8]) -> Result<usize, WriteFailed> {
-        self.log.note(b'>');
+        note(self.log, b">");
         Ok(bytes.len())
     }
-}
-
-// The result of the lines of these pieces. Each line is answered by this text.
-fn answered<'a>(
-    alloc: Global,
-    log: &'a Log,
-    pieces: &'a [&'a [u8]],
-    text: &'a [u8],
-) -> Result<u64, LineFault> {
-    let marking = Marking { log, text };
-    let mut reader = Pieces {
-        log,
-        pieces,
-        next: 0,
-    };
-    let mut writer = Taking { log };
-    answer_lines(alloc, &marking, &mut (), &mut reader, &mut writer, 100)
-}
-
-// The result of the lines of these pieces, and the marks that are noted. Each line is answered by
-// this text.
-fn noted<R: Abort + AllocGlobal>(
-    rt: &R,
-    pieces: &[&[u8]],
-    text: &[u8],
-) -> (Result<u64, LineFault>, Vec<u8>) {
-    let log = Log {
-        marks: RefCell::new(room(rt, rt.alloc(), 210)),
-    };
-    let answer = answered(rt.alloc(), &log, pieces, text);
-    (answer, log.marks.into_inner())
 }
 
 // Pieces, the text that answers each of their lines, the number of lines, and the marks.
@@ -186,27 +142,35 @@ const CASES: [Case<'static>; 5] = [
     (&[&[b'\n'; 65]], b"short", 65, MANY),
 ];
 
-// Stops the test unless these lines are answered, with these marks. They are answered again if the
-// call ran out of memory.
-fn is_noted<R: Abort + AllocGlobal>(rt: &R, case: &Case) {
-    let (pieces, text, lines, wanted) = *case;
-    let (mut answer, mut marks) = noted(rt, pieces, text);
-    if answer == Err(LineFault::NoMemory) {
-        drop(marks);
-        (answer, marks) = noted(rt, pieces, text);
-    }
-    equal(
-        rt,
-        "the answer and the marks",
-        (answer, marks.as_slice()),
-        (Ok(lines), wanted),
-    );
-    drop(marks);
+// The result of the lines of a case, and the marks that are noted.
+fn noted(alloc: Global, case: &Case) -> (Result<u64, LineFault>, Text) {
+    let (pieces, text, ..) = *case;
+    let log = Cell::new(Text::of(b""));
+    let marking = Marking { log: &log, text };
+    let mut reader = Pieces {
+        log: &log,
+        pieces,
+        next: 0,
+    };
+    let mut writer = Taking { log: &log };
+    let answer = answer_lines(alloc, &marking, &mut (), &mut reader, &mut writer, 100);
+    (answer, log.get())
 }
 
+// Lines are answered again if the call ran out of memory.
 #[test]
 fn lines_are_read_and_then_answered_and_then_written_in_batches(rt: HostRuntime) {
     for case in &CASES {
-        is_noted(&rt, case);
+        let (mut answer, mut marks) = noted(rt.alloc(), case);
+        if answer == Err(LineFault::NoMemory) {
+            (answer, marks) = noted(rt.alloc(), case);
+        }
+        let wanted = (Ok(case.2), case.3);
+        equal(
+            &rt,
+            "the answer and the marks",
+            (answer, marks.bytes()),
+            wanted,
+        );
     }
 }

@@ -1,6 +1,7 @@
 use crate::equal::equal;
 use crate::memory::{TWICE, room, tells_of_memory};
 use crate::printing::lines_of;
+use crate::texts::Text;
 use ring_any::Any;
 use ring_any_traffic::AnyTraffic;
 use ring_grammar::parse_event;
@@ -45,7 +46,7 @@ fn events(rt: &impl Abort, alloc: Global) -> Vec<Event<Any>> {
 }
 
 // The lines by which a mux answers these events in one list. `None` if it ran out of memory.
-fn answered(rt: &impl Abort, alloc: Global, events: &[Event<Any>]) -> Option<Vec<u8>> {
+fn answered(rt: &impl Abort, alloc: Global, events: &[Event<Any>]) -> Option<Text> {
     let mut mux: Mux<Any, AnyTraffic> = Mux::new(alloc).expect(rt, "no mux");
     let answered = mux.run(alloc, events);
     drop(mux);
@@ -54,8 +55,7 @@ fn answered(rt: &impl Abort, alloc: Global, events: &[Event<Any>]) -> Option<Vec
     };
     let lines = lines_of(rt, alloc, &replies);
     drop(replies);
-    if tells_of_memory(&lines) {
-        drop(lines);
+    if tells_of_memory(lines.bytes()) {
         return None;
     }
     Some(lines)
@@ -70,6 +70,5 @@ fn a_list_of_events_is_answered_as_its_lines_are(rt: HostRuntime) {
         None => answered(&rt, alloc, &events).expect(&rt, TWICE),
     };
     drop(events);
-    equal(&rt, "the replies", lines.as_slice(), REPLIES);
-    drop(lines);
+    equal(&rt, "the replies", lines.bytes(), REPLIES);
 }

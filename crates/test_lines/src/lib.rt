@@ -32,4 +32,6 @@ mod reader;
 #[cfg(test)]
 mod replaying;
 #[cfg(test)]
+mod texts;
+#[cfg(test)]
 mod words;

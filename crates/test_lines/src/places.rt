@@ -1,8 +1,5 @@
 use crate::equal::equal;
-use crate::words::read_again;
-use ring_words::misgiven;
-use std::alloc::Global;
-use std::process::Abort;
+use crate::words::shown;
 
 // Orders, each with whether a text of it is refused as a place, a path or a mode.
 const ORDERS: [(&str, bool); 16] = [
@@ -33,16 +30,11 @@ const ORDERS: [(&str, bool); 16] = [
     ),
 ];
 
-// Stops the test unless a command line is an order, with a text that is refused if `wanted` is set.
-fn is_misgiven(rt: &impl Abort, alloc: Global, line: &str, wanted: bool) {
-    let order = read_again(alloc, line).expect(rt, line);
-    equal(rt, line, misgiven(&order).is_some(), wanted);
-    drop(order);
-}
-
 #[test]
 fn places_paths_and_modes_are_looked_at(rt: HostRuntime) {
     for (line, wanted) in &ORDERS {
-        is_misgiven(&rt, rt.alloc(), line, *wanted);
+        let (kind, text) = shown(&rt, rt.alloc(), Some(line));
+        drop(text);
+        equal(&rt, line, kind, Ok(*wanted));
     }
 }

@@ -1,6 +1,7 @@
 use crate::equal::equal;
 use crate::memory::{drip_out, tells_of_memory};
-use ring_lines::{DripIn, DripOut, FromRead, LineFault, ToWrite};
+use crate::texts::Text;
+use ring_lines::{DripIn, FromRead, LineFault, ToWrite};
 use ring_schedule::replay;
 use std::alloc::Global;
 use std::process::Abort;
@@ -44,59 +45,45 @@ const WHOLE: Case<'static> = Case {
     written: REPLIES,
 };
 
-// The result of a replay, and its writer.
-type Came = (Result<u64, LineFault>, DripOut);
+// The result of a replay, and what it writes.
+type Came = (Result<u64, LineFault>, Text);
 
-// A replay by these ends themselves.
-fn by_ends(rt: &impl Abort, alloc: Global, case: &Case) -> Came {
+// A replay by these ends, or by a reader and a writer of std over them.
+fn replayed(rt: &impl Abort, alloc: Global, case: &Case, is_by_std: bool) -> Came {
     let mut reader = DripIn::new(case.input, case.read_fault);
     let mut writer = drip_out(rt, alloc, 100, case.write_fault);
-    let answer = replay(alloc, &mut reader, &mut writer, case.reads);
-    (answer, writer)
-}
-
-// A replay by a reader and a writer of std over these ends.
-fn by_std(rt: &impl Abort, alloc: Global, case: &Case) -> Came {
-    let mut reader = FromRead(DripIn::new(case.input, case.read_fault));
-    let mut writer = ToWrite(drip_out(rt, alloc, 100, case.write_fault));
-    let answer = replay(alloc, &mut reader, &mut writer, case.reads);
-    (answer, writer.0)
+    let answer = if is_by_std {
+        let writer = &mut ToWrite(&mut writer);
+        replay(alloc, &mut FromRead(reader), writer, case.reads)
+    } else {
+        replay(alloc, &mut reader, &mut writer, case.reads)
+    };
+    let written = Text::of(writer.taken());
+    drop(writer);
+    (answer, written)
 }
 
 // Whether a replay that came to something else ran out of memory.
-fn is_refused(came: &Came, case: &Case) -> bool {
-    let (answer, written) = (came.0, came.1.taken());
+fn is_refused(answer: Result<u64, LineFault>, written: &[u8], case: &Case) -> bool {
     let is_starved = answer == Err(LineFault::NoMemory) || tells_of_memory(written);
     is_starved && (answer != case.answer || written != case.written)
 }
 
 // Stops the test unless a replay comes to this, by these ends and by std. A replay that ran out of
 // memory is repeated.
-fn comes(rt: &(impl Abort + AllocGlobal), case: &Case) {
-    let mut came = by_ends(rt, rt.alloc(), case);
-    if is_refused(&came, case) {
-        drop(came);
-        came = by_ends(rt, rt.alloc(), case);
+fn comes(rt: &impl Abort, alloc: Global, case: &Case) {
+    for is_by_std in [false, true] {
+        let (mut answer, mut written) = replayed(rt, alloc, case, is_by_std);
+        if is_refused(answer, written.bytes(), case) {
+            (answer, written) = replayed(rt, alloc, case, is_by_std);
+        }
+        equal(
+            rt,
+            "by std, the answer, and what is written",
+            (is_by_std, answer, written.bytes()),
+            (is_by_std, case.answer, case.written),
+        );
     }
-    equal(
-        rt,
-        "by drips",
-        (came.0, came.1.taken()),
-        (case.answer, case.written),
-    );
-    drop(came);
-    let mut came = by_std(rt, rt.alloc(), case);
-    if is_refused(&came, case) {
-        drop(came);
-        came = by_std(rt, rt.alloc(), case);
-    }
-    equal(
-        rt,
-        "by std",
-        (came.0, came.1.taken()),
-        (case.answer, case.written),
-    );
-    drop(came);
 }
 
 // The first bytes of the replies.
@@ -117,22 +104,19 @@ fn replies_within(len: usize) -> &'static [u8] {
 
 #[test]
 fn a_failed_read_drops_the_line_that_it_cuts(rt: HostRuntime) {
-    for call in 1..82u64 {
+    for call in 1..=82u64 {
         let case = Case {
             read_fault: call,
-            answer: Err(LineFault::Read),
+            answer: if call < 82 {
+                Err(LineFault::Read)
+            } else {
+                Ok(8)
+            },
             written: replies_within(call as usize - 1),
             ..WHOLE
         };
-        comes(&rt, &case);
+        comes(&rt, rt.alloc(), &case);
     }
-    comes(
-        &rt,
-        &Case {
-            read_fault: 82,
-            ..WHOLE
-        },
-    );
 }
 
 #[test]
@@ -145,26 +129,23 @@ fn endless_input_is_answered_as_far_as_it_was_read(rt: HostRuntime) {
             written: b"ok\n",
             ..WHOLE
         };
-        comes(&rt, &case);
+        comes(&rt, rt.alloc(), &case);
     }
 }
 
 #[test]
 fn a_failed_write_leaves_a_front_of_the_replies(rt: HostRuntime) {
-    for call in 1..58u64 {
+    for call in 1..=58u64 {
         let case = Case {
             write_fault: call,
-            answer: Err(LineFault::Write),
+            answer: if call < 58 {
+                Err(LineFault::Write)
+            } else {
+                Ok(8)
+            },
             written: front(call as usize - 1),
             ..WHOLE
         };
-        comes(&rt, &case);
+        comes(&rt, rt.alloc(), &case);
     }
-    comes(
-        &rt,
-        &Case {
-            write_fault: 58,
-            ..WHOLE
-        },
-    );
 }

@@ -1,38 +1,93 @@
 use crate::equal::equal;
 use crate::memory::TWICE;
 use command_line::WordsFault;
-use ring_words::{Order, asks_version, not_text, read_words};
+use ring_words::{Order, asks_version, misgiven, not_text, read_words};
 use std::alloc::Global;
 use std::process::Abort;
 
-// The words of a command line, as the program gets them. `None` if an allocation fails.
-fn words_of(alloc: Global, line: &str) -> Option<Vec<String>> {
-    let mut words = Vec::new(alloc);
+// Puts the words of a command line into a list. Returns whether no allocation failed.
+fn put_words(alloc: Global, words: &mut Vec<String>, line: &str) -> bool {
     for word in line.split_whitespace() {
         let Ok(word) = String::from_str(alloc, word) else {
-            return None;
+            return false;
         };
         let Ok(()) = words.push(word) else {
-            return None;
+            return false;
         };
     }
-    Some(words)
+    true
 }
 
-// The order that a command line gives.
-fn read(alloc: Global, line: &str) -> Result<Order, WordsFault> {
-    match words_of(alloc, line) {
-        Some(words) => read_words(alloc, words.as_slice()),
-        None => Err(WordsFault::NoMemory),
+// The order that a command line gives, or that of words that are no text.
+fn read(alloc: Global, line: Option<&str>) -> Result<Order, WordsFault> {
+    let Some(line) = line else {
+        return match not_text(alloc) {
+            Ok(error) => Err(WordsFault::Usage(error)),
+            Err(_) => Err(WordsFault::NoMemory),
+        };
+    };
+    let mut words = Vec::new(alloc);
+    let answer = if put_words(alloc, &mut words, line) {
+        read_words(alloc, &words)
+    } else {
+        Err(WordsFault::NoMemory)
+    };
+    drop(words);
+    answer
+}
+
+/// An order, and whether a text of it is refused as a place, a path or a mode. Or a refusal, and
+/// whether it was a question for the version.
+pub(crate) type Kind = Result<bool, bool>;
+
+// What a command line comes to, with its text. `None` if an allocation fails.
+fn try_shown(alloc: Global, line: Option<&str>) -> Option<(Kind, String)> {
+    let (kind, text) = match read(alloc, line) {
+        Ok(order) => {
+            let text = format!(in alloc; "{order:?}").ok();
+            let kind = Ok(misgiven(&order).is_some());
+            drop(order);
+            (kind, text)
+        }
+        Err(WordsFault::Usage(error)) => {
+            let text = error.to_string(alloc).ok();
+            let kind = Err(asks_version(&error));
+            drop(error);
+            (kind, text)
+        }
+        Err(WordsFault::NoMemory) => return None,
+    };
+    let Some(text) = text else {
+        return None;
+    };
+    Some((kind, text))
+}
+
+/// What a command line comes to, with its text. If an allocation fails, the call is made once more.
+pub(crate) fn shown(rt: &impl Abort, alloc: Global, line: Option<&str>) -> (Kind, String) {
+    match try_shown(alloc, line) {
+        Some(shown) => shown,
+        None => try_shown(alloc, line).expect(rt, TWICE),
     }
 }
 
-// The same. If an allocation fails, the call is made once more, as in all that follows.
-pub(crate) fn read_again(alloc: Global, line: &str) -> Result<Order, WordsFault> {
-    match read(alloc, line) {
-        Err(WordsFault::NoMemory) => read(alloc, line),
-        answer => answer,
-    }
+// Stops the test unless a command line comes to this. The text of a refusal has the wanted part,
+// and any other text is the wanted one.
+fn comes(rt: &impl Abort, alloc: Global, line: Option<&str>, kind: Kind, wanted: &str) {
+    let (found, text) = shown(rt, alloc, line);
+    let text_found = text.as_str();
+    let is_right = if kind == Err(false) {
+        text_found.contains(wanted)
+    } else {
+        text_found == wanted
+    };
+    equal(
+        rt,
+        line.unwrap_or("no text"),
+        (found, is_right, text_found, wanted),
+        (kind, true, text_found, wanted),
+    );
+    drop(text);
 }
 
 // Command lines, and the order that each gives. `run` has its usual numbers if none are given.
@@ -96,52 +151,15 @@ const ORDERS: [(&str, &str); 16] = [
     ("ringd journal -- x", "Journal { path: \"x\" }"),
 ];
 
-// Stops the test unless a command line gives the order that is printed so.
-fn gives(rt: &impl Abort, alloc: Global, line: &str, wanted: &str) {
-    let order = read_again(alloc, line).expect(rt, line);
-    let text = match format!(in alloc; "{order:?}") {
-        Ok(text) => text,
-        Err(_) => format!(in alloc; "{order:?}").expect(rt, TWICE),
-    };
-    drop(order);
-    equal(rt, line, text.as_str(), wanted);
-    drop(text);
-}
-
 #[test]
 fn a_command_line_gives_an_order(rt: HostRuntime) {
-    for (line, wanted) in &ORDERS {
-        gives(&rt, rt.alloc(), line, wanted);
+    for (line, text) in &ORDERS {
+        comes(&rt, rt.alloc(), Some(line), Ok(false), text);
     }
-}
-
-// The refusal of a command line.
-fn refusal(rt: &impl Abort, alloc: Global, line: &str) -> clap::Error {
-    match read_again(alloc, line) {
-        Err(WordsFault::Usage(error)) => error,
-        order => panic!(rt; "{line}: {order:?}"),
-    }
-}
-
-// The text of an error.
-fn text_of(rt: &impl Abort, alloc: Global, error: clap::Error) -> String {
-    let text = match error.to_string(alloc) {
-        Ok(text) => text,
-        Err(_) => error.to_string(alloc).expect(rt, TWICE),
-    };
-    drop(error);
-    text
-}
-
-// Stops the test unless the text of an error has this part.
-fn tells(rt: &impl Abort, alloc: Global, error: clap::Error, part: &str) {
-    let text = text_of(rt, alloc, error);
-    assert!(rt; text.as_str().contains(part), "no {part} in {text}");
-    drop(text);
 }
 
 // Command lines with a number out of range, a missing word or a word too many.
-const MISTAKEN: [&str; 39] = [
+const MISTAKEN: &[&str] = &[
     "ringd serve",
     "ringd serve x",
     "ringd serve --connections 2",
@@ -184,7 +202,7 @@ const MISTAKEN: [&str; 39] = [
 ];
 
 // Command lines without a subcommand, or with one that is none or has no words.
-const OTHERS: [&str; 12] = [
+const OTHERS: &[&str] = &[
     "",
     "ringd",
     "ringd x",
@@ -199,44 +217,29 @@ const OTHERS: [&str; 12] = [
     "ringd replay -h",
 ];
 
+// Command lines that are refused, with whether they ask for the version, and a text that each has.
+const REFUSED: [(&[&str], bool, &str); 3] = [
+    (MISTAKEN, false, "--help"),
+    (OTHERS, false, "Usage: ringd"),
+    (
+        &["ringd --version", "ringd -V", "ringd --version replay"],
+        true,
+        "ringd 1.0.0\n",
+    ),
+];
+
 #[test]
-fn other_command_lines_are_refused(rt: HostRuntime) {
-    for line in &MISTAKEN {
-        tells(&rt, rt.alloc(), refusal(&rt, rt.alloc(), line), "--help");
-    }
-    for line in &OTHERS {
-        tells(
-            &rt,
-            rt.alloc(),
-            refusal(&rt, rt.alloc(), line),
-            "Usage: ringd",
-        );
+fn other_command_lines_are_refused_or_ask_for_the_version(rt: HostRuntime) {
+    for (lines, asks_version, part) in &REFUSED {
+        for line in *lines {
+            comes(&rt, rt.alloc(), Some(line), Err(*asks_version), part);
+        }
     }
 }
 
 #[test]
 fn bytes_that_are_no_text_are_refused_with_the_usage(rt: HostRuntime) {
     for part in ["a word is not UTF-8 text", "Usage: ringd"] {
-        let error = match not_text(rt.alloc()) {
-            Ok(error) => error,
-            Err(_) => not_text(rt.alloc()).expect(&rt, TWICE),
-        };
-        tells(&rt, rt.alloc(), error, part);
-    }
-}
-
-// Stops the test unless a command line asks for the version and its answer is only that.
-fn tells_version(rt: &impl Abort, alloc: Global, line: &str) {
-    let error = refusal(rt, alloc, line);
-    let asks = asks_version(&error);
-    let text = text_of(rt, alloc, error);
-    equal(rt, line, (asks, text.as_str()), (true, "ringd 1.0.0\n"));
-    drop(text);
-}
-
-#[test]
-fn the_version_is_told(rt: HostRuntime) {
-    for line in &["ringd --version", "ringd -V", "ringd --version replay"] {
-        tells_version(&rt, rt.alloc(), line);
+        comes(&rt, rt.alloc(), None, Err(false), part);
     }
 }
