@@ -74,12 +74,15 @@ class Bodies:
             (at / "Proof.antt").write_text(f"use {module}.{{statement}}\n\npub {it.name()}_spec : {{M : Type 1}}"
                                            f" → statement M\n{it.name()}_spec = ?\n", encoding="utf-8")
 
-    def checked(self, pack, is_changed=True, failed=()):
+    def checked(self, pack, is_changed=True, failed=(), are_refused=()):
         """Checks a copy with all edits of a pack, or as it stands, with a search in the place of those answers of an edit
-        that failed: what was said, and the copy. A check that was killed is done a second time."""
+        that failed: what was said, and the copy. Of edits that are to be refused nothing else is found out. A check that
+        was killed is done a second time."""
         for _ in range(2):
             self.checks += 1
             copy = Copy(self.name, self.room / f"{self.checks}-with-{len(pack)}", pack, self.targets, is_changed)
+            for it in are_refused:
+                copy.keep_from_offers(it)
             with self.lanes.lane(len(self.edits)):
                 said = Said(*self.checked_now(copy, pack, failed))
             if said.status >= 0:
@@ -100,10 +103,11 @@ class Bodies:
         words = ["--allow-holes", "--short-goals", *only, "--incremental", str(self.room / "kept")]
         return check(self.name, copy.folder, *words, library=self.lanes.library, instead=instead)
 
-    def tried(self, pack):
-        """What became of each edit of a pack: its verdict, and what to say."""
+    def tried(self, pack, is_last=False):
+        """What became of each edit of a pack: its verdict, and what to say. What is not judged is tried a last time, alone."""
+        are_refused = [it for it in pack if it.wanted == REFUSED and not is_last]
         try:
-            said, copy = self.checked(pack)
+            said, copy = self.checked(pack, are_refused=are_refused)
         except (BadEdit, OSError) as why:
             return self.apart(pack, {it: f"it can't be applied: {why}" if len(pack) == 1 else "" for it in pack})
         if said.stop:
@@ -114,8 +118,8 @@ class Bodies:
         if unclear:
             found.update(zip(unclear, self.tried_again(unclear, said, copy, found)))
         left = [it for it in pack if elsewhere or it not in unclear and found[it][0] == UNJUDGED]
-        if left and len(pack) > 1:
-            found.update({it: self.tried([it])[0] for it in left})
+        if left and (len(pack) > 1 or are_refused):
+            found.update({it: self.tried([it], is_last=True)[0] for it in left})
         elif elsewhere:
             found = {it: (UNJUDGED, f"something else is refused: {elsewhere}") for it in pack}
         return [found[it] for it in pack]

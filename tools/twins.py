@@ -7,6 +7,9 @@ libraries and what the crate states. A function that a trait names has no twin, 
 `goal: NAME` in an edit names the goal that the prover must refuse it for. Its twin promises the clause of that goal and one
 more, since the prover names goals by their clauses only if there are several. It promises nothing if the goal lies within
 the body. Where an answer by hand is for several clauses, or another one cites it, the twin keeps all.
+
+The prover offers answers for the open goals of a function with which nothing else is wrong, and looks for them as long as
+for the verdict. So a function that is to be refused has one answer more, for no goal.
 """
 
 import re
@@ -14,6 +17,7 @@ import re
 from answers import WORD, blocks_of
 from crates import copy_of
 from sources import FN, functions_of
+from verdicts import NO_GOAL
 
 PROOF_FILES = ("Answers.antt", "Invariants.antt", "Proof.antt")
 ROOT = "src/main.rt"
@@ -99,7 +103,7 @@ class Copy:
     of the copy; by `targets` those that each edit changes there, and by `goals` the goal that each twin's edit names."""
 
     def __init__(self, crate, folder, pack, targets, is_changed):
-        self.folder, paths, twins = folder, {}, []
+        self.crate, self.folder, paths, twins = crate, folder, {}, []
         copy_of(crate, folder)
         for edit in pack:
             paths[edit] = [it.path for it in targets[edit]]
@@ -137,6 +141,17 @@ class Copy:
             for file in filter(lambda file: file.is_file(), files):
                 text = twin.proof_of(file.name, file.read_text(encoding="utf-8"))
                 self.write(f"proofs/{place}_{twin.edit.name}/{file.relative_to(proofs)}", text)
+
+    def keep_from_offers(self, edit):
+        """Gives the functions that an edit changes an answer for no goal."""
+        for it in self.targets[edit]:
+            proofs = f"proofs/{it.folder()}"
+            if (self.folder / proofs / "Proof.antt").exists():
+                continue
+            file = f"{proofs}/Answers.antt"
+            goals = f"use Rattle.{self.crate}.proofs.{it.path.replace('::', '.')}.Goals as goal\n"
+            text = self.text_of(file) if (self.folder / file).exists() else goals
+            self.write(file, f"{text}\npub {NO_GOAL} : goal.{NO_GOAL}\n{NO_GOAL} c = c\n")
 
     def be_library(self, changed):
         """Makes a program a library, unless its `main` is changed: its check links nothing, and takes a quarter of the time."""

@@ -20,6 +20,9 @@ import signal
 
 REFUSED, PASSED, UNJUDGED, UNCLEAR = "refused", "not refused", "not judged", "unclear"
 
+# The name of an answer for no goal. A function that is to be refused has one, as twins.py says. Its error is no failure.
+NO_GOAL = "no_goal"
+
 PLACE = r"(?:\./)?((?:src|specs|proofs)/\S+?)(?::(\d+):(\d+))?: "
 ERROR = re.compile(PLACE + r"error(?:\[([\w-]+)\])?: (?:`([^`]*)`: )?(.*)")
 OPEN = re.compile(r"note: " + PLACE + r"(it is not proved that .*?\(`([^`]+)`\).*)")
@@ -99,7 +102,7 @@ class Said:
     def take(self, line):
         """Takes one line."""
         if at := ERROR.fullmatch(line):
-            self.errors.append(Error(*at.groups()))
+            self.errors += [Error(*at.groups())] if at[5] != NO_GOAL else []
         elif at := OPEN.match(line):
             self.goals.append(Error(*at.groups()[:3], None, at[5], at[4]))
         elif at := UNASKED.match(line):
