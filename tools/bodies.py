@@ -117,7 +117,8 @@ class Bodies:
         unclear = [it for it in pack if found[it][0] == UNCLEAR]
         if unclear:
             found.update(zip(unclear, self.tried_again(unclear, said, copy, found)))
-        left = [it for it in pack if elsewhere or it not in unclear and found[it][0] == UNJUDGED]
+        known = {it: [REFUSED] if it in are_refused else [REFUSED, PASSED] for it in pack}
+        left = [it for it in pack if elsewhere or it not in unclear and found[it][0] not in known[it]]
         if left and (len(pack) > 1 or are_refused):
             found.update({it: self.tried([it], is_last=True)[0] for it in left})
         elif elsewhere:
