@@ -3,7 +3,6 @@
 
 use crate::desks::{Desk, LockedDesk, TurnDesk};
 use crate::equal::equal;
-use crate::memory::with_room;
 use crate::rings_of_one::{Spelled, elect, is_line, told_by};
 use crate::telling::tally;
 use ring_any::Any;
@@ -13,6 +12,7 @@ use ring_node::{Charter, Node, Report};
 use ring_table::{Answer, Filed, Table};
 use std::alloc::Global;
 use std::process::Abort;
+use std::slice;
 use std::sync::{Arc, Wait};
 
 // Stops the test if the answer to a session's line is not `told`, which begins with its place.
@@ -128,11 +128,9 @@ fn ten_alone<E: Spelled, R: Abort + Wait>(rt: &R, alloc: Global) {
 }
 
 // Files what a node knows. Stops the test if memory is refused twice.
-fn finish<E: RingElection>(rt: &impl Abort, alloc: Global, table: &mut Table<E>, node: Node<E>) {
-    let mut nodes = with_room(rt, alloc, 1);
-    nodes.push_reserved(node);
-    assert!(rt; table.finish(&nodes).is_ok() || table.finish(&nodes).is_ok());
-    drop(nodes);
+fn finish<E: RingElection>(rt: &impl Abort, table: &mut Table<E>, node: &Node<E>) {
+    let nodes = slice::from_ref(node);
+    assert!(rt; table.finish(nodes).is_ok() || table.finish(nodes).is_ok());
 }
 
 // The same ten entries, but what the node knows is filed by `Table::finish`.
@@ -140,7 +138,8 @@ fn ten_by_finish<E: Spelled, R: Abort + Wait>(rt: &R, alloc: Global) {
     let mut table = Table::<E>::new(alloc);
     let node = begin(rt, alloc, &mut table, 2);
     let report = told_by(rt, &node);
-    finish(rt, alloc, &mut table, node);
+    finish(rt, &mut table, &node);
+    drop(node);
     equal(rt, "calls, and reports", tally(&table), [4, 1, 0, 0]);
     go_on(rt, alloc, &mut table, &report);
     drop(report);
