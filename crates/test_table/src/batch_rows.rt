@@ -4,17 +4,19 @@ ghost use Rattle.ring_any.specs.Any.{any_greatest, any_two_way, any_winner};
 ghost use Rattle.ring_table.specs.Accesses.{AnswersAtSeat, BeginsAtSeat, Reports};
 ghost use Rattle.ring_table.specs.Places.{HasPlaceBelow};
 
+use crate::desks::new_locked;
 use crate::equal::equal;
-use crate::grounds::{Opened, open};
+use crate::grounds::{close, converse, open};
 use crate::meetings::new_meeting;
 use crate::memory::with_room;
-use crate::telling::tells;
+use crate::telling::Talk;
 use ring_any::Any;
 use ring_events::Command;
 use ring_id::GroupName;
 use ring_node::{Charter, Report};
 use ring_service::Closing;
-use ring_table::{Access, Answer, Filed, LockedSeat, LockedTable, QueueHead, Table};
+use ring_table::{Access, Answer, Filed, LockedSeat, LockedTable, QueueHead};
+use std::alloc::Global;
 use std::process::Abort;
 use std::sync::{Arc, Mutex, Wait};
 use std::thread::Threads;
@@ -114,48 +116,8 @@ impl Access<Any> for Marked {
     }
 }
 
-// Serves a session over lines that are read at once, and closes the service. Returns the access.
-fn served<R, A>(rt: &R, opened: Opened<A>, lines: &[u8], told: &[u8]) -> Arc<A>
-where
-    R: Abort + AllocGlobal + Threads + Wait,
-    A: Access<Any> + Send + Sync + Drop + 'static,
-    A::Seat: Send + 'static,
-{
-    let Opened {
-        service,
-        mut one,
-        other,
-    } = opened;
-    tells(rt, rt.alloc(), service.front(), &mut one, 1, lines, told);
-    drop(one);
-    drop(other);
-    let Closing {
-        access,
-        handed,
-        waiting,
-    } = service.close(rt);
-    drop(handed);
-    drop(waiting);
-    access
-}
-
-// Stops the test if a session over these lines calls its access in another order.
-fn has_marks<R>(rt: &R, lines: &[u8], told: &[u8], wanted: &[u8])
-where
-    R: Abort + AllocGlobal + Threads + Wait + Clock + Copy + Send + Sync + Drop + 'static,
-{
-    let alloc = rt.alloc();
-    let made = LockedTable::new(alloc, Table::new(alloc), 3);
-    let (table, seats) = made.expect(rt, "no table");
-    let access = Marked {
-        table,
-        head: Mutex::new(()),
-        marks: Mutex::new(with_room(rt, alloc, 40)),
-    };
-    let gate = new_meeting(rt, alloc, 0);
-    let opened = open(rt, alloc, access, seats, 64, &gate);
-    drop(gate);
-    let access = served(rt, opened.expect(rt, "no service"), lines, told);
+// Stops the test if an access has other marks than these, or somebody shares it still.
+fn has_marks(rt: &impl Abort, access: Arc<Marked>, wanted: &[u8]) {
     let Marked { table, head, marks } = Arc::into_inner(access).expect(
         rt,
         "somebody shares the access still",
@@ -167,13 +129,46 @@ where
     drop(marks);
 }
 
+// Stops the test if a session over lines that are read at once calls its access in another order.
+fn leaves_marks<R>(rt: &R, alloc: Global, session: Talk, wanted: &[u8])
+where
+    R: Abort + Threads + Wait + Clock + Copy + Send + Sync + Drop + 'static,
+{
+    let (table, seats) = new_locked(rt, alloc, 3);
+    let access = Marked {
+        table,
+        head: Mutex::new(()),
+        marks: Mutex::new(with_room(rt, alloc, 40)),
+    };
+    let opened = open(rt, alloc, access, seats, 64, new_meeting(rt, alloc, 0));
+    let mut opened = opened.expect(rt, "no service");
+    converse(rt, alloc, &mut opened, &[session]);
+    let Closing {
+        access,
+        handed,
+        waiting,
+    } = close(rt, opened);
+    drop(handed);
+    drop(waiting);
+    has_marks(rt, access, wanted);
+}
+
 #[test]
 fn a_session_queues_once_for_a_batch_and_settles_after_it(rt: HostRuntime) {
     // three commands and two other lines, of which one comes first; the start is refused, so that
     // the worker calls nothing
-    let lines = b"x\ncreate a chang\njoin a 5\ny\nstart b\n";
-    let told = b"no bad-line\nok\nok\nno bad-line\nno no-group\n";
-    has_marks(&rt, lines, told, b"qHCCBRs");
+    let commands = Talk {
+        session: 1,
+        lines: b"x\ncreate a chang\njoin a 5\ny\nstart b\n",
+        told: b"no bad-line\nok\nok\nno bad-line\nno no-group\n",
+    };
     // a batch without a command takes nothing
-    has_marks(&rt, b"x\ny\n", b"no bad-line\nno bad-line\n", b"rs");
+    let none = Talk {
+        session: 1,
+        lines: b"x\ny\n",
+        told: b"no bad-line\nno bad-line\n",
+    };
+    for (session, wanted) in [(commands, b"qHCCBRs".as_slice()), (none, b"rs")] {
+        leaves_marks(&rt, rt.alloc(), session, wanted);
+    }
 }

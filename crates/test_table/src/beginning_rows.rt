@@ -2,10 +2,9 @@
 //! out of memory stops.
 
 use crate::equal::equal;
-use crate::grounds::{end, open_locked};
+use crate::grounds::{converse, end, open_locked};
 use crate::memory::shared;
-use crate::telling::{nodes_of, repeated, tells};
-use ring_any::Any;
+use crate::telling::{Talk, nodes_of};
 use ring_election::RingElection;
 use ring_id::GroupName;
 use ring_node::Node;
@@ -14,24 +13,45 @@ use ring_table::Table;
 use ring_workers::{Handed, OpenGate};
 use std::alloc::Global;
 use std::collections::VecDeque;
-use std::fmt::Write;
 use std::process::Abort;
 
 // The names of the groups: a letter each.
-const GROUPS: &str = "abcdefghijklmnopqrst";
+const GROUPS: &[u8] = b"abcdefghijklmnopqrst";
 
-// Returns the lines by which the groups of the members 1 and 2 are made, and each is started once.
-fn twenty_groups(rt: &impl Abort, alloc: Global) -> String {
-    let mut lines = String::new(alloc);
-    for name in GROUPS.chars() {
-        let made = writeln!(
-            lines,
-            "create {name} chang\njoin {name} 1\njoin {name} 2\nstart {name}"
-        );
-        assert!(rt; made.is_ok());
-    }
-    lines
-}
+// Makes the groups of the members 1 and 2, and starts each once.
+const TWENTY: Talk<'static> = Talk {
+    session: 1,
+    lines: TWENTY_LINES,
+    told: TWENTY_TOLD,
+};
+
+const TWENTY_LINES: &[u8] = b"create a chang\njoin a 1\njoin a 2\nstart a\n\
+    create b chang\njoin b 1\njoin b 2\nstart b\n\
+    create c chang\njoin c 1\njoin c 2\nstart c\n\
+    create d chang\njoin d 1\njoin d 2\nstart d\n\
+    create e chang\njoin e 1\njoin e 2\nstart e\n\
+    create f chang\njoin f 1\njoin f 2\nstart f\n\
+    create g chang\njoin g 1\njoin g 2\nstart g\n\
+    create h chang\njoin h 1\njoin h 2\nstart h\n\
+    create i chang\njoin i 1\njoin i 2\nstart i\n\
+    create j chang\njoin j 1\njoin j 2\nstart j\n\
+    create k chang\njoin k 1\njoin k 2\nstart k\n\
+    create l chang\njoin l 1\njoin l 2\nstart l\n\
+    create m chang\njoin m 1\njoin m 2\nstart m\n\
+    create n chang\njoin n 1\njoin n 2\nstart n\n\
+    create o chang\njoin o 1\njoin o 2\nstart o\n\
+    create p chang\njoin p 1\njoin p 2\nstart p\n\
+    create q chang\njoin q 1\njoin q 2\nstart q\n\
+    create r chang\njoin r 1\njoin r 2\nstart r\n\
+    create s chang\njoin s 1\njoin s 2\nstart s\n\
+    create t chang\njoin t 1\njoin t 2\nstart t\n";
+
+const TWENTY_TOLD: &[u8] = b"ok\nok\nok\nterm 1\nok\nok\nok\nterm 1\n\
+    ok\nok\nok\nterm 1\nok\nok\nok\nterm 1\nok\nok\nok\nterm 1\nok\nok\nok\nterm 1\n\
+    ok\nok\nok\nterm 1\nok\nok\nok\nterm 1\nok\nok\nok\nterm 1\nok\nok\nok\nterm 1\n\
+    ok\nok\nok\nterm 1\nok\nok\nok\nterm 1\nok\nok\nok\nterm 1\nok\nok\nok\nterm 1\n\
+    ok\nok\nok\nterm 1\nok\nok\nok\nterm 1\nok\nok\nok\nterm 1\nok\nok\nok\nterm 1\n\
+    ok\nok\nok\nterm 1\nok\nok\nok\nterm 1\n";
 
 // Returns whether a worker, of two, has the node of its member of a group, or the begin waits for
 // the worker.
@@ -65,7 +85,7 @@ fn all_begun<E: RingElection>(
     waiting: VecDeque<Waiting>,
 ) {
     let nodes = nodes_of(rt, alloc, handed);
-    for name in GROUPS.as_bytes() {
+    for name in GROUPS {
         let group = GroupName::from_bytes(&[*name]).expect(rt, "no name");
         let zero = is_begun(&nodes, &waiting, group, 0);
         let one = is_begun(&nodes, &waiting, group, 1);
@@ -80,17 +100,10 @@ fn all_begun<E: RingElection>(
 #[test]
 fn no_begin_is_lost(rt: HostRuntime) {
     let alloc = rt.alloc();
-    let lines = twenty_groups(&rt, alloc);
-    let told = repeated(&rt, alloc, b"ok\nok\nok\nterm 1\n", 20);
     let gate = shared(&rt, alloc, OpenGate);
-    let made = open_locked(&rt, alloc, Table::<Any>::new(alloc), 2, 1, &gate);
+    let made = open_locked(&rt, alloc, Table::new(alloc), 2, 1, gate);
     let mut ground = made.expect(&rt, "no service");
-    drop(gate);
-    let (front, seat) = (ground.service.front(), &mut ground.one);
-    tells(&rt, alloc, front, seat, 1, lines.as_bytes(), &told);
-    drop(lines);
-    drop(told);
-    let (table, handed, waiting) = end(&rt, ground);
-    drop(table);
+    converse(&rt, alloc, &mut ground, &[TWENTY]);
+    let (_, handed, waiting) = end(&rt, ground);
     all_begun(&rt, alloc, handed, waiting);
 }

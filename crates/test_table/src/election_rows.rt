@@ -3,15 +3,15 @@
 ghost use Rattle.std.specs.Prelude.{◌≤◌};
 
 use crate::equal::equal;
-use crate::grounds::{Opened, open_locked, table_of};
+use crate::grounds::{Opened, converse, open_locked, table_of};
 use crate::meetings::{LOOKS, Meeting, new_meeting};
 use crate::rings_of_one::Spelled;
-use crate::telling::{nodes_of, tally, tells};
+use crate::telling::{Talk, nodes_of, tally};
 use ring_any::Any;
 use ring_election::RingElection;
 use ring_id::{GroupName, NodeId};
 use ring_node::{Charter, Node};
-use ring_service::{Closing, Service};
+use ring_service::Closing;
 use ring_table::{Access, Filed, Table};
 use ring_world::{Settlement, settle};
 use std::alloc::Global;
@@ -20,11 +20,19 @@ use std::sync::{Arc, Wait};
 use std::thread::Threads;
 use std::time::Clock;
 
-// The lines by which a term of four members is started.
-const FOUR: &[u8] = b"create a peterson\njoin a 4\njoin a 1\njoin a 3\njoin a 2\nstart a\n";
+/// Starts a term of four members.
+pub const FOUR: Talk<'static> = Talk {
+    session: 1,
+    lines: b"create a peterson\njoin a 4\njoin a 1\njoin a 3\njoin a 2\nstart a\n",
+    told: b"ok\nok\nok\nok\nok\nterm 1\n",
+};
 
-// Their replies.
-const FOUR_TOLD: &[u8] = b"ok\nok\nok\nok\nok\nterm 1\n";
+// Asks who leads it.
+const TERMS: Talk<'static> = Talk {
+    session: 1,
+    lines: b"terms a\n",
+    told: b"terms 1:2\n",
+};
 
 // The number of items that two workers handle in that term: a begin each, 24 messages and 4
 // announcements.
@@ -62,53 +70,43 @@ fn are_known<R: Abort + Wait, A: Access<Any> + Drop>(
 
 // Has a session start a term of four members. If there are charters, the workers go on with their
 // term instead.
-fn begin<R, A>(
-    rt: &R,
-    alloc: Global,
-    service: &Service<A>,
-    seat: &mut A::Seat,
-    running: Vec<Arc<Charter<Any>>>,
-)
+fn begin<R, A>(rt: &R, alloc: Global, opened: &mut Opened<A>, running: Vec<Arc<Charter<Any>>>)
 where
     R: Abort + Wait,
     A: Access<Any> + Send + Sync + Drop + 'static,
     A::Seat: Send + 'static,
-    requires { A.has_seat service.now seat.old }
-    ensures { A.has_seat service.now seat.new }
 {
     if running.is_empty() {
         drop(running);
-        tells(rt, alloc, service.front(), seat, 1, FOUR, FOUR_TOLD);
+        converse(rt, alloc, opened, &[FOUR]);
     } else {
-        assert!(rt; service.resume(rt, running).is_ok());
+        assert!(rt; opened.service.resume(rt, running).is_ok());
     }
 }
 
-/// Two workers that must both run decide a term of four members, which a session starts or which
-/// was running with these charters. All nodes come to rest, and the table knows what they know, by
-/// a seat that is left. Returns the access and the nodes.
+/// Two workers that must both run decide a term of four members, which began. All nodes come to
+/// rest, and the table knows what they know, by a seat that is left. Returns the access and the
+/// nodes.
 pub fn decide<R, A>(
     rt: &R,
     alloc: Global,
     opened: Opened<A>,
     gate: &Meeting<R>,
-    running: Vec<Arc<Charter<Any>>>,
 ) -> (Arc<A>, Vec<Node<Any>>)
 where
     R: Abort + Threads + Wait + Clock,
     A: Access<Any> + Send + Sync + Drop + 'static,
     A::Seat: Send + 'static,
 {
+    let mut opened = opened;
+    gate.awaits(rt, &gate.left, FOUR_ITEMS);
+    converse(rt, alloc, &mut opened, &[TERMS]);
     let Opened {
         service,
-        one: mut seat,
+        one,
         other,
     } = opened;
     drop(other);
-    begin(rt, alloc, &service, &mut seat, running);
-    assert!(rt; gate.reaches(&gate.left, FOUR_ITEMS));
-    let told = b"terms 1:2\n";
-    tells(rt, alloc, service.front(), &mut seat, 1, b"terms a\n", told);
     let Closing {
         access,
         handed,
@@ -117,7 +115,7 @@ where
     drop(waiting);
     let nodes = nodes_of(rt, alloc, handed);
     all_know_two(rt, &nodes);
-    are_known(rt, &*access, seat, &nodes);
+    are_known(rt, &*access, one, &nodes);
     (access, nodes)
 }
 
@@ -169,9 +167,11 @@ where
         (Table::new(alloc), Vec::new(alloc))
     };
     let gate = new_meeting(rt, alloc, LOOKS);
-    let made = open_locked(rt, alloc, table, 2, inbox, &gate);
-    let opened = made.expect(rt, "no service");
-    let (access, nodes) = decide(rt, alloc, opened, &gate, running);
+    let copy = Arc::try_clone(&gate).expect(rt, "no copy");
+    let made = open_locked(rt, alloc, table, 2, inbox, copy);
+    let mut ground = made.expect(rt, "no service");
+    begin(rt, alloc, &mut ground, running);
+    let (access, nodes) = decide(rt, alloc, ground, &gate);
     drop(gate);
     finish_known(rt, table_of(rt, access), nodes);
 }

@@ -2,6 +2,7 @@
 ghost use Rattle.std.specs.Prelude.{◌≤◌, All};
 
 use crate::memory::shared;
+use crate::telling::{Talk, tally, tells};
 use ring_any::Any;
 use ring_service::{Closing, Service, StartFault, Waiting};
 use ring_table::{Access, LockedTable, Table};
@@ -42,7 +43,7 @@ pub fn open<A, G, R>(
     access: A,
     seats: Vec<A::Seat>,
     inbox: usize,
-    gate: &Arc<G>,
+    gate: Arc<G>,
 ) -> Result<Opened<A>, StartFault>
 where
     A: Access<Any> + Send + Sync + Drop + 'static,
@@ -58,8 +59,7 @@ where
     let workers = seats.len();
     assert!(rt; workers >= 1 && workers <= 8);
     let access = shared(rt, alloc, access);
-    let copy = Arc::try_clone(gate).expect(rt, "no copy");
-    match Service::gated(rt, alloc, access, seats, workers, inbox, copy) {
+    match Service::gated(rt, alloc, access, seats, workers, inbox, gate) {
         Ok(service) => Ok(Opened {
             service,
             one,
@@ -67,6 +67,36 @@ where
         }),
         Err(fault) => Err(fault),
     }
+}
+
+/// Stops the test if sessions by the first caller's seat, one after the other, are told something
+/// else.
+pub fn converse<R, A>(rt: &R, alloc: Global, opened: &mut Opened<A>, talks: &[Talk])
+where
+    R: Abort + Wait,
+    A: Access<Any> + Send + Sync + Drop + 'static,
+    A::Seat: Send + 'static,
+{
+    for one in talks {
+        tells(rt, alloc, opened.service.front(), &mut opened.one, *one);
+    }
+}
+
+/// Ends a service whose callers call no more.
+pub fn close<R, A>(rt: &R, opened: Opened<A>) -> Closing<A>
+where
+    R: Threads + Wait,
+    A: Access<Any> + Send + Sync + Drop + 'static,
+    A::Seat: Send + 'static,
+{
+    let Opened {
+        service,
+        one,
+        other,
+    } = opened;
+    drop(one);
+    drop(other);
+    service.close(rt)
 }
 
 /// A service at a locked table.
@@ -79,7 +109,7 @@ pub fn open_locked<G, R>(
     table: Table<Any>,
     workers: usize,
     inbox: usize,
-    gate: &Arc<G>,
+    gate: Arc<G>,
 ) -> Result<Ground, StartFault>
 where
     G: Gate + Send + Sync + Drop + 'static,
@@ -100,23 +130,19 @@ pub fn table_of(rt: &impl Abort, access: Arc<LockedTable<Any>>) -> Table<Any> {
         .into_table()
 }
 
-/// Ends a service. Returns its table, the results of the workers, and the begins that no inbox
-/// stored.
+/// Ends a service. Returns the tally of its table, the results of the workers, and the begins that
+/// no inbox stored. Stops the test if somebody shares the table still.
 pub fn end<R: Abort + Threads + Wait>(
     rt: &R,
     ground: Ground,
-) -> (Table<Any>, Vec<Handed<Any>>, VecDeque<Waiting>) {
-    let Opened {
-        service,
-        one,
-        other,
-    } = ground;
-    drop(one);
-    drop(other);
+) -> ([usize; 4], Vec<Handed<Any>>, VecDeque<Waiting>) {
     let Closing {
         access,
         handed,
         waiting,
-    } = service.close(rt);
-    (table_of(rt, access), handed, waiting)
+    } = close(rt, ground);
+    let table = table_of(rt, access);
+    let found = tally(&table);
+    drop(table);
+    (found, handed, waiting)
 }

@@ -1,5 +1,6 @@
 //! A gate at which two workers wait for each other.
 
+use crate::equal::equal;
 use crate::memory::shared;
 use ring_workers::{Gate, Pass};
 use std::alloc::Global;
@@ -34,6 +35,17 @@ impl<R: Clock> Meeting<R> {
             thread::sleep(&self.rt, Duration::from_millis(1));
         }
         false
+    }
+
+    /// Stops the test unless a number comes to `goal` within the looks.
+    pub fn awaits(&self, rt: &impl Abort, number: &AtomicU64, goal: u64) {
+        let found = (goal, self.reaches(number, goal));
+        equal(
+            rt,
+            "a number of items, and if it comes",
+            found,
+            (goal, true),
+        );
     }
 }
 

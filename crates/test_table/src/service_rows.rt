@@ -2,9 +2,9 @@
 //! of memory stops.
 
 use crate::equal::equal;
-use crate::grounds::{end, open_locked};
+use crate::grounds::{converse, end, open_locked};
 use crate::memory::shared;
-use crate::telling::{FIRST, FIRST_TOLD, SECOND, SECOND_TOLD, tally, tells};
+use crate::telling::TALKS;
 use ring_any::Any;
 use ring_service::Service;
 use ring_table::{LockedTable, Table};
@@ -17,15 +17,10 @@ use std::sync::Arc;
 fn a_service_answers_each_line_and_hands_over(rt: HostRuntime) {
     let alloc = rt.alloc();
     let gate = shared(&rt, alloc, OpenGate);
-    let made = open_locked(&rt, alloc, Table::new(alloc), 1, 64, &gate);
+    let made = open_locked(&rt, alloc, Table::new(alloc), 1, 64, gate);
     let mut ground = made.expect(&rt, "no service");
-    drop(gate);
-    let (front, seat) = (ground.service.front(), &mut ground.one);
-    tells(&rt, alloc, front, seat, 1, FIRST, FIRST_TOLD);
-    tells(&rt, alloc, front, seat, 2, SECOND, SECOND_TOLD);
-    let (table, handed, waiting) = end(&rt, ground);
-    let [calls, ..] = tally(&table);
-    drop(table);
+    converse(&rt, alloc, &mut ground, &TALKS);
+    let ([calls, ..], handed, waiting) = end(&rt, ground);
     let found = (handed.len(), waiting.len(), calls);
     drop(handed);
     drop(waiting);

@@ -42,8 +42,7 @@ where
     R: Abort + Threads + Wait + Clock + Copy + Send + Sync + Drop + 'static,
 {
     let gate = new_meeting(rt, alloc, 0);
-    let made = open_locked(rt, alloc, Table::new(alloc), 1, 64, &gate);
-    drop(gate);
+    let made = open_locked(rt, alloc, Table::new(alloc), 1, 64, gate);
     let Ok(mut ground) = made else {
         return Err(LineFault::NoMemory);
     };

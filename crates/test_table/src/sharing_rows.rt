@@ -3,9 +3,9 @@
 ghost use Rattle.std.specs.Prelude.{◌≤◌, ◌^◌};
 
 use crate::equal::equal;
-use crate::grounds::{Opened, open_locked, table_of};
+use crate::grounds::{Opened, converse, open_locked, table_of};
 use crate::meetings::new_meeting;
-use crate::telling::{joined, repeated, tells, tells_placed};
+use crate::telling::{Talk, joined, repeated, tells, tells_placed};
 use crate::turn_rows::{Deed, run_in_turn};
 use ring_any::Any;
 use ring_election::RingElection;
@@ -17,6 +17,20 @@ use std::process::Abort;
 use std::sync::{Arc, Wait};
 use std::thread;
 use std::thread::Threads;
+
+// The session before them.
+const CREATE: Talk<'static> = Talk {
+    session: 1,
+    lines: b"create a chang\n",
+    told: b"ok\n",
+};
+
+// The session after them, with the place of its reply.
+const SHARED: Talk<'static> = Talk {
+    session: 3,
+    lines: b"groups\n",
+    told: b"202 groups a\n",
+};
 
 // Returns the lines by which a hundred numbers from `from` on join the group `a`.
 fn joins(rt: &impl Abort, alloc: Global, from: u32) -> String {
@@ -43,15 +57,12 @@ fn join_hundred<R: Abort + Wait, A: Access<Any> + Drop>(
     let mut seat = seat;
     let lines = joins(rt, alloc, from);
     let told = repeated(rt, alloc, b"ok\n", 100);
-    tells(
-        rt,
-        alloc,
-        front,
-        &mut seat,
+    let joining = Talk {
         session,
-        lines.as_bytes(),
-        &told,
-    );
+        lines: lines.as_bytes(),
+        told: &told,
+    };
+    tells(rt, alloc, front, &mut seat, joining);
     drop(lines);
     drop(told);
     seat
@@ -85,8 +96,8 @@ where
     one
 }
 
-/// Two sessions in two threads, in each of which a hundred numbers join. There are no other entries
-/// than theirs. Returns the access.
+/// Two sessions in two threads, in each of which a hundred numbers join the group `a`, whose create
+/// is the one entry before. There are no other entries than theirs. Returns the access.
 pub fn share<R, A>(rt: &R, alloc: Global, opened: Opened<A>) -> Arc<A>
 where
     R: Abort + Threads + Wait + Sync,
@@ -96,14 +107,12 @@ where
 {
     let Opened {
         service,
-        mut one,
+        one,
         other,
     } = opened;
     let front = service.front();
-    tells(rt, alloc, front, &mut one, 1, b"create a chang\n", b"ok\n");
     let mut one = join_in_two(rt, alloc, front, one, other);
-    let told = b"202 groups a\n";
-    tells_placed(rt, alloc, front, &mut one, 3, b"groups\n", told);
+    tells_placed(rt, alloc, front, &mut one, SHARED);
     drop(one);
     let Closing {
         access,
@@ -117,7 +126,7 @@ where
 
 #[test]
 fn two_sessions_share_a_table(rt: HostRuntime) {
-    run_in_turn(&rt, rt.alloc(), 200, 1, 0, Deed::Share);
+    run_in_turn(&rt, rt.alloc(), 200, 1, 0, &[CREATE], Deed::Share);
 }
 
 // Stops the test if a table has other entries than a create, a hundred joins in each of two
@@ -144,8 +153,9 @@ fn has_joins<E: RingElection>(rt: &impl Abort, table: Table<E>) {
 fn two_sessions_share_a_locked_table(rt: HostRuntime) {
     let alloc = rt.alloc();
     let gate = new_meeting(&rt, alloc, 0);
-    let made = open_locked(&rt, alloc, Table::new(alloc), 1, 1, &gate);
-    drop(gate);
-    let access = share(&rt, alloc, made.expect(&rt, "no service"));
+    let made = open_locked(&rt, alloc, Table::new(alloc), 1, 1, gate);
+    let mut ground = made.expect(&rt, "no service");
+    converse(&rt, alloc, &mut ground, &[CREATE]);
+    let access = share(&rt, alloc, ground);
     has_joins(&rt, table_of(&rt, access));
 }

@@ -8,7 +8,6 @@
 use crate::equal::equal;
 use crate::grounds::{Ground, Opened, end, open_locked};
 use crate::memory::{TWICE, shared, with_room};
-use crate::telling::tally;
 use ring_any::Any;
 use ring_election::RingElection;
 use ring_lines::{FromRead, LineFault, ToWrite};
@@ -78,12 +77,11 @@ fn is_whole<E: RingElection>(handed: &Handed<E>, filed: usize) -> bool {
 // its report must be filed.
 fn ends_whole<E: RingElection>(
     rt: &impl Abort,
-    table: Table<E>,
+    tally: [usize; 4],
     handed: Vec<Handed<E>>,
     knows: bool,
 ) {
-    let [_, news, known, stale] = tally(&table);
-    drop(table);
+    let [_, news, known, stale] = tally;
     let filed = news.saturating_add(known).saturating_add(stale);
     let mut whole = 0_usize;
     for one in &handed {
@@ -117,17 +115,16 @@ where
         drop(reply);
     }
     let knows = comes_to_know(rt, alloc, &mut ground);
-    let (table, handed, waiting) = end(rt, ground);
+    let (tally, handed, waiting) = end(rt, ground);
     drop(waiting);
-    ends_whole(rt, table, handed, knows);
+    ends_whole(rt, tally, handed, knows);
 }
 
 #[test]
 fn a_service_that_is_refused_memory_says_where(rt: HostRuntime) {
     let alloc = rt.alloc();
     let gate = shared(&rt, alloc, OpenGate);
-    let made = open_locked(&rt, alloc, Table::new(alloc), 1, 64, &gate);
-    drop(gate);
+    let made = open_locked(&rt, alloc, Table::new(alloc), 1, 64, gate);
     match made {
         Ok(ground) => elect(&rt, alloc, ground),
         Err(fault) => equal(&rt, "a fault", fault, StartFault::NoMemory),

@@ -16,23 +16,30 @@ use std::alloc::Global;
 use std::process::Abort;
 use std::sync::Wait;
 
+/// A session over memory: its number, its lines, and what it must be told.
+#[derive(Clone, Copy)]
+pub struct Talk<'a> {
+    pub session: u32,
+    pub lines: &'a [u8],
+    pub told: &'a [u8],
+}
+
 /// Stops the test if a session over memory, by this seat, is told something else.
 pub fn tells<R: Abort + Wait, A: Access<Any> + Drop>(
     rt: &R,
     alloc: Global,
     front: &Front<A>,
     seat: &mut A::Seat,
-    session: u32,
-    lines: &[u8],
-    told: &[u8],
+    talk: Talk,
 )
     requires { A.has_seat front.now seat.old }
     ensures { A.has_seat front.now seat.new }
 {
     let mut writer = ToWrite(Vec::new(alloc));
-    let served = front.serve(rt, seat, session, &mut FromRead(lines), &mut writer, 1000);
+    let mut reader = FromRead(talk.lines);
+    let served = front.serve(rt, seat, talk.session, &mut reader, &mut writer, 1000);
     let found = (served.is_ok(), writer.0.as_slice());
-    equal(rt, "served, and told", found, (true, told));
+    equal(rt, "served, and told", found, (true, talk.told));
     drop(writer);
 }
 
@@ -42,26 +49,17 @@ pub fn tells_placed<R: Abort + Wait, A: Access<Any> + Drop>(
     alloc: Global,
     front: &Front<A>,
     seat: &mut A::Seat,
-    session: u32,
-    lines: &[u8],
-    told: &[u8],
+    talk: Talk,
 )
     requires seat { A.has_seat front.now seat.old }
     requires most { A.most ≤ 2 ^ 64 }
     ensures { A.has_seat front.now seat.new }
 {
     let mut writer = ToWrite(Vec::new(alloc));
-    let served = front.serve_placed(
-        rt,
-        seat,
-        0,
-        session,
-        &mut FromRead(lines),
-        &mut writer,
-        1000,
-    );
+    let mut reader = FromRead(talk.lines);
+    let served = front.serve_placed(rt, seat, 0, talk.session, &mut reader, &mut writer, 1000);
     let found = (served.is_ok(), writer.0.as_slice());
-    equal(rt, "served, and told", found, (true, told));
+    equal(rt, "served, and told", found, (true, talk.told));
     drop(writer);
 }
 
@@ -71,11 +69,19 @@ pub const FIRST: &[u8] = b"create a chang\njoin a 5\nstart a\nmembers a\ndrain a
 /// Their replies.
 pub const FIRST_TOLD: &[u8] = b"ok\nok\nterm 1\nmembers 5\nno bad-line\n";
 
-/// The lines of a second session.
-pub const SECOND: &[u8] = b"join a 5\ncut a 5 left\ngroups";
-
-/// Their replies.
-pub const SECOND_TOLD: &[u8] = b"no member\nno bad-line\ngroups a\n";
+/// The first session, and a second one that finds what it left.
+pub const TALKS: [Talk<'static>; 2] = [
+    Talk {
+        session: 1,
+        lines: FIRST,
+        told: FIRST_TOLD,
+    },
+    Talk {
+        session: 2,
+        lines: b"join a 5\ncut a 5 left\ngroups",
+        told: b"no member\nno bad-line\ngroups a\n",
+    },
+];
 
 /// Returns a text `times` times.
 pub fn repeated(rt: &impl Abort, alloc: Global, text: &[u8], times: u32) -> Vec<u8> {

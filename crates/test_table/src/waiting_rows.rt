@@ -2,25 +2,35 @@
 //! out of memory stops.
 
 use crate::equal::equal;
-use crate::grounds::{Opened, end, open_locked};
+use crate::grounds::{Opened, converse, end, open_locked};
 use crate::meetings::{LOOKS, Meeting, new_meeting};
-use crate::telling::{nodes_of, tells};
+use crate::telling::{Talk, nodes_of};
 use ring_any::Any;
 use ring_table::{Access, Table};
 use std::alloc::Global;
 use std::process::Abort;
-use std::sync::Wait;
 use std::sync::atomic::Ordering;
+use std::sync::{Arc, Wait};
 use std::thread::Threads;
 use std::time::Clock;
 
-const AHEAD: &[u8] = b"create a chang\njoin a 1\nstart a\n";
+const AHEAD: Talk<'static> = Talk {
+    session: 1,
+    lines: b"create a chang\njoin a 1\nstart a\n",
+    told: b"ok\nok\nterm 1\n",
+};
 
-const AHEAD_TOLD: &[u8] = b"ok\nok\nterm 1\n";
+const BEHIND: Talk<'static> = Talk {
+    session: 1,
+    lines: b"create b chang\njoin b 1\nstart b\ncreate c chang\njoin c 1\nstart c\n",
+    told: b"ok\nok\nterm 1\nok\nok\nterm 1\n",
+};
 
-const BEHIND: &[u8] = b"create b chang\njoin b 1\nstart b\ncreate c chang\njoin c 1\nstart c\n";
-
-const BEHIND_TOLD: &[u8] = b"ok\nok\nterm 1\nok\nok\nterm 1\n";
+const ASKING: Talk<'static> = Talk {
+    session: 2,
+    lines: b"groups\n",
+    told: b"groups a b c\n",
+};
 
 // Starts three terms of one member each. The gate holds the worker at the begin of the first term.
 // The inbox holds the begin of the second term, and the begin of the third term waits. Then the
@@ -38,15 +48,14 @@ where
     A: Access<Any> + Send + Sync + Drop + 'static,
     A::Seat: Send + 'static,
 {
-    let (front, seat) = (opened.service.front(), &mut opened.one);
-    tells(rt, alloc, front, seat, 1, AHEAD, AHEAD_TOLD);
-    assert!(rt; gate.reaches(&gate.entered, 1));
-    tells(rt, alloc, front, seat, 1, BEHIND, BEHIND_TOLD);
+    converse(rt, alloc, opened, &[AHEAD]);
+    gate.awaits(rt, &gate.entered, 1);
+    converse(rt, alloc, opened, &[BEHIND]);
     gate.entered.fetch_add(1, Ordering::SeqCst);
-    assert!(rt; gate.reaches(&gate.left, 6));
+    gate.awaits(rt, &gate.left, 6);
     if is_asked {
-        tells(rt, alloc, front, seat, 2, b"groups\n", b"groups a b c\n");
-        assert!(rt; gate.reaches(&gate.left, 9));
+        converse(rt, alloc, opened, &[ASKING]);
+        gate.awaits(rt, &gate.left, 9);
     }
 }
 
@@ -58,12 +67,12 @@ where
     R: Abort + Threads + Wait + Clock + Copy + Send + Sync + Drop + 'static,
 {
     let gate = new_meeting(rt, alloc, LOOKS);
-    let made = open_locked(rt, alloc, Table::new(alloc), 1, 1, &gate);
+    let copy = Arc::try_clone(&gate).expect(rt, "no copy");
+    let made = open_locked(rt, alloc, Table::new(alloc), 1, 1, copy);
     let mut ground = made.expect(rt, "no service");
     fall_behind(rt, alloc, &mut ground, &gate, is_asked);
     drop(gate);
-    let (table, handed, waiting) = end(rt, ground);
-    drop(table);
+    let (_, handed, waiting) = end(rt, ground);
     let begins = waiting.len();
     drop(waiting);
     let nodes = nodes_of(rt, alloc, handed);
