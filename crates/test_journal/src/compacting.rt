@@ -181,17 +181,31 @@ const KEPT: [&[&[u8]]; 3] = [
     ],
 ];
 
+// Puts the lines of these changes into a file. Returns whether no allocation failed.
+fn put_changes(file: &mut Vec<u8>, changes: &[&[u8]]) -> bool {
+    let mut check = Check::new();
+    for line in changes {
+        let Some(change) = parse_change(line) else {
+            return false;
+        };
+        if print_line(&change, &mut check, file).is_err() || file.push(b'\n').is_err() {
+            return false;
+        }
+    }
+    true
+}
+
 // Returns the bytes of a journal with this first line and these changes. Fails only if an
 // allocation fails.
 fn journal(alloc: Global, heading: &[u8], changes: &[&[u8]]) -> Option<Vec<u8>> {
-    let mut file = try_file(alloc, &[heading], b"")?;
-    let mut check = Check::new();
-    for line in changes {
-        let change = parse_change(line)?;
-        print_line(&change, &mut check, &mut file).ok()?;
-        file.push(b'\n').ok()?;
+    let Some(mut file) = try_file(alloc, &[heading], b"") else {
+        return None;
+    };
+    if put_changes(&mut file, changes) {
+        return Some(file);
     }
-    Some(file)
+    drop(file);
+    None
 }
 
 // Returns the table of a journal of these changes, compacted. Fails only if an allocation fails.

@@ -199,61 +199,54 @@ const TENTH: &[u8] = b"ringd journal 1 life 10 #2f8e3011\n";
 
 const LAST: &[u8] = b"ringd journal 1 life 1048576 #8e1d63b7";
 
-// What is recovered from a file. Stops the test unless the text begins with `first`.
-fn found(rt: &impl Abort, alloc: Global, lines: &[&[u8]], tail: &[u8], first: &[u8]) -> Found {
-    let recovered = match recovered(rt, alloc, lines, tail) {
-        Ok(recovered) => recovered,
-        Err(fault) => return Err(fault),
+// Stops the test unless this is found in a file, with a text that begins with `first`.
+fn is_found(
+    rt: &impl Abort,
+    alloc: Global,
+    lines: &[&[u8]],
+    tail: &[u8],
+    first: &[u8],
+    wanted: Found,
+) {
+    let found = match recovered(rt, alloc, lines, tail) {
+        Ok(recovered) => {
+            let text = recovered.text();
+            let begun = text.bytes().get(..first.len());
+            equal(rt, "the first line", begun, Some(first));
+            let found = (recovered.life().get(), recovered.count(), text.len());
+            drop(recovered);
+            Ok(found)
+        }
+        Err(fault) => Err(fault),
     };
-    let text = recovered.text();
     equal(
         rt,
-        "the first line",
-        text.bytes().get(..first.len()),
-        Some(first),
+        "a tail, and what is found",
+        (tail, found),
+        (tail, wanted),
     );
-    let found = (recovered.life().get(), recovered.count(), text.len());
-    drop(recovered);
-    Ok(found)
 }
 
 #[test]
 fn a_file_that_is_no_journal_is_refused(rt: HostRuntime) {
     for (lines, tail, fault) in &REFUSED {
-        let found = found(&rt, rt.alloc(), lines, tail, b"");
-        equal(
-            &rt,
-            "a tail, and the fault",
-            (*tail, found),
-            (*tail, Err(*fault)),
-        );
+        is_found(&rt, rt.alloc(), lines, tail, b"", Err(*fault));
     }
 }
 
 #[test]
 fn each_recovery_begins_the_next_life_without_a_torn_tail(rt: HostRuntime) {
     for (lines, tail, first, wanted) in &FOUND {
-        let found = found(&rt, rt.alloc(), lines, tail, first);
-        equal(
-            &rt,
-            "a tail, and what is found",
-            (*tail, found),
-            (*tail, *wanted),
-        );
+        is_found(&rt, rt.alloc(), lines, tail, first, *wanted);
     }
 }
 
 #[test]
 fn a_byte_far_behind_the_text_is_bad(rt: HostRuntime) {
     let mut tail = [0; 65537];
-    let torn = found(&rt, rt.alloc(), &STARTED, &tail, SECOND);
+    let torn = Ok((2, 4, 116));
+    is_found(&rt, rt.alloc(), &STARTED, &tail, SECOND, torn);
     tail[65536] = 1;
-    let bad = found(&rt, rt.alloc(), &STARTED, &tail, b"");
-    let fault = RecoverFault::Bad { at: 116 + 65536 };
-    equal(
-        &rt,
-        "torn, and bad",
-        (torn, bad),
-        (Ok((2, 4, 116)), Err(fault)),
-    );
+    let bad = Err(RecoverFault::Bad { at: 116 + 65536 });
+    is_found(&rt, rt.alloc(), &STARTED, &tail, b"", bad);
 }

@@ -62,26 +62,52 @@ fn settle<R: Abort + Files<File = File> + Replaces + AllocGlobal + Copy + Drop>(
     );
 }
 
-// Stops the test if a file has anything but this text and zeros after it.
-fn holds(rt: &impl Abort, found: &[u8], text: &[u8]) {
-    let (whole, zeros) = found.split_at(whole_len(found));
+// Stops the test if the file at this path has anything but these two texts and zeros after them.
+fn holds<R: Abort + Files<File = File> + AllocGlobal>(
+    rt: &R,
+    path: &str,
+    before: &[u8],
+    text: &[u8],
+) {
+    let found = fs::read(rt, path).expect(rt, "the file");
+    let after = found.strip_prefix(before).expect(rt, "the first text");
+    let (whole, zeros) = after.split_at(whole_len(after));
     equal(rt, "the text", whole, text);
     for byte in zeros {
         equal(rt, "a zero", *byte, 0);
     }
+    drop(found);
+}
+
+// Makes the folder of the tests, and leaves no file at this path in it.
+fn clear<R: Abort + Files<File = File>>(rt: &R, path: &str) {
+    drop(fs::create_dir(rt, "journal-test"));
+    drop(fs::remove_file(rt, path));
 }
 
 #[test]
 fn lines_come_back_from_a_real_file(rt: HostRuntime) {
     let path = "journal-test/lines";
-    drop(fs::create_dir(&rt, "journal-test"));
-    drop(fs::remove_file(&rt, path));
+    clear(&rt, path);
     for (count, line) in [(0, b"create a"), (1, b"create b"), (2, b"create c")] {
         settle(&rt, path, open(&rt, path, count), line);
     }
-    let found = fs::read(&rt, path).expect(&rt, "the file");
-    holds(&rt, &found, b"create a\ncreate b\ncreate c\n");
-    drop(found);
+    holds(&rt, path, b"", b"create a\ncreate b\ncreate c\n");
+}
+
+// Opens the journal of a file with one line, puts a text in its place, and settles one more line.
+fn replace<R: Abort + Files<File = File> + Replaces + AllocGlobal + Copy + Drop>(
+    rt: &R,
+    path: &str,
+    text: &Batch,
+)
+where
+    requires { HasAll text.now.bytes }
+{
+    let mut journal = open(rt, path, 1);
+    let replaced = (text.len(), journal.replace(text));
+    equal(rt, "the length, and replaced", replaced, (160_000, Ok(())));
+    settle(rt, path, journal, b"create b");
 }
 
 // The name has the old file or the new one, and then the new one goes on. The text is longer than a
@@ -89,19 +115,12 @@ fn lines_come_back_from_a_real_file(rt: HostRuntime) {
 #[test]
 fn a_long_text_takes_the_place_of_a_real_file(rt: HostRuntime) {
     let path = "journal-test/replaced";
-    drop(fs::create_dir(&rt, "journal-test"));
-    drop(fs::remove_file(&rt, path));
+    clear(&rt, path);
     settle(&rt, path, open(&rt, path, 0), b"create a");
-    let mut journal = open(&rt, path, 1);
     let text = b"a line of thirty-two characters\n".repeat(rt.alloc(), 5000);
     let text = batch_of(text.expect(&rt, "a long text"));
-    let replaced = (text.len(), journal.replace(&text));
-    equal(&rt, "the length, and replaced", replaced, (160_000, Ok(())));
-    settle(&rt, path, journal, b"create b");
-    let found = fs::read(&rt, path).expect(&rt, "the file");
-    let after = found.strip_prefix(text.bytes());
-    holds(&rt, after.expect(&rt, "the long text"), b"create b\n");
-    drop(found);
+    replace(&rt, path, &text);
+    holds(&rt, path, text.bytes(), b"create b\n");
     drop(text);
     assert!(rt; fs::read(&rt, "journal-test/replaced.new").is_err());
 }

@@ -32,16 +32,25 @@ pub(crate) const AGAIN: [&[u8]; 5] = [
     b"start a #39e2a5a0",
 ];
 
+// Puts these lines, each with an LF, and a tail into a file. Returns whether no allocation failed.
+fn put_lines(file: &mut Vec<u8>, lines: &[&[u8]], tail: &[u8]) -> bool {
+    for line in lines {
+        if file.extend_from_slice(line).is_err() || file.push(b'\n').is_err() {
+            return false;
+        }
+    }
+    file.extend_from_slice(tail).is_ok()
+}
+
 /// Returns the bytes of these lines, each with an LF, and of a tail. Fails only if an allocation
 /// fails.
 pub(crate) fn try_file(alloc: Global, lines: &[&[u8]], tail: &[u8]) -> Option<Vec<u8>> {
     let mut file = Vec::new(alloc);
-    for line in lines {
-        file.extend_from_slice(line).ok()?;
-        file.push(b'\n').ok()?;
+    if put_lines(&mut file, lines, tail) {
+        return Some(file);
     }
-    file.extend_from_slice(tail).ok()?;
-    Some(file)
+    drop(file);
+    None
 }
 
 /// The bytes of these lines, each with an LF, and of a tail.

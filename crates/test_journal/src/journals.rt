@@ -1,7 +1,9 @@
+ghost use Rattle.ring_journal.specs.Journals.{HasAll};
+
 use crate::equal::equal;
 use crate::failing::FailingMedium;
 use crate::file::batch_of;
-use ring_journal::{Journal, LONGEST_BATCH, MemoryMedium, RoomFault, is_line};
+use ring_journal::{Batch, Journal, LONGEST_BATCH, MemoryMedium, RoomFault, is_line};
 use std::alloc::Global;
 use std::process::Abort;
 
@@ -22,6 +24,17 @@ fn add(rt: &impl Abort, journal: &mut Journal<FailingMedium>, line: &[u8]) {
     equal(rt, "added", journal.add(line), Ok(()));
 }
 
+// Settles three lines, one after another. Returns how many calls came to that, how many bytes are
+// kept, and whether the journal is broken.
+fn settle_three(rt: &impl Abort, journal: &mut Journal<FailingMedium>) -> (u32, usize, bool) {
+    let mut count: u32 = 0;
+    for line in [b"a", b"b", b"c"] {
+        add(rt, journal, line);
+        count = count.saturating_add(u32::from(journal.settle().is_ok()));
+    }
+    (count, journal.medium().memory.kept(), journal.is_broken())
+}
+
 // Settling a line makes two calls of the medium. `settled` lines come before the call that fails.
 #[test]
 fn nothing_is_settled_after_a_failure(rt: HostRuntime) {
@@ -34,65 +47,78 @@ fn nothing_is_settled_after_a_failure(rt: HostRuntime) {
         (6, 2, 4),
     ] {
         let mut journal = failing_journal(rt.alloc(), fault_at);
-        let mut count: u32 = 0;
-        for line in [b"a", b"b", b"c"] {
-            add(&rt, &mut journal, line);
-            count = count.saturating_add(u32::from(journal.settle().is_ok()));
-        }
-        let (found, is_broken) = (journal.medium().memory.kept(), journal.is_broken());
+        let found = settle_three(&rt, &mut journal);
         drop(journal);
         equal(
             &rt,
-            "fault at, settled, kept, and broken",
-            (fault_at, count, found, is_broken),
-            (fault_at, settled, kept, fault_at != 0),
+            "fault at, and settled, kept, and broken",
+            (fault_at, found),
+            (fault_at, (settled, kept, fault_at != 0)),
         );
     }
+}
+
+// Fills a batch, whose last byte is then the last one that has room, and begins the next one.
+fn fill(rt: &impl Abort, journal: &mut Journal<FailingMedium>) {
+    let room = (
+        journal.reserve(LONGEST_BATCH + 1),
+        journal.reserve(LONGEST_BATCH),
+    );
+    equal(rt, "room", room, (Err(RoomFault::Full), Ok(())));
+    let line = [b'a'; 4095];
+    for _ in 0..16 {
+        add(rt, journal, &line);
+    }
+    assert!(rt; is_line(b""));
+    let full = (journal.pending(), journal.add(b""), journal.settle());
+    let wanted = (LONGEST_BATCH, Err(RoomFault::Full), Ok(()));
+    equal(rt, "pending, added, and settled", full, wanted);
+    add(rt, journal, &line);
+    equal(rt, "pending", journal.pending(), 4096);
 }
 
 #[test]
 fn a_batch_is_full_at_its_last_byte(rt: HostRuntime) {
     let mut journal = failing_journal(rt.alloc(), 0);
-    let room = (
-        journal.reserve(LONGEST_BATCH + 1),
-        journal.reserve(LONGEST_BATCH),
-    );
-    equal(&rt, "room", room, (Err(RoomFault::Full), Ok(())));
-    let line = [b'a'; 4095];
-    for _ in 0..16 {
-        add(&rt, &mut journal, &line);
-    }
-    assert!(rt; is_line(b""));
-    let full = (journal.pending(), journal.add(b""), journal.settle());
-    let wanted = (LONGEST_BATCH, Err(RoomFault::Full), Ok(()));
-    equal(&rt, "pending, added, and settled", full, wanted);
-    add(&rt, &mut journal, &line);
-    equal(&rt, "pending", journal.pending(), 4096);
+    fill(&rt, &mut journal);
     drop(journal);
+}
+
+// Replaces the text of a journal by a new one, which works if its medium does. The journal has
+// `text` then.
+fn replace(
+    rt: &impl Abort,
+    journal: &mut Journal<FailingMedium>,
+    new: &Batch,
+    works: bool,
+    text: &[u8],
+)
+    requires { HasAll new.now.bytes }
+{
+    add(rt, journal, b"a");
+    let begun = journal.settle().is_ok();
+    add(rt, journal, b"x");
+    let replaced = journal.replace(new).is_ok();
+    add(rt, journal, b"d");
+    let settled = journal.settle().is_ok();
+    let found = [begun, replaced, settled, journal.is_broken()];
+    let wanted = [true, works, works, !works];
+    equal(rt, "begun, replaced, settled, and broken", found, wanted);
+    let memory = &journal.medium().memory;
+    let found = (memory.text(), memory.kept());
+    equal(rt, "the text, and kept", found, (text, text.len()));
 }
 
 // The first line takes two calls of the medium, so the third one replaces the text. A line that is
 // pending then is dropped.
 #[test]
 fn a_text_takes_the_place_of_the_lines(rt: HostRuntime) {
+    let new = batch_of(b"b\nc\n".to_vec(rt.alloc()).expect(&rt, "a text"));
     let texts: [(u32, &[u8]); 2] = [(0, b"b\nc\nd\n"), (3, b"a\n")];
     for (fault_at, text) in texts {
-        let works = fault_at == 0;
         let mut journal = failing_journal(rt.alloc(), fault_at);
-        add(&rt, &mut journal, b"a");
-        let begun = journal.settle().is_ok();
-        add(&rt, &mut journal, b"x");
-        let new = batch_of(b"b\nc\n".to_vec(rt.alloc()).expect(&rt, "a text"));
-        let replaced = journal.replace(&new).is_ok();
-        drop(new);
-        add(&rt, &mut journal, b"d");
-        let settled = journal.settle().is_ok();
-        let found = [begun, replaced, settled, journal.is_broken()];
-        let wanted = [true, works, works, !works];
-        equal(&rt, "begun, replaced, settled, and broken", found, wanted);
-        let memory = &journal.medium().memory;
-        let found = (memory.text(), memory.kept());
-        equal(&rt, "the text, and kept", found, (text, text.len()));
+        replace(&rt, &mut journal, &new, fault_at == 0, text);
         drop(journal);
     }
+    drop(new);
 }

@@ -139,6 +139,18 @@ fn journal_of(table: Recorded<Any, Written<MemoryMedium>>) -> Written<MemoryMedi
     written
 }
 
+// Stops the test unless a medium keeps these lines and the changes of the second life.
+fn has_more(rt: &impl Abort, medium: &MemoryMedium, lines: &[u8]) {
+    let len = lines.len();
+    let found = (
+        medium.text().get(..len),
+        medium.text().get(len..),
+        medium.kept(),
+    );
+    let wanted = (Some(lines), Some(MORE), len.saturating_add(MORE.len()));
+    equal(rt, "the text, more of it, and kept", found, wanted);
+}
+
 #[test]
 fn a_table_goes_on_after_a_restart(rt: HostRuntime) {
     let alloc = rt.alloc();
@@ -146,15 +158,7 @@ fn a_table_goes_on_after_a_restart(rt: HostRuntime) {
     goes_on(&rt, alloc, &mut table);
     let written = journal_of(table);
     let lines = file(&rt, alloc, &AGAIN, KNOWN);
-    let len = lines.len();
-    let medium = written.journal().medium();
-    let found = (
-        medium.text().get(..len),
-        medium.text().get(len..),
-        medium.kept(),
-    );
-    let wanted = (Some(lines.as_slice()), Some(MORE), len + MORE.len());
-    equal(&rt, "the text, more of it, and kept", found, wanted);
+    has_more(&rt, written.journal().medium(), &lines);
     drop(lines);
     drop(written);
 }

@@ -6,9 +6,10 @@ use crate::lives::{copy, new_alarm, reopened, repeats, tells};
 use ring_any::Any;
 use ring_journal::MemoryMedium;
 use ring_recovery::Written;
-use ring_table::Recorded;
+use ring_table::{Recorded, Tabled};
 use std::alloc::Global;
 use std::process::Abort;
+use std::sync::Wait;
 
 // A member of a long number joins and leaves.
 const TOGGLES: [(&[u8], &[u8]); 2] = [
@@ -59,13 +60,19 @@ fn is_rewritten(rt: &impl Abort, alloc: Global, text: &[u8], is_short: bool, mem
     shows(rt, alloc, text, members);
 }
 
+// The table, and how many bytes and changes its journal has.
+fn counted(rt: &impl Abort, alloc: Global, table: Table) -> (Table, usize, usize) {
+    let (table, text) = text_of(rt, alloc, table);
+    let (len, count) = (text.len(), count_of(rt, alloc, &text));
+    drop(text);
+    (table, len, count)
+}
+
 // A table whose journal is long. A restart finds all changes of it.
 fn grown(rt: &impl Abort, alloc: Global) -> Table {
     let mut table = reopened(rt, alloc, b"");
     repeats(rt, alloc, &mut table, &TOGGLES, 5000);
-    let (table, text) = text_of(rt, alloc, table);
-    let (len, count) = (text.len(), count_of(rt, alloc, &text));
-    drop(text);
+    let (table, len, count) = counted(rt, alloc, table);
     equal(
         rt,
         "long, and many",
@@ -75,22 +82,42 @@ fn grown(rt: &impl Abort, alloc: Global) -> Table {
     table
 }
 
+// Settles a table, and returns it. Stops the test unless its journal is rewritten so.
+fn rewrites<R: Abort + Wait>(
+    rt: &R,
+    alloc: Global,
+    table: Table,
+    is_short: bool,
+    members: &[u8],
+) -> Table {
+    let mut table = table;
+    table.settle(rt);
+    let (table, text) = text_of(rt, alloc, table);
+    is_rewritten(rt, alloc, &text, is_short, members);
+    drop(text);
+    table
+}
+
 // A crash leaves the old text or the new one.
 #[test]
 fn a_long_journal_is_rewritten_when_it_is_settled(rt: HostRuntime) {
     let alloc = rt.alloc();
-    let mut table = grown(&rt, alloc);
-    table.settle(&rt);
-    let (table, text) = text_of(&rt, alloc, table);
-    is_rewritten(&rt, alloc, &text, true, b"members 3/9 4\n");
-    drop(text);
-    let mut table = table;
+    let mut table = rewrites(&rt, alloc, grown(&rt, alloc), true, b"members 3/9 4\n");
     tells(&rt, alloc, &mut table, &[(b"join a 5", b"ok\n")]);
-    table.settle(&rt);
-    let (table, text) = text_of(&rt, alloc, table);
-    drop(table);
-    is_rewritten(&rt, alloc, &text, false, b"members 3/9 4 5\n");
-    drop(text);
+    drop(rewrites(&rt, alloc, table, false, b"members 3/9 4 5\n"));
+}
+
+// Lets a member join and leave, and settles the table after that, a hundred times.
+fn toggles<R: Abort + Wait, T: Tabled<Any>>(rt: &R, alloc: Global, table: &mut T) {
+    for _ in 0..100 {
+        tells(
+            rt,
+            alloc,
+            table,
+            &[(b"join a 7", b"ok\n"), (b"leave a 7", b"ok\n")],
+        );
+        table.settle(rt);
+    }
 }
 
 // A journal that was never as long stays as it is.
@@ -98,17 +125,8 @@ fn a_long_journal_is_rewritten_when_it_is_settled(rt: HostRuntime) {
 fn a_short_journal_is_not_rewritten(rt: HostRuntime) {
     let alloc = rt.alloc();
     let mut table = reopened(&rt, alloc, b"");
-    for _ in 0..100 {
-        tells(
-            &rt,
-            alloc,
-            &mut table,
-            &[(b"join a 7", b"ok\n"), (b"leave a 7", b"ok\n")],
-        );
-        table.settle(&rt);
-    }
-    let (table, text) = text_of(&rt, alloc, table);
+    toggles(&rt, alloc, &mut table);
+    let (table, _, count) = counted(&rt, alloc, table);
     drop(table);
-    equal(&rt, "changes", count_of(&rt, alloc, &text), 204);
-    drop(text);
+    equal(&rt, "changes", count, 204);
 }
