@@ -1,5 +1,7 @@
 use crate::equal::equal;
 use ring_accept::{JournalFault, ProgramFault};
+use std::alloc::Global;
+use std::process::Abort;
 
 // Each fault that is not of a journal, and its line.
 const FAULTS: [(ProgramFault, &str); 9] = [
@@ -28,17 +30,19 @@ const JOURNAL_FAULTS: [(JournalFault, &str); 7] = [
     (JournalFault::Lives, "ringd: journal has no life left"),
 ];
 
+// Stops the test unless a fault has this line.
+fn has_line(rt: &impl Abort, alloc: Global, fault: ProgramFault, line: &str) {
+    let told = fault.to_string(alloc).expect(rt, "no line");
+    equal(rt, "a line", told.as_str(), line);
+    drop(told);
+}
+
 #[test]
 fn each_fault_has_its_line(rt: HostRuntime) {
     for (fault, line) in FAULTS {
-        let told = fault.to_string(rt.alloc()).expect(&rt, "no line");
-        equal(&rt, "a line", told.as_str(), line);
-        drop(told);
+        has_line(&rt, rt.alloc(), fault, line);
     }
     for (cause, line) in JOURNAL_FAULTS {
-        let fault = ProgramFault::from(cause);
-        let told = fault.to_string(rt.alloc()).expect(&rt, "no line");
-        equal(&rt, "a line of a journal", told.as_str(), line);
-        drop(told);
+        has_line(&rt, rt.alloc(), ProgramFault::from(cause), line);
     }
 }

@@ -1,7 +1,7 @@
 ghost use Rattle.std.specs.Prelude.{◌≡◌, All};
 
 use crate::equal::equal;
-use crate::trial::{client, hear_all, listener};
+use crate::trial::{client, hear_all, listener, shared_watch};
 use ring_accept::ClientHandler;
 use ring_config::Config;
 use ring_server::{
@@ -167,8 +167,7 @@ fn an_inbox_holds_what_the_configuration_says(rt: HostRuntime) {
             inbox,
             port: 80,
         };
-        let watch = Watch::new(rt.alloc(), 1).expect(&rt, "no watch");
-        let watch = Arc::new(rt.alloc(), watch).expect(&rt, "no watch");
+        let watch = shared_watch(&rt, rt.alloc());
         let waiting = waiting_after(&rt, &config, &watch, true, &asked);
         drop(watch);
         equal(

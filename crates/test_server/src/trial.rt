@@ -1,10 +1,12 @@
 //! Parts that tests of the server share: listeners, clients, and handlers that note who served.
 use ring_accept::{Acceptor, ClientHandler};
+use ring_server::Watch;
+use std::alloc::Global;
 use std::io;
 use std::io::{Read, Write};
 use std::net::{Ipv4Addr, Net, OpenListener, SocketAddr, TcpListener, TcpStream};
 use std::process::Abort;
-use std::sync::{Mutex, Wait};
+use std::sync::{Arc, Mutex, Wait};
 use std::time::Clock;
 
 /// A listener whose accept fails.
@@ -17,6 +19,12 @@ impl OpenListener for NoClients {
     fn accept(&self) -> io::Result<(TcpStream, SocketAddr)> {
         Err(io::Error::other("no accept"))
     }
+}
+
+/// A watch of one session at most.
+pub fn shared_watch(rt: &impl Abort, alloc: Global) -> Arc<Watch> {
+    let watch = Watch::new(alloc, 1).expect(rt, "no watch");
+    Arc::new(alloc, watch).expect(rt, "no watch")
 }
 
 /// A listener on a free port, and its address.

@@ -1,6 +1,6 @@
 use crate::equal::equal;
 use crate::sessions::waiting_after;
-use crate::trial::NoClients;
+use crate::trial::{NoClients, shared_watch};
 use ring_any::Any;
 use ring_config::Config;
 use ring_http::{Beside, Served};
@@ -8,7 +8,8 @@ use ring_id::GroupName;
 use ring_journal::{Batch, Medium, MemoryMedium};
 use ring_lines::parse_command;
 use ring_server::{Meter, Metered, Port, Watch};
-use ring_table::Table;
+use ring_table::{Table, Tabled};
+use std::alloc::Global;
 use std::net::OpenListener;
 use std::process::Abort;
 use std::sync::{Arc, Wait};
@@ -44,27 +45,50 @@ fn noted<K: Beside>(
     (algorithm, Some(last))
 }
 
-#[test]
-fn answers_are_counted_and_noted(rt: HostRuntime) {
-    let watch = Watch::new(rt.alloc(), 1).expect(&rt, "no watch");
-    let watch = Arc::new(rt.alloc(), watch).expect(&rt, "no watch");
-    let _ = waiting_after(&rt, &CONFIG, &watch, false, &[(LINES, TOLD)]);
-    let known = watch.beside(&rt);
+// Stops the test unless this is counted and noted of the lines.
+fn has_noted<R: Abort + Wait>(rt: &R, watch: &Watch) {
+    let known = watch.beside(rt);
     let figures = known.figures();
     let refusals = figures.refusals;
     let wanted = [0, 2, 1, 0, 0, 0, 0, 0, 0, 0, 1, 0, 0, 0];
-    equal(&rt, "refusals", refusals, wanted);
+    equal(rt, "refusals", refusals, wanted);
     let sessions = figures.sessions;
-    equal(&rt, "sessions", sessions, Served { now: 0, limit: 1 });
+    equal(rt, "sessions", sessions, Served { now: 0, limit: 1 });
     for (name, wanted) in [
         (b"a", (Some(Any::Chang), Some((2, 2)))),
         (b"b", (None, None)),
         (b"c", (Some(Any::Peterson), None)),
     ] {
-        let found = (name, noted(&rt, &known, name));
-        equal(&rt, "a group", found, (name, wanted));
+        let found = (name, noted(rt, &known, name));
+        equal(rt, "a group", found, (name, wanted));
     }
+}
+
+#[test]
+fn answers_are_counted_and_noted(rt: HostRuntime) {
+    let watch = shared_watch(&rt, rt.alloc());
+    let _ = waiting_after(&rt, &CONFIG, &watch, false, &[(LINES, TOLD)]);
+    has_noted(&rt, &watch);
     drop(watch);
+}
+
+// Calls a table by the command of each line.
+fn call_all<T: Tabled<Any>>(rt: &impl Abort, table: &mut T, lines: &[&[u8]]) {
+    for line in lines {
+        let command = parse_command(line).expect(rt, "no command");
+        drop(table.call(1, command));
+    }
+}
+
+// Stops the test unless a watch knows the two groups of a restart.
+fn knows_two<R: Abort + Wait>(rt: &R, watch: &Watch) {
+    let known = watch.beside(rt);
+    let found = (noted(rt, &known, b"x"), noted(rt, &known, b"y"));
+    let wanted = (
+        (Some(Any::LeLann), None),
+        (Some(Any::Hirschberg), Some((1, 1))),
+    );
+    equal(rt, "two groups", found, wanted);
 }
 
 // The second of two groups has a term.
@@ -77,21 +101,12 @@ fn a_restart_notes_the_groups_again(rt: HostRuntime) {
         b"join y 7",
         b"start y",
     ];
-    for line in lines {
-        let command = parse_command(line).expect(&rt, "no command");
-        drop(table.call(1, command));
-    }
+    call_all(&rt, &mut table, &lines);
     let watch = Watch::new(rt.alloc(), 1).expect(&rt, "no watch");
     let watch = watch.with_groups(rt.alloc(), table.book());
     drop(table);
     let watch = watch.expect(&rt, "no groups");
-    let known = watch.beside(&rt);
-    let found = (noted(&rt, &known, b"x"), noted(&rt, &known, b"y"));
-    let wanted = (
-        (Some(Any::LeLann), None),
-        (Some(Any::Hirschberg), Some((1, 1))),
-    );
-    equal(&rt, "two groups", found, wanted);
+    knows_two(&rt, &watch);
     drop(watch);
 }
 
@@ -105,30 +120,40 @@ fn clients_of<R: Wait>(rt: &R, watch: &Watch) -> (u64, Option<u64>, u64) {
     (figures.sessions.now, campaigns, figures.viewers.now)
 }
 
-#[test]
-fn clients_and_failed_accepts_are_counted(rt: HostRuntime) {
-    let watch = Watch::new(rt.alloc(), 5).expect(&rt, "no watch");
-    let watch = watch.with_campaigns(true);
+// A client of each port comes and goes.
+fn counts_clients<R: Abort + Wait>(rt: &R, watch: &Watch) {
     for (port, seen) in [
         (Port::Sessions, (1, Some(0), 0)),
         (Port::Campaigns, (0, Some(1), 0)),
         (Port::Http, (0, Some(0), 1)),
     ] {
         watch.enter(port);
-        let during = clients_of(&rt, &watch);
+        let during = clients_of(rt, watch);
         watch.leave(port);
-        let found = (during, clients_of(&rt, &watch));
-        equal(&rt, "clients", found, (seen, (0, Some(0), 0)));
+        let found = (during, clients_of(rt, watch));
+        equal(rt, "clients", found, (seen, (0, Some(0), 0)));
     }
-    let viewers = watch.beside(&rt).figures().viewers;
-    equal(&rt, "viewers", viewers, Served { now: 0, limit: 5 });
+    let viewers = watch.beside(rt).figures().viewers;
+    equal(rt, "viewers", viewers, Served { now: 0, limit: 5 });
+}
+
+// Three accepts fail.
+fn counts_failures<R: Abort + Wait>(rt: &R, watch: &Watch) {
     let acceptor = watch.heeded(NoClients);
     for failed in 1..4 {
         let has_failed = acceptor.accept().is_err();
-        let counted = watch.beside(&rt).figures().failed_accepts;
-        equal(&rt, "accepts", (has_failed, counted), (true, failed));
+        let counted = watch.beside(rt).figures().failed_accepts;
+        equal(rt, "accepts", (has_failed, counted), (true, failed));
     }
     drop(acceptor);
+}
+
+#[test]
+fn clients_and_failed_accepts_are_counted(rt: HostRuntime) {
+    let watch = Watch::new(rt.alloc(), 5).expect(&rt, "no watch");
+    let watch = watch.with_campaigns(true);
+    counts_clients(&rt, &watch);
+    counts_failures(&rt, &watch);
     drop(watch);
 }
 
@@ -138,26 +163,23 @@ fn counts_of(meter: &Meter) -> (u64, u64) {
     (figures.bytes, figures.syncs)
 }
 
-// The journal begins with five bytes. It is written by two batches and synced, and then another
-// text takes its place.
-#[test]
-fn a_journal_is_metered(rt: HostRuntime) {
-    let alloc = rt.alloc();
-    let other = Batch::from(b"xy\n".to_vec(alloc).expect(&rt, "no batch"));
-    let text = Batch::from(b"abcd\n".to_vec(alloc).expect(&rt, "no batch"));
-    let memory = MemoryMedium::new(text.bytes().to_vec(alloc).expect(&rt, "no journal"));
-    let meter = Arc::new(alloc, Meter::new(text.len())).expect(&rt, "no meter");
-    let theirs = Arc::try_clone(&meter).expect(&rt, "no meter");
-    let mut medium = Metered::new(rt, memory, theirs);
-    let begun = counts_of(&meter);
-    let first = medium.append(&text);
-    drop(text);
-    let written = (first, medium.append(&other), counts_of(&meter));
-    let synced = (medium.sync(), counts_of(&meter));
-    let replaced = (medium.replace(&other), counts_of(&meter));
-    drop(medium);
-    drop(meter);
-    drop(other);
+// Writes two batches to a metered medium and syncs it, and then puts the second one in place of its
+// text, which has the length of the first one at the beginning.
+fn is_metered<D: Medium>(
+    rt: &impl Abort,
+    medium: &mut D,
+    meter: &Meter,
+    first: &Batch,
+    second: &Batch,
+) {
+    let begun = counts_of(meter);
+    let written = (
+        medium.append(first),
+        medium.append(second),
+        counts_of(meter),
+    );
+    let synced = (medium.sync(), counts_of(meter));
+    let replaced = (medium.replace(second), counts_of(meter));
     let done = Ok(());
     let wanted = (
         (5, 0),
@@ -165,7 +187,29 @@ fn a_journal_is_metered(rt: HostRuntime) {
         (done, (13, 1)),
         (done, (3, 1)),
     );
-    equal(&rt, "counts", (begun, written, synced, replaced), wanted);
+    equal(rt, "counts", (begun, written, synced, replaced), wanted);
+}
+
+// A batch of this text.
+fn batch(rt: &impl Abort, alloc: Global, text: &[u8]) -> Batch {
+    Batch::from(text.to_vec(alloc).expect(rt, "no batch"))
+}
+
+// The journal begins with five bytes.
+#[test]
+fn a_journal_is_metered(rt: HostRuntime) {
+    let alloc = rt.alloc();
+    let first = batch(&rt, alloc, b"abcd\n");
+    let second = batch(&rt, alloc, b"xy\n");
+    let memory = MemoryMedium::new(b"abcd\n".to_vec(alloc).expect(&rt, "no journal"));
+    let meter = Arc::new(alloc, Meter::new(first.len())).expect(&rt, "no meter");
+    let theirs = Arc::try_clone(&meter).expect(&rt, "no meter");
+    let mut medium = Metered::new(rt, memory, theirs);
+    is_metered(&rt, &mut medium, &meter, &first, &second);
+    drop(medium);
+    drop(meter);
+    drop(first);
+    drop(second);
 }
 
 #[test]
