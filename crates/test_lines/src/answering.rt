@@ -1,62 +1,12 @@
 use crate::equal::equal;
+use crate::logs::{Asking, Telling};
 use crate::memory::{room, tells_of_memory};
-use crate::texts::{Log, Text, note};
+use crate::texts::Text;
 use ring_lines::{FromRead, LineFault, Outlet, ToWrite, WriteFailed};
 use ring_schedule::replay;
 use std::alloc::Global;
 use std::cell::Cell;
-use std::io;
-use std::io::{Read, Write};
 use std::process::Abort;
-
-// A reader that gives these pieces, one for each read call, and notes each call.
-#[derive(Drop)]
-struct Asking<'a> {
-    log: &'a Log,
-    pieces: &'a [&'a [u8]],
-    next: usize,
-}
-
-impl Read for Asking<'_> {
-    ghost use Rattle.std.specs.Prelude.{None};
-
-    ghost remaining = { λ _. None };
-
-    fn read(&mut self, buffer: &mut [u8]) -> io::Result<usize> {
-        let piece = match self.pieces.get(self.next) {
-            Some(piece) => *piece,
-            None => b"".as_slice(),
-        };
-        note(self.log, b"<");
-        note(self.log, piece);
-        let len = piece.len().min(buffer.len());
-        buffer[..len].copy_from_slice(&piece[..len]);
-        self.next = self.next.saturating_add(1);
-        Ok(len)
-    }
-}
-
-// A writer that notes each call, with what it takes, which is all.
-#[derive(Drop)]
-struct Telling<'a> {
-    log: &'a Log,
-}
-
-impl Write for Telling<'_> {
-    ghost use Rattle.std.specs.Prelude.{None};
-
-    ghost contents = { λ _. None };
-
-    fn write(&mut self, bytes: &[u8]) -> io::Result<usize> {
-        note(self.log, b">");
-        note(self.log, bytes);
-        Ok(bytes.len())
-    }
-
-    fn flush(&mut self) -> io::Result<()> {
-        Ok(())
-    }
-}
 
 // The result of a replay of these pieces, and its calls, in order.
 fn logged(alloc: Global, pieces: &[&[u8]]) -> (Result<u64, LineFault>, Text) {
@@ -64,9 +14,13 @@ fn logged(alloc: Global, pieces: &[&[u8]]) -> (Result<u64, LineFault>, Text) {
     let mut reader = FromRead(Asking {
         log: &log,
         pieces,
+        shows: true,
         next: 0,
     });
-    let mut writer = ToWrite(Telling { log: &log });
+    let mut writer = ToWrite(Telling {
+        log: &log,
+        shows: true,
+    });
     let answer = replay(alloc, &mut reader, &mut writer, 1000);
     (answer, log.get())
 }
@@ -112,7 +66,7 @@ fn replies_are_written_before_the_next_read(rt: HostRuntime) {
 // Puts these pieces at the end of a text that has room for them.
 fn put(rt: &impl Abort, text: &mut Vec<u8>, pieces: &[&[u8]]) {
     for piece in pieces {
-        assert!(rt; text.extend_from_slice(piece).is_ok());
+        equal(rt, "put", text.extend_from_slice(piece).is_ok(), true);
     }
 }
 

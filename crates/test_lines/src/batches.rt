@@ -3,11 +3,10 @@
 //! call, `>` a write call.
 
 use crate::equal::equal;
+use crate::logs::{Asking, Telling};
 use crate::texts::{Log, Text, note};
 use ring_grammar::{Sink, SinkFailed};
-use ring_lines::{
-    Answerer, Intake, LineFault, Outlet, ReadFault, Spell, WriteFailed, answer_lines,
-};
+use ring_lines::{Answerer, FromRead, LineFault, Spell, ToWrite, answer_lines};
 use std::alloc::Global;
 use std::cell::Cell;
 
@@ -80,44 +79,6 @@ impl<'b> Answerer for Marking<'b> {
     }
 }
 
-// A reader that gives these pieces, one for each read call.
-#[derive(Drop)]
-struct Pieces<'a> {
-    log: &'a Log,
-    pieces: &'a [&'a [u8]],
-    next: usize,
-}
-
-impl Intake for Pieces<'_> {
-    ghost read_gives = { λ _ _ _. Unit {0} };
-
-    fn read(&mut self, buffer: &mut [u8]) -> Result<usize, ReadFault> {
-        note(self.log, b"<");
-        let Some(piece) = self.pieces.get(self.next) else {
-            return Ok(0);
-        };
-        self.next = self.next.saturating_add(1);
-        let len = piece.len().min(buffer.len());
-        buffer[..len].copy_from_slice(&piece[..len]);
-        Ok(len)
-    }
-}
-
-// A writer that takes all.
-#[derive(Drop)]
-struct Taking<'a> {
-    log: &'a Log,
-}
-
-impl Outlet for Taking<'_> {
-    ghost write_gives = { λ _ _ _. Unit {0} };
-
-    fn write(&mut self, bytes: &[u8]) -> Result<usize, WriteFailed> {
-        note(self.log, b">");
-        Ok(bytes.len())
-    }
-}
-
 // Pieces, the text that answers each of their lines, the number of lines, and the marks.
 type Case<'a> = (&'a [&'a [u8]], &'a [u8], u64, &'a [u8]);
 
@@ -147,12 +108,16 @@ fn noted(alloc: Global, case: &Case) -> (Result<u64, LineFault>, Text) {
     let (pieces, text, ..) = *case;
     let log = Cell::new(Text::of(b""));
     let marking = Marking { log: &log, text };
-    let mut reader = Pieces {
+    let mut reader = FromRead(Asking {
         log: &log,
         pieces,
+        shows: false,
         next: 0,
-    };
-    let mut writer = Taking { log: &log };
+    });
+    let mut writer = ToWrite(Telling {
+        log: &log,
+        shows: false,
+    });
     let answer = answer_lines(alloc, &marking, &mut (), &mut reader, &mut writer, 100);
     (answer, log.get())
 }

@@ -40,7 +40,7 @@ fn events(rt: &impl Abort, alloc: Global) -> Vec<Event<Any>> {
     let mut events = room(rt, alloc, LINES.len());
     for line in &LINES {
         let event = parse_event(line).expect(rt, "no event");
-        assert!(rt; events.push(event).is_ok());
+        equal(rt, "an event", events.push(event).is_ok(), true);
     }
     events
 }

@@ -18,6 +18,8 @@ mod equal;
 #[cfg(test)]
 mod events;
 #[cfg(test)]
+mod logs;
+#[cfg(test)]
 mod memory;
 #[cfg(test)]
 mod page;
