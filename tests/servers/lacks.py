@@ -11,6 +11,14 @@ from serving import PATIENCE, Client, Differs, ended, free_port, same, text_of
 CHECKS, check = listed()
 
 
+def ends_after(run, clients, line):
+    """These clients close. The program ends then, with this line on standard error and status 1."""
+    for client in clients:
+        client.close()
+    same("what it wrote besides", run.communicate(timeout=PATIENCE), (b"", line))
+    same("status", run.returncode, 1)
+
+
 @check
 def run_waits_for_descriptors(program):
     with program.listening("run", limits="ulimit -n 16") as (run, port):
@@ -33,10 +41,7 @@ def serve_ends_without_descriptors(program):
         if not is_refused(port):
             raise Differs("a client was taken after the failed accept")
         same("reply", clients[0].ask(b"groups\n"), b"groups g0 g1 g2 g3\n")
-        for client in clients:
-            client.close()
-        same("what it wrote besides", run.communicate(timeout=PATIENCE), (b"", b"ringd: accept failed\n"))
-        same("status", run.returncode, 1)
+        ends_after(run, clients, b"ringd: accept failed\n")
 
 
 @check
@@ -51,10 +56,7 @@ def serve_ends_without_memory_for_a_thread(program):
             while len(clients) < 64 and clients[-1].ask(b"groups\n") == b"groups a\n":
                 clients.append(Client(port))
         same("reply", first.ask(b"groups\n"), b"groups a\n")
-        for client in clients:
-            client.close()
-        same("what it wrote besides", run.communicate(timeout=PATIENCE), (b"", b"ringd: thread failed\n"))
-        same("status", run.returncode, 1)
+        ends_after(run, clients, b"ringd: thread failed\n")
 
 
 @check

@@ -12,12 +12,12 @@ use Rattle.ring_terms.specs.declared.standing.Standing.TheVariants as standing
 use Rattle.ring_table.specs.Accesses.{HasStep}
 use Rattle.ring_campaign.specs.private.Looking.{IsTold}
 
--- the reply that tells a standing is told
+-- The reply for a standing has this form.
 tells_standing : (answer : Reply) (said : Standing) → answer ≡ standing_reply said → IsTold answer
 tells_standing answer (standing.Leader term leader) is = subst IsTold (sym is) tt
 tells_standing answer (standing.Undecided term) is = subst IsTold (sym is) tt
 
--- so a step of `who` has a reply that is told
+-- So the reply of a step of `who` has it.
 tells_step : (name : List ℕ) (node : ℕ) (old new : Object Any) (answer : Reply) → StepOf any_two_way any_greatest old (Who name node) answer new → IsTold answer
 tells_step name node old new reply.Done step = tt
 tells_step name node old new (reply.Leader term leader) step = tt
@@ -32,6 +32,6 @@ tells_step name node old new reply.Idle step = tells_standing reply.Idle step.1.
 tells_step name node old new (reply.Pending left) step = tells_standing (reply.Pending left) step.1.1.says.said step.1.1.says.reply_is
 tells_step name node old new (reply.Drained done left starved) step = tells_standing (reply.Drained done left starved) step.1.1.says.said step.1.1.says.reply_is
 
--- and a call that was placed
+-- The reply of a call that was placed has it too.
 pub who_told : (name : List ℕ) (node : ℕ) (answer : Reply) → HasStep any_winner any_two_way any_greatest (Who name node) answer → IsTold answer
 who_told name node answer has = tells_step name node has.step.old has.new answer has.step.call.step
