@@ -1,0 +1,5 @@
+pub mod Crossing
+pub mod Held
+pub mod Telling
+pub mod Texts
+pub mod Values

@@ -1,0 +1,4 @@
+pub mod Done
+pub mod Holding
+pub mod Leases
+pub mod private

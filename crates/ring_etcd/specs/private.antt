@@ -1,0 +1,7 @@
+pub mod Bases
+pub mod Entries
+pub mod Putting
+pub mod Replies
+pub mod Requests
+pub mod Saying
+pub mod Told

@@ -1,0 +1,198 @@
+//! The members of a cluster, which are asked in turn until one of them answers.
+ghost use Rattle.std.specs.Prelude.{IfOk};
+ghost use Rattle.serde_json.specs.Data.{Data};
+ghost use Rattle.serde_json.specs.View.{view};
+
+use crate::gateway::{Gateway, NoReply};
+use crate::replies::Answer;
+use serde_json::Value;
+use std::alloc::{AllocError, Global};
+use std::net::{Net, SocketAddr, TcpStream, ToSocketAddrs};
+use std::time::{Clock, Duration};
+use std::{io, thread};
+
+/// How many milliseconds pass between two attempts, once each member was asked.
+const PAUSE_MILLIS: u64 = 200;
+
+/// How long a request is tried.
+#[derive(Clone, Copy, Debug, PartialEq, Eq)]
+pub(crate) struct Limits {
+    /// How often the request is sent at most.
+    pub(crate) attempts: u64,
+    /// How many milliseconds each attempt waits for a connection.
+    pub(crate) connect_millis: u64,
+    /// How many milliseconds each attempt waits for each read or write.
+    pub(crate) reply_millis: u64,
+}
+
+impl Limits {
+    /// The limits of a journal's requests.
+    pub(crate) const JOURNAL: Limits = Limits {
+        attempts: 64,
+        connect_millis: 1000,
+        reply_millis: 2500,
+    };
+
+    /// The limits of a lease's requests. All attempts take at least as long as a journal's.
+    pub(crate) const LEASE: Limits = Limits {
+        attempts: 256,
+        connect_millis: 500,
+        reply_millis: 500,
+    };
+}
+
+/// A request got no answer, however often it was sent. It may have been carried out or not.
+#[derive(Clone, Copy, Debug, PartialEq, Eq)]
+pub(crate) struct NoAnswer;
+
+/// The members of a cluster, one of which may be connected. Replies of another cluster are not
+/// believed.
+#[derive(Drop)]
+pub(crate) struct Cluster<R> {
+    rt: R,
+    limits: Limits,
+    members: Vec<String>,
+    // the member that is asked next
+    at: usize,
+    gateway: Option<Gateway<TcpStream>>,
+    // the identity of the cluster that answered first; no other one is believed
+    identity: Option<u64>,
+}
+
+impl<R: Net<Stream = TcpStream> + Clock + AllocGlobal + Drop> Cluster<R> {
+    /// Returns a cluster of these members, none of them connected. They are HOST:PORT,HOST:PORT and
+    /// so on.
+    pub(crate) fn new(rt: R, members: &str, limits: Limits) -> Result<Cluster<R>, AllocError> {
+        let mut each = Vec::new(rt.alloc());
+        for member in members.split(',') {
+            each.push(String::from_str(rt.alloc(), member)?)?;
+        }
+        Ok(Cluster {
+            rt,
+            limits,
+            members: each,
+            at: 0,
+            gateway: None,
+            identity: None,
+        })
+    }
+
+    /// Returns the allocator.
+    pub(crate) fn alloc(&self) -> Global {
+        self.rt.alloc()
+    }
+
+    /// Sleeps 200 milliseconds.
+    pub(crate) fn pause(&self) {
+        thread::sleep(&self.rt, Duration::from_millis(PAUSE_MILLIS));
+    }
+
+    /// Sends a request until a member answers it by a value of JSON that answers it, as often as the
+    /// limits say at most.
+    ///
+    /// A request may be carried out more than once, so it has to be one of which that makes no
+    /// difference.
+    pub(crate) fn ask<T: Answer>(&mut self, path: &str, body: &str) -> Result<T, NoAnswer>
+        ensures { IfOk result (λ answer. (reply : Data) × T.says reply answer) }
+    {
+        let members = self.members.len() as u64;
+        for attempt in 0..self.limits.attempts {
+            if attempt > members {
+                self.pause();
+            }
+            if let Ok(answer) = self.ask_once(path, body) {
+                return Ok(answer);
+            }
+            self.move_on();
+        }
+        Err(NoAnswer)
+    }
+
+    // Sends a request to the member that is next. A connection that failed is closed.
+    fn ask_once<T: Answer>(&mut self, path: &str, body: &str) -> Result<T, NoReply>
+        ensures { IfOk result (λ answer. (reply : Data) × T.says reply answer) }
+    {
+        let alloc = self.alloc();
+        let mut gateway = match self.gateway.take() {
+            Some(gateway) => gateway,
+            None => self.connect()?,
+        };
+        let text = gateway.ask(alloc, path, body)?;
+        if gateway.is_idle() {
+            self.gateway = Some(gateway);
+        }
+        let Ok(reply) = Value::from_slice(alloc, text.as_slice()) else {
+            return Err(NoReply);
+        };
+        if !self.is_of_cluster(&reply) {
+            return Err(NoReply);
+        }
+        answer_of(alloc, &reply)
+    }
+
+    // Whether a reply is from the cluster that answered first.
+    fn is_of_cluster(&mut self, reply: &Value) -> bool {
+        let identity = identity_in(reply);
+        if self.identity.is_none() {
+            self.identity = identity;
+        }
+        identity.is_some() && identity == self.identity
+    }
+
+    // The next member is asked next.
+    fn move_on(&mut self) {
+        self.gateway = None;
+        self.at = self.at.saturating_add(1);
+        if self.at >= self.members.len() {
+            self.at = 0;
+        }
+    }
+
+    // Connects to the member that is next.
+    fn connect(&self) -> Result<Gateway<TcpStream>, NoReply> {
+        let Some(member) = self.members.get(self.at) else {
+            return Err(NoReply);
+        };
+        let addresses = member
+            .as_str()
+            .to_socket_addrs(&self.rt)
+            .map_err(|_| NoReply)?;
+        for address in addresses {
+            if let Ok(stream) = connected(&self.rt, &address, self.limits) {
+                return Ok(Gateway::new(self.alloc(), stream));
+            }
+        }
+        Err(NoReply)
+    }
+}
+
+// Connects to an address, with limits on how long each call waits.
+fn connected<R: Net<Stream = TcpStream>>(
+    rt: &R,
+    address: &SocketAddr,
+    limits: Limits,
+) -> io::Result<TcpStream> {
+    let wait = Duration::from_millis(limits.connect_millis);
+    let stream = TcpStream::connect_timeout(rt, address, wait)?;
+    let limit = Some(Duration::from_millis(limits.reply_millis));
+    stream.set_nodelay(true)?;
+    stream.set_read_timeout(limit)?;
+    stream.set_write_timeout(limit)?;
+    Ok(stream)
+}
+
+// The identity of the cluster that a reply is from.
+fn identity_in(reply: &Value) -> Option<u64> {
+    let text = reply.pointer("/header/cluster_id").and_then(Value::as_str)?;
+    text.parse().ok()
+}
+
+// What a reply says.
+fn answer_of<T: Answer>(alloc: Global, reply: &Value) -> Result<T, NoReply>
+    ensures { IfOk result (λ answer. T.says (view reply.now) answer) }
+{
+    match T::read(alloc, reply) {
+        Ok(answer) => Ok(answer),
+        Err(_) => Err(NoReply),
+    }
+}

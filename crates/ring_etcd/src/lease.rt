@@ -1,0 +1,186 @@
+//! The lease of a journal: the active process renews it, and a standby process waits for its end.
+ghost use Rattle.std.specs.Prelude.{◌≡◌, ◌==◌, ◌+◌, ◌↔◌, ◌⊎◌, ℕ, IfOk, IsTrue, OnErr, OnOk, if◌then◌else◌, min};
+ghost use Rattle.serde_json.specs.Data.{Data};
+ghost use Rattle.ring_etcd.specs.Leases.{MayClaim, looked};
+ghost use Rattle.ring_etcd.specs.Done.{IsDone};
+ghost use Rattle.ring_etcd.specs.private.Replies.{IsSeen};
+
+use crate::cluster::{Cluster, Limits};
+use crate::keys::{Keys, encoded};
+use crate::place::EtcdFault;
+use crate::replies::{Claimed, Revision, Seen};
+use crate::requests;
+use crate::requests::{PUT, RANGE, TXN};
+use crate::store::AskFault;
+use std::marker::Model;
+use std::net::{Net, TcpStream};
+use std::time::Clock;
+
+/// How many looks in a row find the same revision before a standby process claims a lease.
+pub const LOOKS: u32 = 10;
+
+/// The lease of a journal in etcd.
+///
+/// The active process renews it some twice a second. A standby process waits until nobody renews
+/// it, and then claims it. The process that had it finds that at its next renewal. The lease only
+/// decides how long these processes wait. Nothing else depends on it: the journal is safe if two
+/// processes claim it, or none does.
+///
+/// Contracts see the revision that the last look found, and how many looks in a row found it.
+#[derive(Drop)]
+pub struct Lease<R> {
+    cluster: Cluster<R>,
+    // the key, in base 64
+    key: String,
+    // the value that this process puts, in base 64: no other process has its number
+    token: String,
+    // the revision of the last put that the last look found; 0 if there was none
+    revision: u64,
+    // how many looks in a row found it, `LOOKS` at most
+    looks: u32,
+}
+
+impl<R> Model for Lease<R> {
+    ghost use Rattle.ring_etcd.specs.Leases.{Watched};
+
+    ghost Value = { Watched };
+
+    ghost view = { λ a. record { revision = a.revision; looks = a.looks } };
+}
+
+impl<R: Net<Stream = TcpStream> + Clock + AllocGlobal + Copy + Drop> Lease<R> {
+    /// Returns the lease of the journal with this name, before the first look. Asks for a number
+    /// that no other process has. The members of etcd are HOST:PORT,HOST:PORT and so on.
+    pub fn new(rt: &R, members: &str, name: &str) -> Result<Lease<R>, EtcdFault>
+        ensures { IfOk result (λ lease. lease ≡ record { revision = 0; looks = 0 }) }
+    {
+        let keys = Keys::new(rt.alloc(), name)?;
+        let mut cluster = Cluster::new(*rt, members, Limits::LEASE)?;
+        let token = new_token(&mut cluster, &keys)?;
+        Ok(Lease {
+            cluster,
+            key: keys.lease()?,
+            token,
+            revision: 0,
+            looks: 0,
+        })
+    }
+
+    /// Renews the lease, if this process has it. Returns whether it has: another process may have
+    /// claimed it. Tries for at least as long as the journal does before it returns `NoAnswer`. The
+    /// caller may call again.
+    pub fn renew(&mut self) -> Result<bool, EtcdFault>
+        ensures held { IfOk result (λ is_held. (reply : Data) × (IsTrue is_held ↔ IsDone reply)) }
+        ensures same { self.new ≡ self.old }
+    {
+        match self.put_again() {
+            Ok(is_held) => Ok(is_held),
+            Err(fault) => Err(fault.into()),
+        }
+    }
+
+    /// Looks once at the lease, and claims it if nothing is there, or if `LOOKS` looks in a row found
+    /// the same revision. Returns whether this process claimed it.
+    ///
+    /// Each renewal and each claim gives the lease another revision. If two processes claim the
+    /// same one, etcd carries out one claim and refuses the other.
+    ///
+    /// If a look or a claim gets no answer, the looks count as before. If the answer to a claim is
+    /// lost, no process may know that it was carried out. The lease then ends as if it was not
+    /// renewed.
+    pub fn claim(&mut self) -> Result<bool, EtcdFault>
+        ensures looked { OnOk result ((revision : ℕ) × self.new ≡ looked self.old revision) }
+        ensures claimed { IfOk result (λ is_claimed. IsTrue is_claimed → MayClaim self.new) }
+        ensures err { OnErr result (self.new ≡ self.old) }
+    {
+        let revision = self.look()?;
+        let looks = looks_after(self.revision, self.looks, revision);
+        let is_claimed = may_claim(revision, looks) && self.put_claim(revision)?;
+        self.revision = revision;
+        self.looks = looks;
+        Ok(is_claimed)
+    }
+
+    /// Looks at the lease five times a second until this process has claimed it. Sleeps before the
+    /// first look.
+    ///
+    /// If no member of etcd answers, it goes on. Such a time does not count as looks.
+    pub fn stand_by(&mut self) -> Result<(), EtcdFault>
+        ensures { OnOk result (MayClaim self.new) }
+    {
+        for _ in 0..u64::MAX {
+            self.cluster.pause();
+            match self.claim() {
+                Ok(true) => return Ok(()),
+                Ok(false) | Err(EtcdFault::NoAnswer) => {}
+                Err(fault) => return Err(fault),
+            }
+        }
+        Err(EtcdFault::NoAnswer)
+    }
+
+    // Puts the key if it has the value of this process. Returns whether that was carried out, as a
+    // reply says.
+    fn put_again(&mut self) -> Result<bool, AskFault>
+        ensures held { IfOk result (λ is_held. (reply : Data) × (IsTrue is_held ↔ IsDone reply)) }
+        ensures same { self.new ≡ self.old }
+    {
+        let alloc = self.cluster.alloc();
+        let body = requests::renew(alloc, self.key.as_str(), self.token.as_str())?;
+        let Claimed(is_held) = self.cluster.ask(TXN, body.as_str())?;
+        Ok(is_held)
+    }
+
+    // Looks at the key. Returns the revision of its last put, as a reply says, or 0 if nothing is
+    // there.
+    fn look(&mut self) -> Result<u64, AskFault>
+        ensures looked { IfOk result (λ revision. (reply : Data) × IsSeen reply revision) }
+        ensures same { self.new ≡ self.old }
+    {
+        let body = requests::get(self.cluster.alloc(), self.key.as_str())?;
+        let Seen(revision) = self.cluster.ask(RANGE, body.as_str())?;
+        Ok(revision)
+    }
+
+    // Puts the key if its last put still has this revision. Returns whether that was carried out,
+    // as a reply says.
+    fn put_claim(&mut self, revision: u64) -> Result<bool, AskFault>
+        ensures claimed { IfOk result (λ is_claimed. (reply : Data) × (IsTrue is_claimed ↔ IsDone reply)) }
+        ensures same { self.new ≡ self.old }
+    {
+        let alloc = self.cluster.alloc();
+        let body = requests::claim(alloc, self.key.as_str(), revision, self.token.as_str())?;
+        let Claimed(is_claimed) = self.cluster.ask(TXN, body.as_str())?;
+        Ok(is_claimed)
+    }
+}
+
+// Returns a number that no other process has, in base 64: the revision of a put.
+fn new_token<R>(cluster: &mut Cluster<R>, keys: &Keys) -> Result<String, AskFault>
+where
+    R: Net<Stream = TcpStream> + Clock + AllocGlobal + Drop,
+{
+    let alloc = cluster.alloc();
+    let body = requests::put(alloc, keys.ids()?.as_str(), "")?;
+    let Revision(number) = cluster.ask(PUT, body.as_str())?;
+    let text = format!(in alloc; "{number}")?;
+    Ok(encoded(alloc, text.as_str().as_bytes())?)
+}
+
+// How many looks in a row found a revision that one more look found, `LOOKS` at most.
+fn looks_after(old: u64, looks: u32, revision: u64) -> u32
+    ensures { result ≡ (if revision == old then min LOOKS (looks + 1) else 1) }
+{
+    if revision == old {
+        LOOKS.min(looks.saturating_add(1))
+    } else {
+        1
+    }
+}
+
+// Whether a lease with this revision may be claimed after so many looks that found it.
+fn may_claim(revision: u64, looks: u32) -> bool
+    ensures { IsTrue result ↔ (revision ≡ 0) ⊎ (looks ≡ LOOKS) }
+{
+    revision == 0 || looks == LOOKS
+}

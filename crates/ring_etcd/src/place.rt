@@ -1,0 +1,182 @@
+//! The place of a journal in etcd: taking it over, and reading it.
+ghost use Rattle.std.specs.Prelude.{◌≡◌, length, IfOk, None};
+ghost use Rattle.ring_etcd.specs.private.Bases.{base_text};
+
+use crate::base::Base;
+use crate::cluster::{Cluster, Limits};
+use crate::engine::EngineFault;
+use crate::etcd::Etcd;
+use crate::keys::Keys;
+use crate::medium::{EtcdMedium, Standing};
+use crate::reading::ReadFault;
+use crate::store::{AskFault, Store};
+use ring_journal::Batch;
+use std::alloc::{AllocError, Global};
+use std::net::{Net, TcpStream};
+use std::sync::Arc;
+use std::time::Clock;
+
+/// How often a journal is read again at most, because another process changed it meanwhile.
+pub(crate) const READINGS: u32 = 64;
+
+/// Why a journal in etcd cannot be used.
+#[derive(Clone, Copy, Debug, PartialEq, Eq)]
+pub enum EtcdFault {
+    /// No member of etcd gives an answer.
+    NoAnswer,
+    /// Another process has taken over, or goes on to.
+    TakenOver,
+    /// What is there is no journal of this version, or not whole.
+    Damaged,
+    /// An allocation failed.
+    NoMemory,
+}
+
+impl From<AllocError> for EtcdFault {
+    fn from(_error: AllocError) -> EtcdFault {
+        EtcdFault::NoMemory
+    }
+}
+
+impl From<AskFault> for EtcdFault {
+    fn from(fault: AskFault) -> EtcdFault {
+        match fault {
+            AskFault::NoMemory => EtcdFault::NoMemory,
+            AskFault::NoAnswer => EtcdFault::NoAnswer,
+        }
+    }
+}
+
+impl From<ReadFault> for EtcdFault {
+    fn from(fault: ReadFault) -> EtcdFault {
+        match fault {
+            ReadFault::NoMemory => EtcdFault::NoMemory,
+            ReadFault::NoAnswer => EtcdFault::NoAnswer,
+            ReadFault::Damaged => EtcdFault::Damaged,
+        }
+    }
+}
+
+impl From<EngineFault> for EtcdFault {
+    fn from(fault: EngineFault) -> EtcdFault {
+        match fault {
+            EngineFault::NoMemory => EtcdFault::NoMemory,
+            EngineFault::NoAnswer => EtcdFault::NoAnswer,
+            EngineFault::TakenOver => EtcdFault::TakenOver,
+        }
+    }
+}
+
+/// The place of a journal in etcd, which this process has taken over. Another process may take it
+/// over from then on, and then `begin` says so.
+#[derive(Drop)]
+pub struct EtcdPlace<R> {
+    store: Store<R>,
+    // the base of the text that counts, and the number of the next entry after it
+    base: Base,
+    next: u64,
+    // the identity of this process, and of the text that it begins
+    identity: u64,
+    // the bytes of the journal
+    found: Vec<u8>,
+}
+
+impl<R: Net<Stream = TcpStream> + Clock + AllocGlobal + Copy + Drop> EtcdPlace<R> {
+    /// Takes over the journal of this name from whichever process has it, and reads it. The members
+    /// of etcd are HOST:PORT,HOST:PORT and so on.
+    ///
+    /// Puts an entry under the next number. From then on no other process puts one there, so the
+    /// process that had the journal is told so at its next put.
+    pub fn take(rt: &R, members: &str, name: &str) -> Result<EtcdPlace<R>, EtcdFault> {
+        let keys = Keys::new(rt.alloc(), name)?;
+        let mut store = Store::new(Cluster::new(*rt, members, Limits::JOURNAL)?, keys);
+        let identity = store.identity()?;
+        for _ in 0..READINGS {
+            let base = current(&mut store)?;
+            let mut found = Vec::new(rt.alloc());
+            if let Some(next) = taken(&mut store, base, identity, &mut found)? {
+                return Ok(EtcdPlace {
+                    store,
+                    base,
+                    next,
+                    identity,
+                    found,
+                });
+            }
+        }
+        Err(EtcdFault::TakenOver)
+    }
+
+    /// Returns the bytes of the journal, of which there are none from then on.
+    pub fn read(&mut self) -> Vec<u8> {
+        let alloc = self.store.alloc();
+        std::mem::replace(&mut self.found, Vec::new(alloc))
+    }
+
+    /// Makes `text` count in the place of what was read, and returns the medium of it.
+    pub fn begin(
+        self,
+        text: &Batch,
+        standing: Arc<Standing>,
+    ) -> Result<EtcdMedium<Etcd<R>>, EtcdFault>
+        ensures { IfOk result (λ medium. medium
+            ≡ record { text = text.now.bytes; kept = length text.now.bytes; other = None }) }
+    {
+        let EtcdPlace {
+            store,
+            base,
+            next,
+            identity,
+            found,
+        } = self;
+        drop(found);
+        let alloc = store.alloc();
+        let etcd = Etcd::begin_at(store, base, next, identity, text)?;
+        Ok(EtcdMedium::new(alloc, etcd, standing))
+    }
+}
+
+/// Returns the base that counts. If the journal was never begun, it is begun by an empty text. No process
+/// has the identity 0, so this is no process's text.
+pub(crate) fn current<R>(store: &mut Store<R>) -> Result<Base, EtcdFault>
+where
+    R: Net<Stream = TcpStream> + Clock + AllocGlobal + Drop,
+{
+    if let Some(value) = store.base()? {
+        return base_of(store.alloc(), &value);
+    }
+    store.put_base(Base { text: 0, pieces: 0 })?;
+    match store.base()? {
+        Some(value) => base_of(store.alloc(), &value),
+        None => Err(EtcdFault::Damaged),
+    }
+}
+
+// The base with this value.
+fn base_of(alloc: Global, value: &[u8]) -> Result<Base, EtcdFault>
+    ensures { IfOk result (λ base. value.now ≡ base_text base.text base.pieces) }
+{
+    match Base::of(alloc, value)? {
+        Some(base) => Ok(base),
+        None => Err(EtcdFault::Damaged),
+    }
+}
+
+// Reads the text of a base and the entries after it, and puts an entry that takes over after them.
+// Returns the number after that entry, or `None` if the base doesn't count any more.
+fn taken<R>(
+    store: &mut Store<R>,
+    base: Base,
+    identity: u64,
+    found: &mut Vec<u8>,
+) -> Result<Option<u64>, EtcdFault>
+where
+    R: Net<Stream = TcpStream> + Clock + AllocGlobal + Drop,
+{
+    let mark = format!(in store.alloc(); "t{identity}")?;
+    match store.read(base, found) {
+        Ok(next) => Ok(store.take_over(base, next, mark.as_str().as_bytes(), found)?),
+        Err(ReadFault::Damaged) if current(store)? != base => Ok(None),
+        Err(fault) => Err(fault.into()),
+    }
+}

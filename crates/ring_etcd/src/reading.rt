@@ -1,0 +1,158 @@
+//! Reads what a journal in etcd holds.
+ghost use Rattle.std.specs.Prelude.{◌≡◌, ◌+◌, ◌++◌, IfOk, IsSomeAnd, OnOk};
+ghost use Rattle.ring_etcd.specs.private.Entries.{added};
+
+use crate::base::Base;
+use crate::replies::Pair;
+use crate::store::{AskFault, Put, Store};
+use std::alloc::AllocError;
+use std::net::{Net, TcpStream};
+use std::time::Clock;
+
+/// The first byte of an entry: of one that has bytes of the text, and of one by which a process
+/// takes over.
+pub(crate) const BATCH: u8 = b'b';
+
+pub(crate) const TAKES: u8 = b't';
+
+/// Why a journal could not be read.
+#[derive(Clone, Copy, Debug, PartialEq, Eq)]
+pub(crate) enum ReadFault {
+    /// An allocation failed.
+    NoMemory,
+    /// No answer came.
+    NoAnswer,
+    /// What is there is no journal of this version, or not whole.
+    Damaged,
+}
+
+impl From<AllocError> for ReadFault {
+    fn from(_error: AllocError) -> ReadFault {
+        ReadFault::NoMemory
+    }
+}
+
+impl From<AskFault> for ReadFault {
+    fn from(fault: AskFault) -> ReadFault {
+        match fault {
+            AskFault::NoMemory => ReadFault::NoMemory,
+            AskFault::NoAnswer => ReadFault::NoAnswer,
+        }
+    }
+}
+
+/// Adds the bytes of an entry to those that were found before it. An entry by which a process takes
+/// over has none.
+pub(crate) fn add_entry(entry: &[u8], found: &mut Vec<u8>) -> Result<(), ReadFault>
+    ensures { OnOk result (IsSomeAnd (added entry.now)
+        (λ bytes. found.new.items ≡ found.old.items ++ bytes)) }
+{
+    match entry.split_first() {
+        Some((&BATCH, bytes)) => {
+            found.extend_from_slice(bytes)?;
+            Ok(())
+        }
+        Some((&TAKES, _)) => Ok(()),
+        _ => Err(ReadFault::Damaged),
+    }
+}
+
+// The number after this one.
+fn after(number: u64) -> Result<u64, ReadFault>
+    ensures { IfOk result (λ next. next ≡ number + 1) }
+{
+    match number.checked_add(1) {
+        Some(next) => Ok(next),
+        None => Err(ReadFault::Damaged),
+    }
+}
+
+impl<R: Net<Stream = TcpStream> + Clock + AllocGlobal + Drop> Store<R> {
+    /// Reads the text of a base and the entries after it. Returns the number of the next entry.
+    pub(crate) fn read(&mut self, base: Base, found: &mut Vec<u8>) -> Result<u64, ReadFault> {
+        if self.read_pieces(base, found)? != base.pieces {
+            return Err(ReadFault::Damaged);
+        }
+        let mut next = 1;
+        for _ in 0..u64::MAX {
+            let page = self.entries(base.text, next)?;
+            if page.is_empty() {
+                return Ok(next);
+            }
+            next = self.add_entries(base.text, next, &page, found)?;
+        }
+        Err(ReadFault::Damaged)
+    }
+
+    // Reads the pieces of the text of a base. Returns how many there are.
+    fn read_pieces(&mut self, base: Base, found: &mut Vec<u8>) -> Result<u64, ReadFault> {
+        let mut next = 0;
+        for _ in 0..u64::MAX {
+            let page = self.pieces(base.text, next)?;
+            if page.is_empty() {
+                return Ok(next);
+            }
+            next = self.add_pieces(base.text, next, &page, found)?;
+        }
+        Err(ReadFault::Damaged)
+    }
+
+    // Adds the bytes of entries, which have the numbers from `next` on. Returns the number after
+    // theirs.
+    fn add_entries(
+        &self,
+        text: u64,
+        mut next: u64,
+        page: &[Pair],
+        found: &mut Vec<u8>,
+    ) -> Result<u64, ReadFault> {
+        for pair in page {
+            if !self.is_entry(pair, text, next)? {
+                return Err(ReadFault::Damaged);
+            }
+            add_entry(&pair.value, found)?;
+            next = after(next)?;
+        }
+        Ok(next)
+    }
+
+    // Adds pieces, which have the numbers from `next` on. Returns the number after theirs.
+    fn add_pieces(
+        &self,
+        text: u64,
+        mut next: u64,
+        page: &[Pair],
+        found: &mut Vec<u8>,
+    ) -> Result<u64, ReadFault> {
+        for pair in page {
+            if !self.is_piece(pair, text, next)? {
+                return Err(ReadFault::Damaged);
+            }
+            found.extend_from_slice(&pair.value)?;
+            next = after(next)?;
+        }
+        Ok(next)
+    }
+
+    /// Puts an entry with the mark of this process under the first number that is free, from `next`
+    /// on. Entries of other processes that came before it are added to what was found.
+    ///
+    /// Returns the number after that entry, or `None` if the base doesn't count any more.
+    pub(crate) fn take_over(
+        &mut self,
+        base: Base,
+        mut next: u64,
+        mark: &[u8],
+        found: &mut Vec<u8>,
+    ) -> Result<Option<u64>, ReadFault> {
+        for _ in 0..u64::MAX {
+            match self.put_entry(base, next, mark)? {
+                Put::Ours => return Ok(Some(after(next)?)),
+                Put::Other(entry) => add_entry(&entry, found)?,
+                Put::Gone => return Ok(None),
+            }
+            next = after(next)?;
+        }
+        Ok(None)
+    }
+}

@@ -1,0 +1,213 @@
+//! What a reply of the gateway says.
+ghost use Rattle.std.specs.Prelude.{◌≡◌, ◌↔◌, Some, IfOk, IfSome, IsTrue, codes, option_and_then, option_map};
+ghost use Rattle.serde_json.specs.Find.{as_str, pointer};
+ghost use Rattle.serde_json.specs.View.{view};
+ghost use Rattle.ring_etcd.specs.Done.{IsDone};
+ghost use Rattle.ring_etcd.specs.private.Replies.{IsRevisionAt, base_in, bytes_at, entry_in};
+ghost use Rattle.ring_etcd.specs.private.Saying.{Says};
+
+use base64::engine::general_purpose::STANDARD;
+use serde_json::Value;
+use std::alloc::Global;
+
+/// Where a reply has what was read in place of the put.
+const ENTRY: &str = "/responses/0/response_range/kvs/0/value";
+
+const BASE: &str = "/responses/1/response_range/kvs/0/value";
+
+/// A reply that says nothing that was asked for.
+#[derive(Clone, Copy, Debug, PartialEq, Eq)]
+pub(crate) struct Unread;
+
+/// What a reply can be read as.
+pub(crate) trait Answer: Sized {
+    ghost use Rattle.serde_json.specs.Data.{Data};
+
+    ghost says: { Data → Self → Type 0 };
+
+    /// Returns what a reply says, or `Unread` if it says nothing of the kind.
+    fn read(alloc: Global, reply: &Value) -> Result<Self, Unread>
+        ensures { IfOk result (λ answer. says (view reply.now) answer) };
+}
+
+/// What a reply says to a request with a condition.
+#[derive(Drop)]
+pub(crate) enum Said {
+    /// The condition held, and the request was carried out.
+    Done,
+    /// It did not hold. These are the value at the key that was to be put, and that of the base.
+    Found {
+        entry: Option<Vec<u8>>,
+        base: Option<Vec<u8>>,
+    },
+}
+
+impl Answer for Said {
+    ghost says = { Says };
+
+    fn read(alloc: Global, reply: &Value) -> Result<Said, Unread> {
+        if is_done(reply) {
+            return Ok(Said::Done);
+        }
+        if reply.pointer("/responses/1/response_range").is_none() {
+            return Err(Unread);
+        }
+        let entry = value_at(alloc, reply, ENTRY)?;
+        match value_at(alloc, reply, BASE) {
+            Ok(base) => Ok(Said::Found { entry, base }),
+            Err(unread) => Err(unread),
+        }
+    }
+}
+
+// Whether a reply says that the condition held.
+fn is_done(reply: &Value) -> bool
+    ensures { IsTrue result ↔ IsDone (view reply.now) }
+{
+    reply.pointer("/succeeded").and_then(Value::as_bool) == Some(true)
+}
+
+// The text at a place of a reply; `None` if none is there.
+fn text_at<'v>(reply: &'v Value, path: &str) -> Option<&'v str>
+    ensures { option_map (λ text. text.now) result
+        ≡ option_and_then as_str (pointer path.now (view reply.now)) }
+{
+    reply.pointer(path).and_then(Value::as_str)
+}
+
+// The bytes that are in base 64 at a place of a reply; `None` if no text is there.
+fn value_at(alloc: Global, reply: &Value, path: &str) -> Result<Option<Vec<u8>>, Unread>
+    ensures { IfOk result (λ found.
+        option_map (λ bytes. bytes.items) found ≡ bytes_at path.now (view reply.now)) }
+{
+    let Some(text) = text_at(reply, path) else {
+        return Ok(None);
+    };
+    match STANDARD.decode(alloc, text.as_bytes()) {
+        Ok(bytes) => Ok(Some(bytes)),
+        Err(_) => Err(Unread),
+    }
+}
+
+/// The revision of a put.
+#[derive(Clone, Copy)]
+pub(crate) struct Revision(pub(crate) u64);
+
+impl Answer for Revision {
+    ghost use Rattle.ring_etcd.specs.private.Replies.{IsRevision};
+
+    ghost says = { λ reply revision. IsRevision reply revision.0 };
+
+    fn read(_alloc: Global, reply: &Value) -> Result<Revision, Unread> {
+        match revision_at(reply, "/header/revision") {
+            Ok(revision) => Ok(Revision(revision)),
+            Err(unread) => Err(unread),
+        }
+    }
+}
+
+// The revision at a place of a reply.
+fn revision_at(reply: &Value, path: &str) -> Result<u64, Unread>
+    ensures { IfOk result (λ revision. IsRevisionAt path.now (view reply.now) revision) }
+{
+    let Some(text) = reply.pointer(path).and_then(Value::as_str) else {
+        return Err(Unread);
+    };
+    match text.parse::<u64>() {
+        Ok(revision) => Ok(revision),
+        Err(_) => Err(Unread),
+    }
+}
+
+/// The revision of the last put of the key that was read, or 0 if nothing is there.
+#[derive(Clone, Copy)]
+pub(crate) struct Seen(pub(crate) u64);
+
+impl Answer for Seen {
+    ghost use Rattle.ring_etcd.specs.private.Replies.{IsSeen};
+
+    ghost says = { λ reply seen. IsSeen reply seen.0 };
+
+    fn read(_alloc: Global, reply: &Value) -> Result<Seen, Unread> {
+        if reply.pointer("/header/revision").is_none() {
+            return Err(Unread);
+        }
+        if reply.pointer("/kvs/0").is_none() {
+            return Ok(Seen(0));
+        }
+        match revision_at(reply, "/kvs/0/mod_revision") {
+            Ok(revision) => Ok(Seen(revision)),
+            Err(unread) => Err(unread),
+        }
+    }
+}
+
+/// Whether the condition of a request held, so that it was carried out.
+#[derive(Clone, Copy)]
+pub(crate) struct Claimed(pub(crate) bool);
+
+impl Answer for Claimed {
+    ghost use Rattle.std.specs.Prelude.{◌↔◌, IsTrue};
+    ghost use Rattle.ring_etcd.specs.Done.{IsDone};
+
+    ghost says = { λ reply claimed. IsTrue claimed.0 ↔ IsDone reply };
+
+    fn read(_alloc: Global, reply: &Value) -> Result<Claimed, Unread> {
+        let is_claimed = is_done(reply);
+        if !is_claimed && reply.pointer("/responses/0/response_range").is_none() {
+            return Err(Unread);
+        }
+        Ok(Claimed(is_claimed))
+    }
+}
+
+/// A key, in base 64, and its value.
+#[derive(Drop)]
+pub(crate) struct Pair {
+    pub(crate) key: String,
+    pub(crate) value: Vec<u8>,
+}
+
+/// The pairs of a range, in the order of their keys.
+#[derive(Drop)]
+pub(crate) struct Page {
+    pub(crate) pairs: Vec<Pair>,
+}
+
+impl Answer for Page {
+    ghost use Rattle.std.specs.Prelude.{⊤};
+
+    ghost says = { λ _ _. ⊤ };
+
+    fn read(alloc: Global, reply: &Value) -> Result<Page, Unread> {
+        if reply.pointer("/header/revision").is_none() {
+            return Err(Unread);
+        }
+        let mut pairs = Vec::new(alloc);
+        let Some(found) = reply.pointer("/kvs").and_then(Value::as_array) else {
+            return Ok(Page { pairs });
+        };
+        for item in found {
+            let pair = pair_of(alloc, item)?;
+            pairs.push(pair).map_err(|_| Unread)?;
+        }
+        Ok(Page { pairs })
+    }
+}
+
+// The pair that an item of a range is.
+fn pair_of(alloc: Global, item: &Value) -> Result<Pair, Unread> {
+    let Some(key) = item.pointer("/key").and_then(Value::as_str) else {
+        return Err(Unread);
+    };
+    let Some(value) = value_at(alloc, item, "/value")? else {
+        return Err(Unread);
+    };
+    match String::from_str(alloc, key) {
+        Ok(key) => Ok(Pair { key, value }),
+        Err(_) => {
+            drop(value);
+            Err(Unread)
+        }
+    }
+}

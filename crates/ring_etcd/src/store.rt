@@ -1,0 +1,240 @@
+//! What is asked of etcd, and what it said.
+ghost use Rattle.std.specs.Prelude.{◌≡◌, ◌↔◌, Some, IfOk, IsTrue, option_map};
+ghost use Rattle.serde_json.specs.Data.{Data};
+ghost use Rattle.ring_etcd.specs.private.Bases.{base_text};
+ghost use Rattle.ring_etcd.specs.private.Putting.{IsPut, IsPutOver, IsSwitched};
+ghost use Rattle.ring_etcd.specs.private.Told.{IsToldPut, IsToldSwitched};
+
+use crate::base::Base;
+use crate::cluster::{Cluster, NoAnswer};
+use crate::keys::{Keys, encoded};
+use crate::replies::{Page, Pair, Revision, Said};
+use crate::requests;
+use crate::requests::{PUT, RANGE, Slot, TXN};
+use std::alloc::{AllocError, Global};
+use std::net::{Net, TcpStream};
+use std::time::Clock;
+
+/// Why a question has no answer.
+#[derive(Clone, Copy, Debug, PartialEq, Eq)]
+pub(crate) enum AskFault {
+    /// An allocation failed, and nothing was asked.
+    NoMemory,
+    /// No answer came. The request may be carried out or not.
+    NoAnswer,
+}
+
+impl From<AllocError> for AskFault {
+    fn from(_error: AllocError) -> AskFault {
+        AskFault::NoMemory
+    }
+}
+
+impl From<NoAnswer> for AskFault {
+    fn from(_silence: NoAnswer) -> AskFault {
+        AskFault::NoAnswer
+    }
+}
+
+/// What became of an entry that was to be put.
+#[derive(Drop)]
+pub(crate) enum Put {
+    /// This process put it.
+    Ours,
+    /// Another entry is at its number.
+    Other(Vec<u8>),
+    /// Another text counts.
+    Gone,
+}
+
+/// A journal in etcd.
+#[derive(Drop)]
+pub(crate) struct Store<R> {
+    cluster: Cluster<R>,
+    keys: Keys,
+}
+
+impl<R: Net<Stream = TcpStream> + Clock + AllocGlobal + Drop> Store<R> {
+    /// Returns the journal of this name in a cluster. Nothing is asked yet.
+    pub(crate) fn new(cluster: Cluster<R>, keys: Keys) -> Store<R> {
+        Store { cluster, keys }
+    }
+
+    /// Returns the allocator.
+    pub(crate) fn alloc(&self) -> Global {
+        self.cluster.alloc()
+    }
+
+    /// Returns a number that no process was given before: the revision of a put.
+    pub(crate) fn identity(&mut self) -> Result<u64, AskFault> {
+        let body = requests::put(self.alloc(), self.keys.ids()?.as_str(), "")?;
+        let Revision(revision) = self.cluster.ask(PUT, body.as_str())?;
+        Ok(revision)
+    }
+
+    /// Returns the value of the base, or `None` if the journal was never begun.
+    pub(crate) fn base(&mut self) -> Result<Option<Vec<u8>>, AskFault> {
+        let body = requests::get(self.alloc(), self.keys.base()?.as_str())?;
+        let Page { mut pairs } = self.cluster.ask(RANGE, body.as_str())?;
+        Ok(pairs.pop().map(|pair| pair.value))
+    }
+
+    /// Begins the journal by a base, unless it was begun before.
+    pub(crate) fn put_base(&mut self, base: Base) -> Result<(), AskFault> {
+        let alloc = self.alloc();
+        let value = base.value(alloc)?;
+        let value = encoded(alloc, value.as_str().as_bytes())?;
+        let body = requests::put_first(alloc, self.keys.base()?.as_str(), value.as_str())?;
+        let _said: Said = self.cluster.ask(TXN, body.as_str())?;
+        Ok(())
+    }
+
+    /// Puts a piece of a text. It is read only once a base names that text.
+    pub(crate) fn put_piece(
+        &mut self,
+        text: u64,
+        number: u64,
+        piece: &[u8],
+    ) -> Result<(), AskFault> {
+        let alloc = self.alloc();
+        let key = self.keys.piece(text, number)?;
+        let value = encoded(alloc, piece)?;
+        let body = requests::put(alloc, key.as_str(), value.as_str())?;
+        let Revision(_) = self.cluster.ask(PUT, body.as_str())?;
+        Ok(())
+    }
+
+    /// Puts an entry after the text of a base, if nothing is at its number and the base counts.
+    ///
+    /// A reply says what became of it.
+    pub(crate) fn put_entry(
+        &mut self,
+        base: Base,
+        number: u64,
+        entry: &[u8],
+    ) -> Result<Put, AskFault>
+        ensures { IfOk result (λ put. (reply : Data)
+            × IsToldPut reply entry.now (base_text base.text base.pieces) put) }
+    {
+        let alloc = self.alloc();
+        let base_key = self.keys.base()?;
+        let counts = base.value(alloc)?;
+        let counts_text = encoded(alloc, counts.as_str().as_bytes())?;
+        let key = self.keys.entry(base.text, number)?;
+        let value = encoded(alloc, entry)?;
+        let slot = Slot {
+            base_key: base_key.as_str(),
+            base: counts_text.as_str(),
+            key: key.as_str(),
+        };
+        let body = requests::put_entry(alloc, slot, value.as_str())?;
+        let said = self.cluster.ask(TXN, body.as_str())?;
+        Ok(put_of(said, entry, counts.as_str().as_bytes()))
+    }
+
+    /// Makes another base count, if the old one does and nothing is at this number after its text.
+    /// The texts before the new one are deleted at the same instant.
+    ///
+    /// Returns whether this process did that, as a reply says.
+    pub(crate) fn switch(&mut self, old: Base, number: u64, new: Base) -> Result<bool, AskFault>
+        ensures { IfOk result (λ is_done. (reply : Data)
+            × (IsTrue is_done → IsToldSwitched reply (base_text new.text new.pieces))) }
+    {
+        let alloc = self.alloc();
+        let base_key = self.keys.base()?;
+        let counts = old.value(alloc)?;
+        let counts = encoded(alloc, counts.as_str().as_bytes())?;
+        let key = self.keys.entry(old.text, number)?;
+        let value = new.value(alloc)?;
+        let text = encoded(alloc, value.as_str().as_bytes())?;
+        let from = self.keys.before_texts()?;
+        let to = self.keys.before_text(new.text)?;
+        let slot = Slot {
+            base_key: base_key.as_str(),
+            base: counts.as_str(),
+            key: key.as_str(),
+        };
+        let body = requests::switch(alloc, slot, text.as_str(), from.as_str(), to.as_str())?;
+        let said = self.cluster.ask(TXN, body.as_str())?;
+        Ok(is_base(said, value.as_str().as_bytes()))
+    }
+
+    /// Returns the first entries after a text, from a number on.
+    pub(crate) fn entries(&mut self, text: u64, number: u64) -> Result<Vec<Pair>, AskFault> {
+        let from = self.keys.entry(text, number)?;
+        let end = self.keys.after_entries(text)?;
+        let body = requests::range(self.alloc(), from.as_str(), end.as_str())?;
+        let Page { pairs } = self.cluster.ask(RANGE, body.as_str())?;
+        Ok(pairs)
+    }
+
+    /// Returns the first pieces of a text, from a number on.
+    pub(crate) fn pieces(&mut self, text: u64, number: u64) -> Result<Vec<Pair>, AskFault> {
+        let from = self.keys.piece(text, number)?;
+        let end = self.keys.after_pieces(text)?;
+        let body = requests::range(self.alloc(), from.as_str(), end.as_str())?;
+        let Page { pairs } = self.cluster.ask(RANGE, body.as_str())?;
+        Ok(pairs)
+    }
+
+    /// Returns whether a pair is the entry with this number after a text.
+    pub(crate) fn is_entry(&self, pair: &Pair, text: u64, number: u64) -> Result<bool, AskFault> {
+        let key = self.keys.entry(text, number)?;
+        Ok(pair.key.as_str() == key.as_str())
+    }
+
+    /// Returns whether a pair is the piece with this number of a text.
+    pub(crate) fn is_piece(&self, pair: &Pair, text: u64, number: u64) -> Result<bool, AskFault> {
+        let key = self.keys.piece(text, number)?;
+        Ok(pair.key.as_str() == key.as_str())
+    }
+}
+
+// What became of an entry, by what etcd said.
+fn put_of(said: Said, entry: &[u8], base: &[u8]) -> Put
+    ensures { IsPut said entry.now base.now result }
+{
+    match said {
+        Said::Done => Put::Ours,
+        Said::Found {
+            entry: there,
+            base: counts,
+        } => put_of_found(there, counts, entry, base),
+    }
+}
+
+// What became of an entry in whose place these were found: an entry, and the base that counts.
+fn put_of_found(there: Option<Vec<u8>>, counts: Option<Vec<u8>>, entry: &[u8], base: &[u8]) -> Put
+    ensures { IsPutOver
+        (option_map (λ bytes. bytes.items) there) (option_map (λ bytes. bytes.items) counts)
+        entry.now base.now result }
+{
+    let is_ours = is_bytes(&there, entry);
+    let counts_still = is_bytes(&counts, base);
+    drop(counts);
+    match there {
+        Some(other) if counts_still && !is_ours => Put::Other(other),
+        _ if is_ours => Put::Ours,
+        _ => Put::Gone,
+    }
+}
+
+// Whether the base that counts is this process's, by what etcd said.
+fn is_base(said: Said, base: &[u8]) -> bool
+    ensures { IsTrue result ↔ IsSwitched said base.now }
+{
+    match said {
+        Said::Done => true,
+        Said::Found { base: counts, .. } => is_bytes(&counts, base),
+    }
+}
+
+// Whether these bytes are there.
+fn is_bytes(found: &Option<Vec<u8>>, bytes: &[u8]) -> bool
+    ensures { IsTrue result ↔ (option_map (λ found. found.items) found.now ≡ Some bytes.now) }
+{
+    match found {
+        Some(found) => found.as_slice() == bytes,
+        None => false,
+    }
+}
