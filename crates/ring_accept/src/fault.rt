@@ -77,6 +77,12 @@ pub enum JournalFault {
     /// It has no life left: it was begun anew as often as it can be.
     #[error("ringd: journal has no life left")]
     Lives,
+    /// Another process has taken it over.
+    #[error("ringd: journal taken over")]
+    TakenOver,
+    /// No member of etcd answers.
+    #[error("ringd: journal unanswered")]
+    NoAnswer,
 }
 
 impl From<JournalFault> for ProgramFault {

@@ -1,5 +1,6 @@
 mod Subcommands
 mod CommandLine
+mod Cuts
 mod Levels
 mod Rows
 mod Arguments

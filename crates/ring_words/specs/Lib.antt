@@ -1,3 +1,4 @@
+pub mod Journals
 pub mod Places
 pub mod Words
 pub mod private

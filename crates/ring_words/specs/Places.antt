@@ -2,6 +2,7 @@
 use Rattle.std.specs.Prelude.{◌≡◌, ◌≤◌, ◌<◌, ◌⊎◌, ⊤, ℕ, Contains, IfSome, Option, length, option_map, string_bytes}
 use Rattle.std.specs.Str.Parse.{IsNumeral, digits_value, without_leading_plus}
 use Rattle.clap.specs.Words.{Text}
+use Rattle.ring_words.specs.Journals.{NamesJournal}
 use Rattle.ring_words.specs.declared.places.Place.{Place}
 use Rattle.ring_words.specs.declared.places.Place.TheVariants.{Path, Port}
 use Rattle.ring_words.specs.declared.words.Order.{Order}
@@ -34,7 +35,7 @@ IsPlaceOf text (Path path) = HasSlash text × (path.now ≡ text)
 abbrev pub GivesNoPlace : Text → Type 0
 GivesNoPlace text = (HasSlash text → ⊥) × ((port : ℕ) → IsPort text port → ⊥)
 
--- what an option takes, if it is given: a place, a path that is not empty, a mode
+-- what an option takes, if it is given: a place, a path that is not empty, a mode, a journal
 abbrev pub HasPlace : Option Text → Type 0
 HasPlace given = IfSome given (λ text. HasSlash text ⊎ ((port : ℕ) × IsPort text port))
 
@@ -44,6 +45,9 @@ HasPath given = IfSome given (λ text. 0 < length text)
 abbrev pub HasMode : Option Text → Type 0
 HasMode given = IfSome given (λ text. (mode : ℕ) × IsMode text mode)
 
+abbrev pub HasJournal : Option Text → Type 0
+HasJournal given = IfSome given NamesJournal
+
 -- each text of an order is what its option takes
 abbrev pub IsWellGiven : Order → Type 0
 IsWellGiven Replay = ⊤
@@ -52,4 +56,5 @@ IsWellGiven (Serve path connections socket mode) =
 IsWellGiven (Run path sessions idle places journal campaign http socket mode) =
     HasPlace (option_map string_bytes campaign) × HasPlace (option_map string_bytes http)
     × HasPath (option_map string_bytes socket) × HasMode (option_map string_bytes mode)
-IsWellGiven (Journal path) = ⊤
+    × HasJournal (option_map string_bytes journal)
+IsWellGiven (Journal path) = NamesJournal (string_bytes path)

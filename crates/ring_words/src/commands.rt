@@ -199,13 +199,13 @@ fn places_arg<'a>(alloc: Global) -> Arg<'a>
         )
 }
 
-// An option of `run`: the file that keeps the groups.
+// An option of `run`: the file that keeps the groups, or their place in etcd.
 fn kept_arg<'a>(alloc: Global) -> Arg<'a>
     ensures rule { rule_of result ≡ kept_rule }
     ensures own { result.global ≡ false }
 {
     option_arg(alloc, "journal", "FILE").help(
-        "Keep the groups and terms in FILE, and take them up again at the next start",
+        "Keep the groups and terms in FILE, and take them up again at the next start; etcd://HOST:PORT,HOST:PORT/NAME keeps them in etcd",
     )
 }
 
@@ -249,7 +249,7 @@ fn mode_arg<'a>(alloc: Global) -> Arg<'a>
     )
 }
 
-// The argument of `journal`: its file.
+// The argument of `journal`: its file, or its place in etcd.
 fn file_arg<'a>(alloc: Global) -> Arg<'a>
     ensures rule { rule_of result ≡ file_rule }
     ensures own { result.global ≡ false }
@@ -257,5 +257,7 @@ fn file_arg<'a>(alloc: Global) -> Arg<'a>
     Arg::new(alloc, "file")
         .value_name("FILE")
         .required(true)
-        .help("The journal: a file that `run --journal` has written")
+        .help(
+            "The journal: a file that `run --journal` has written, or etcd://HOST:PORT,HOST:PORT/NAME",
+        )
 }

@@ -6,8 +6,10 @@
 #![tactic(auto)]
 
 mod commands;
+mod journals;
 mod places;
 mod words;
 
+pub use journals::{JournalAt, journal_at};
 pub use places::{Place, misgiven, mode_of, place_of};
 pub use words::{Order, asks_version, not_text, read_words, refusal};

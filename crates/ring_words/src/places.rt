@@ -1,8 +1,13 @@
 //! The texts of places to listen, and of modes.
 ghost use Rattle.std.specs.Prelude.{◌≡◌, ◌↔◌, ℕ, IfSome, IsTrue, MatchOption, option_map, string_bytes};
-ghost use Rattle.ring_words.specs.Places.{GivesNoPlace, HasMode, HasPlace, HasPath, IsMode, IsPlaceOf, IsWellGiven};
+ghost use Rattle.ring_words.specs.Journals.{NamesJournal};
+ghost use Rattle.ring_words.specs.Places.{GivesNoPlace, HasJournal, HasMode, HasPlace, HasPath, IsMode, IsPlaceOf, IsWellGiven};
 
+use crate::journals::journal_at;
 use crate::words::Order;
+
+// Why the text of a journal is refused.
+const NO_JOURNAL: &str = "a journal is a file, or etcd://HOST:PORT,../NAME";
 
 /// A place to listen.
 #[derive(Clone, Copy, Debug, PartialEq, Eq)]
@@ -38,14 +43,15 @@ pub fn mode_of(text: &str) -> Option<u32>
 }
 
 /// Returns why the texts of an order are refused, or `None` if each is what its option takes: a
-/// place, a path that is not empty, or a mode.
+/// place, a path that is not empty, a mode, or the text of a journal.
 pub fn misgiven(order: &Order) -> Option<&'static str>
     ensures { MatchOption result (IsWellGiven order.now) (λ _. IsWellGiven order.now → ⊥) }
 {
     match order {
-        Order::Replay | Order::Journal { .. } => None,
+        Order::Replay => None,
         Order::Serve { socket, mode, .. } => misgiven_socket(socket, mode),
         Order::Run {
+            journal,
             campaign,
             http,
             socket,
@@ -55,7 +61,21 @@ pub fn misgiven(order: &Order) -> Option<&'static str>
             if !gives_place(campaign) || !gives_place(http) {
                 return Some("a place is a port, 1 to 65535, or a path with a /");
             }
-            misgiven_socket(socket, mode)
+            if let Some(why) = misgiven_socket(socket, mode) {
+                return Some(why);
+            }
+            if gives_journal(journal) {
+                None
+            } else {
+                Some(NO_JOURNAL)
+            }
+        }
+        Order::Journal { path } => {
+            if names_journal(path.as_str()) {
+                None
+            } else {
+                Some(NO_JOURNAL)
+            }
         }
     }
 }
@@ -104,4 +124,21 @@ fn gives_mode(text: &Option<String>) -> bool
         Some(text) => mode_of(text.as_str()).is_some(),
         None => true,
     }
+}
+
+// Returns whether a text names a journal, if there is one.
+fn gives_journal(text: &Option<String>) -> bool
+    ensures { IsTrue result ↔ HasJournal (option_map string_bytes text.now) }
+{
+    match text {
+        Some(text) => names_journal(text.as_str()),
+        None => true,
+    }
+}
+
+// Returns whether a text names a journal.
+fn names_journal(text: &str) -> bool
+    ensures { IsTrue result ↔ NamesJournal text.now }
+{
+    journal_at(text).is_some()
 }

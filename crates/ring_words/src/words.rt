@@ -34,7 +34,7 @@ pub enum Order {
         sessions: u32,
         idle: u32,
         places: bool,
-        /// The file that keeps the groups, if one is given.
+        /// The text of the journal that keeps the groups, if one is given.
         journal: Option<String>,
         /// The text of the place for campaigns, if one is given.
         campaign: Option<String>,
@@ -47,6 +47,7 @@ pub enum Order {
     },
     /// `ringd journal FILE`: print the content of a journal.
     Journal {
+        /// The text of the journal.
         path: String,
     },
 }

@@ -1,8 +1,15 @@
 use crate::equal::equal;
 use crate::words::shown;
 
-// Orders, each with whether a text of it is refused as a place, a path or a mode.
-const ORDERS: [(&str, bool); 16] = [
+// A name of 64 bytes, and one of 65.
+const LONGEST_NAME: &str = "ringd journal etcd://a:1/\
+     0123456789abcdef0123456789abcdef0123456789abcdef0123456789abcdef";
+
+const TOO_LONG_A_NAME: &str = "ringd journal etcd://a:1/\
+     0123456789abcdef0123456789abcdef0123456789abcdef0123456789abcdef0";
+
+// Orders, each with whether a text of it is refused as a place, a path, a mode or a journal.
+const ORDERS: [(&str, bool); 36] = [
     ("ringd replay", false),
     ("ringd journal x", false),
     (
@@ -28,10 +35,33 @@ const ORDERS: [(&str, bool); 16] = [
         "ringd serve x --connections 2 --socket s --socket-mode x",
         true,
     ),
+    ("ringd run x --journal y", false),
+    ("ringd run x --journal=", false),
+    ("ringd run x --journal etcd:/a", false),
+    ("ringd run x --journal ./etcd://", false),
+    ("ringd run x --journal etcd://a:2379/b", false),
+    (
+        "ringd run x --journal etcd://a:1,b:2,[::1]:3/Jobs_2-b",
+        false,
+    ),
+    ("ringd run x --journal etcd://", true),
+    ("ringd run x --journal etcd://x", true),
+    ("ringd run x --journal etcd:///b", true),
+    ("ringd run x --journal etcd://a/b", true),
+    ("ringd run x --journal etcd://a:1,/b", true),
+    ("ringd run x --journal etcd://a:1/", true),
+    ("ringd run x --journal etcd://a:1/b/c", true),
+    ("ringd run x --journal etcd://a:1/b.c", true),
+    ("ringd run x --http 0 --journal y", true),
+    ("ringd journal etcd://a:1/b", false),
+    ("ringd journal etcd://a:1", true),
+    ("ringd journal etcd://a:1//b", true),
+    (LONGEST_NAME, false),
+    (TOO_LONG_A_NAME, true),
 ];
 
 #[test]
-fn places_paths_and_modes_are_looked_at(rt: HostRuntime) {
+fn places_paths_modes_and_journals_are_looked_at(rt: HostRuntime) {
     for (line, wanted) in &ORDERS {
         let (kind, text) = shown(&rt, rt.alloc(), Some(line));
         drop(text);

@@ -36,8 +36,8 @@ fn read(alloc: Global, line: Option<&str>) -> Result<Order, WordsFault> {
     answer
 }
 
-/// An order, and whether a text of it is refused as a place, a path or a mode. Or a refusal, and
-/// whether it was a question for the version.
+/// An order, and whether a text of it is refused as a place, a path, a mode or a journal. Or a
+/// refusal, and whether it was a question for the version.
 pub(crate) type Kind = Result<bool, bool>;
 
 // What a command line comes to, with its text. `None` if an allocation fails.
@@ -91,7 +91,7 @@ fn comes(rt: &impl Abort, alloc: Global, line: Option<&str>, kind: Kind, wanted:
 }
 
 // Command lines, and the order that each gives. `run` has its usual numbers if none are given.
-const ORDERS: [(&str, &str); 16] = [
+const ORDERS: [(&str, &str); 18] = [
     ("ringd replay", "Replay"),
     ("./ringd replay", "Replay"),
     ("ringd replay --", "Replay"),
@@ -138,6 +138,12 @@ const ORDERS: [(&str, &str); 16] = [
          campaign: None, http: None, socket: None, mode: None }",
     ),
     (
+        "ringd run x --journal etcd://a:2379,b:2379/jobs",
+        "Run { path: \"x\", sessions: 16, idle: 0, places: false, \
+         journal: Some(\"etcd://a:2379,b:2379/jobs\"), campaign: None, http: None, socket: None, \
+         mode: None }",
+    ),
+    (
         "ringd run x --campaign 7401 --http c/d",
         "Run { path: \"x\", sessions: 16, idle: 0, places: false, journal: None, \
          campaign: Some(\"7401\"), http: Some(\"c/d\"), socket: None, mode: None }",
@@ -149,6 +155,10 @@ const ORDERS: [(&str, &str); 16] = [
     ),
     ("ringd journal x", "Journal { path: \"x\" }"),
     ("ringd journal -- x", "Journal { path: \"x\" }"),
+    (
+        "ringd journal etcd://a:2379/jobs",
+        "Journal { path: \"etcd://a:2379/jobs\" }",
+    ),
 ];
 
 #[test]

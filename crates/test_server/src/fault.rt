@@ -15,7 +15,7 @@ const FAULTS: [(ProgramFault, &str); 9] = [
 ];
 
 // Each fault of a journal, and its line.
-const JOURNAL_FAULTS: [(JournalFault, &str); 7] = [
+const JOURNAL_FAULTS: [(JournalFault, &str); 9] = [
     (JournalFault::InUse, "ringd: journal in use"),
     (JournalFault::Unreadable, "ringd: journal unreadable"),
     (JournalFault::NotAFile, "ringd: journal not a file"),
@@ -26,6 +26,8 @@ const JOURNAL_FAULTS: [(JournalFault, &str); 7] = [
     (JournalFault::Version, "ringd: journal of another version"),
     (JournalFault::Failed, "ringd: journal failed"),
     (JournalFault::Lives, "ringd: journal has no life left"),
+    (JournalFault::TakenOver, "ringd: journal taken over"),
+    (JournalFault::NoAnswer, "ringd: journal unanswered"),
 ];
 
 #[test]
