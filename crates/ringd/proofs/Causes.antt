@@ -7,6 +7,8 @@ use Rattle.ring_accept.specs.Telling.{closed_line}
 use Rattle.ring_accept.specs.declared.fault.ProgramFault.{ProgramFault}
 use Rattle.ring_accept.specs.declared.fault.ProgramFault.TheVariants as program
 use Rattle.ring_lines.specs.Ends.{Writing}
+use Rattle.ringd.proofs.Telling.{not_taken_over, not_taken_up}
+use Rattle.ringd.specs.Journal.{IsOfJournal, IsOfTaking}
 use Rattle.ringd.specs.Run.{IsOfListening, KeptAt, RanAt, ServedAt, first_line}
 use Rattle.ringd.specs.private.Run.{IsOfFile}
 
@@ -56,3 +58,10 @@ module _ {V : Type 0} (gives : V → Writing → V → Type 0) (from : V) (first
   kept_unlistened fault (inl listen) = subst (λ (f : ProgramFault). KeptAt gives from first f from) (sym listen) refl
   kept_unlistened fault (inr (inl socket)) = subst (λ (f : ProgramFault). KeptAt gives from first f from) (sym socket.1) refl
   kept_unlistened fault (inr (inr memory)) = subst (λ (f : ProgramFault). KeptAt gives from first f from) (sym memory) refl
+
+  -- a journal was not taken up, or not taken over
+  pub kept_untaken : (fault : ProgramFault) → IsOfJournal fault → KeptAt gives from first fault from
+  kept_untaken = not_taken_up gives from first
+
+  pub kept_not_over : (fault : ProgramFault) → IsOfTaking fault → KeptAt gives from first fault from
+  kept_not_over = not_taken_over gives from first

@@ -9,8 +9,9 @@ use Rattle.ring_accept.specs.declared.fault.ProgramFault.TheVariants as program
 use Rattle.ring_server.specs.Listening.{BothAt}
 use Rattle.ring_server.specs.Resuming.{ResumedAt}
 use Rattle.ring_server.specs.Running.{FirstOrNone}
-use Rattle.ringd.specs.Journal.{IsOfJournal}
+use Rattle.ringd.specs.Journal.{IsOfJournal, IsOfTaking}
 use Rattle.ringd.specs.Run.{KeptAt, RanAt, ServedAt}
+use Rattle.ringd.specs.private.Run.{IsCauseOf}
 
 module _ {V : Type 0} (gives : V → Writing → V → Type 0) (from to : V) (first last : List ℕ) where
   -- a fault of the whole, as one of `serve`
@@ -76,6 +77,8 @@ module _ {V : Type 0} (gives : V → Writing → V → Type 0) (from : V) (first
   kept_at to (program.Journal (journal.Bad at)) told = absurd (cc)
   kept_at to (program.Journal journal.Version) told = absurd (cc)
   kept_at to (program.Journal journal.Lives) told = absurd (cc)
+  kept_at to (program.Journal journal.TakenOver) told = absurd (cc)
+  kept_at to (program.Journal journal.NoAnswer) told = absurd (cc)
   kept_at to program.Thread told = told
   kept_at to program.Write told = told
   kept_at to program.NoMemory told = told
@@ -99,7 +102,21 @@ module _ {V : Type 0} (gives : V → Writing → V → Type 0) (from : V) (first
       nothing (journal.Bad at) = refl
       nothing journal.Version = refl
       nothing journal.Lives = refl
+      nothing journal.TakenOver = inl refl
+      nothing journal.NoAnswer = refl
   not_taken_up fault (inr memory) = subst (λ (f : ProgramFault). KeptAt gives from first f from) (sym memory) refl
+
+  -- and so does one of taking over a journal in etcd
+  pub not_taken_over : (fault : ProgramFault) → IsOfTaking fault → KeptAt gives from first fault from
+  not_taken_over fault (inl up) = not_taken_up fault up
+  not_taken_over fault (inr thread) = subst (λ (f : ProgramFault). KeptAt gives from first f from) (sym thread) (inl refl)
+
+  -- a journal that failed was taken over
+  pub kept_cause : (to : V) (fault said : ProgramFault) → IsCauseOf fault said → KeptAt gives from first fault to → KeptAt gives from first said to
+  kept_cause to fault said (inl same) told = subst (λ (f : ProgramFault). KeptAt gives from first f to) (sym same) told
+  kept_cause to fault said (inr over) told =
+      subst (λ (f : ProgramFault). KeptAt gives from first f to) (sym over.1)
+      (subst (λ (f : ProgramFault). KeptAt gives from first f to) over.0 told)
 
   pub all_kept : {A : Type 0} (to : V) (answer : Result A ProgramFault) → MatchResult answer (λ _. Wrote gives from first to) (λ fault. ResumedAt gives from first fault to)
       → MatchResult answer (λ _. Wrote gives from first to) (λ fault. KeptAt gives from first fault to)

@@ -7,11 +7,16 @@ use Rattle.ring_recovery.specs.Compacted.{Resumes}
 use Rattle.ring_recovery.specs.Recovered.{RecoveredView}
 use Rattle.ring_accept.specs.declared.fault.JournalFault.{JournalFault}
 use Rattle.ring_accept.specs.declared.fault.ProgramFault.{ProgramFault}
-use Rattle.ring_accept.specs.declared.fault.ProgramFault.TheVariants.{Journal, NoMemory, Write}
+use Rattle.ring_accept.specs.declared.fault.ProgramFault.TheVariants.{Journal, NoMemory, Thread, Write}
 
 -- a fault of taking up a journal: one of the journal's own, or an allocation failed
 abbrev pub IsOfJournal : ProgramFault → Type 0
 IsOfJournal fault = ((why : JournalFault) × (fault ≡ Journal why)) ⊎ (fault ≡ NoMemory)
+
+-- a fault of taking over a journal in etcd: one of taking up a journal, or the thread that renews
+-- the lease could not be started
+abbrev pub IsOfTaking : ProgramFault → Type 0
+IsOfTaking fault = IsOfJournal fault ⊎ (fault ≡ Thread)
 
 -- A table was resumed from these bytes, and this is the life that it begins.
 pub record IsTakenUp (found : List ℕ) (table : RecordedView Any) (life : ℕ) : Type 0 where

@@ -8,7 +8,7 @@ use Rattle.ring_lines.specs.Ends.{Writing, Wrote}
 use Rattle.ring_accept.specs.Faults.{told_as}
 use Rattle.ring_accept.specs.declared.fault.ProgramFault.{ProgramFault}
 use Rattle.ring_accept.specs.declared.fault.ProgramFault.TheVariants.{Bad, Journal, Listen, NoMemory, Socket, Unreadable}
-use Rattle.ring_accept.specs.declared.fault.JournalFault.TheVariants.{Failed}
+use Rattle.ring_accept.specs.declared.fault.JournalFault.TheVariants.{Failed, TakenOver}
 use Rattle.ring_accept.specs.declared.fault.SocketFault.{SocketFault}
 use Rattle.ring_accept.specs.Telling.{listening_at, listening_line}
 use Rattle.ring_server.specs.Listening.{BothAt}
@@ -55,11 +55,12 @@ RanAt gives from first Listen to = to ≡ from
 RanAt gives from first (Socket why) to = to ≡ from
 RanAt gives from first fault to = FirstOrNone gives from first fault to
 
--- The text that was written at a fault of `run` with a journal. If the journal failed, it is the
--- first line or nothing. At each other fault of the journal it is nothing. Else it is that of
--- `RanAt`.
+-- The text that was written at a fault of `run` with a journal. If the journal failed or was taken
+-- over, it is the first line or nothing. At each other fault of the journal it is nothing. Else it
+-- is that of `RanAt`.
 abbrev pub KeptAt : {V : Type 0} → (V → Writing → V → Type 0) → V → List ℕ → ProgramFault → V
     → Type 0
 KeptAt gives from first (Journal Failed) to = (to ≡ from) ⊎ Wrote gives from first to
+KeptAt gives from first (Journal TakenOver) to = (to ≡ from) ⊎ Wrote gives from first to
 KeptAt gives from first (Journal why) to = to ≡ from
 KeptAt gives from first fault to = RanAt gives from first fault to

@@ -1,20 +1,27 @@
-//! The file of a journal: taking it up, and printing it.
-ghost use Rattle.std.specs.Prelude.{◌≡◌, ℕ, List, IfErr, IfOk, MatchResult};
+//! The journal: taking up that of a file, opening a table over it, and printing it.
+ghost use Rattle.std.specs.Prelude.{◌≡◌, ℕ, List, IfErr, IfOk, MatchResult, length, map};
 ghost use Rattle.ring_lines.specs.Ends.{Wrote, WroteFront};
 ghost use Rattle.ring_listing.specs.Listing.{Lists};
+ghost use Rattle.ring_recovery.specs.Charters.{running_charters};
 ghost use Rattle.ring_recovery.specs.Compacted.{Resumes};
 ghost use Rattle.ringd.specs.Journal.{IsOfJournal, IsTakenUp, ListedAt};
 ghost use Rattle.ringd.specs.private.Journal.{IsToldOf, place_told_as, recovery_told_as};
 
+use crate::replicated;
 use ring_accept::{JournalFault, ProgramFault};
+use ring_any::Any;
 use ring_file::{FileMedium, Place, PlaceFault, Replaces};
+use ring_journal::Medium;
 use ring_lines::{Outlet, put};
 use ring_listing::list_journal;
+use ring_node::Charter;
 use ring_recovery::{Alarm, RecoverFault, Recovered, resume};
 use ring_server::{Meter, Metered, Resumed};
+use ring_words::JournalAt;
 use std::alloc::Global;
 use std::fs::{File, Files};
 use std::io::{ErrorKind, Read};
+use std::net::{Net, TcpStream};
 use std::sync::Arc;
 use std::time::Clock;
 use std::{fs, io};
@@ -57,25 +64,59 @@ where
     ensures fault { IfErr result IsOfJournal }
 {
     let alloc = rt.alloc();
+    let ready = prepare(alloc, &resumed, shared(alloc, Alarm::new())?)?;
+    match place.begin(rt, resumed.text()) {
+        Ok(medium) => Ok(open_over(rt, resumed, medium, ready)),
+        Err(fault) => Err(told_of_place(fault)),
+    }
+}
+
+/// Opens a resumed table over a medium of its text. Does not allocate.
+pub fn open_over<R: Clock + AllocGlobal + Copy, D: Medium + Drop>(
+    rt: &R,
+    resumed: Recovered,
+    medium: D,
+    ready: Ready,
+) -> Resumed<Metered<D, R>>
+    requires text { (D.moment medium).text ≡ resumed.text }
+    requires kept { (D.moment medium).kept ≡ length resumed.text }
+    requires running { map (λ charter. charter.value) ready.charters.items
+        ≡ running_charters resumed.book }
+    ensures book { result.table.book ≡ resumed.book }
+    ensures history { result.table.history ≡ resumed.history }
+    ensures life { result.life ≡ resumed.life }
+{
+    let life = resumed.life();
+    let Ready { charters, handles } = ready;
+    let medium = Metered::new(*rt, medium, handles.counting);
+    Resumed {
+        table: resumed.open(rt.alloc(), medium, handles.bell),
+        charters,
+        alarm: handles.alarm,
+        life,
+        meter: handles.meter,
+    }
+}
+
+/// What a table needs to be opened over its journal.
+#[derive(Drop)]
+pub struct Ready {
+    // the charters of the running terms
+    charters: Vec<Arc<Charter<Any>>>,
+    handles: Handles,
+}
+
+/// Returns what a resumed table needs to be opened. The alarm is rung if its journal fails.
+pub fn prepare(alloc: Global, resumed: &Recovered, alarm: Arc<Alarm>) -> Result<Ready, ProgramFault>
+    ensures ok { IfOk result (λ ready. map (λ charter. charter.value) ready.charters.items
+        ≡ running_charters resumed.now.book) }
+    ensures fault { IfErr result (λ fault. fault ≡ ProgramFault.NoMemory) }
+{
     let Ok(charters) = resumed.charters(alloc) else {
         return Err(ProgramFault::NoMemory);
     };
-    let handles = make_handles(alloc, resumed.text().len())?;
-    let life = resumed.life();
-    match place.begin(rt, resumed.text()) {
-        Ok(medium) => Ok(Resumed {
-            table: resumed.open(
-                alloc,
-                Metered::new(*rt, medium, handles.counting),
-                handles.bell,
-            ),
-            charters,
-            alarm: handles.alarm,
-            life,
-            meter: handles.meter,
-        }),
-        Err(fault) => Err(told_of_place(fault)),
-    }
+    let handles = make_handles(alloc, alarm, resumed.text().len())?;
+    Ok(Ready { charters, handles })
 }
 
 // What threads share beside a table.
@@ -91,12 +132,13 @@ struct Handles {
     counting: Arc<Meter>,
 }
 
-// Returns an alarm, and the meter of a journal of `bytes` bytes.
-fn make_handles(alloc: Global, bytes: usize) -> Result<Handles, ProgramFault>
+// Returns the handles of an alarm, and of the meter of a journal of `bytes` bytes.
+fn make_handles(alloc: Global, alarm: Arc<Alarm>, bytes: usize) -> Result<Handles, ProgramFault>
     ensures { IfErr result (λ fault. fault ≡ ProgramFault.NoMemory) }
 {
-    let (alarm, bell) = two_handles(alloc, Alarm::new())?;
-    let (meter, counting) = two_handles(alloc, Meter::new(bytes))?;
+    let bell = another(&alarm)?;
+    let meter = shared(alloc, Meter::new(bytes))?;
+    let counting = another(&meter)?;
     Ok(Handles {
         alarm,
         bell,
@@ -105,21 +147,28 @@ fn make_handles(alloc: Global, bytes: usize) -> Result<Handles, ProgramFault>
     })
 }
 
-// Returns two handles of a value.
-fn two_handles<T: Drop>(alloc: Global, value: T) -> Result<(Arc<T>, Arc<T>), ProgramFault>
+/// Returns a handle of a value.
+pub fn shared<T: Drop>(alloc: Global, value: T) -> Result<Arc<T>, ProgramFault>
     ensures { IfErr result (λ fault. fault ≡ ProgramFault.NoMemory) }
 {
-    let Ok(one) = Arc::new(alloc, value) else {
-        return Err(ProgramFault::NoMemory);
-    };
-    match Arc::try_clone(&one) {
-        Ok(other) => Ok((one, other)),
+    match Arc::new(alloc, value) {
+        Ok(one) => Ok(one),
         Err(_) => Err(ProgramFault::NoMemory),
     }
 }
 
-// Returns the table that the bytes of a journal give, compacted.
-fn recovered(alloc: Global, found: Vec<u8>) -> Result<Recovered, ProgramFault>
+/// Returns another handle of a value.
+pub fn another<T: Drop>(one: &Arc<T>) -> Result<Arc<T>, ProgramFault>
+    ensures { IfErr result (λ fault. fault ≡ ProgramFault.NoMemory) }
+{
+    match Arc::try_clone(one) {
+        Ok(other) => Ok(other),
+        Err(_) => Err(ProgramFault::NoMemory),
+    }
+}
+
+/// Returns the table that the bytes of a journal give, compacted.
+pub(crate) fn recovered(alloc: Global, found: Vec<u8>) -> Result<Recovered, ProgramFault>
     ensures ok { IfOk result (Resumes found.items) }
     ensures err { IfErr result (IsToldOf found.items) }
 {
@@ -129,20 +178,22 @@ fn recovered(alloc: Global, found: Vec<u8>) -> Result<Recovered, ProgramFault>
     }
 }
 
-/// Prints what the journal at `path` holds, in the form of `list_journal`. Another process may have
-/// the journal.
+/// Prints what a journal holds, in the form of `list_journal`. Another process may have the journal.
 ///
-/// The faults, in their order: the journal is unreadable, no file, damaged, of another version;
-/// standard output cannot be written.
-pub fn list<R, O>(rt: &R, path: &str, out: &mut O) -> Result<(), ProgramFault>
+/// The faults, in their order: the journal is unreadable, no file, unanswered, damaged, of another
+/// version; standard output cannot be written.
+pub fn list<R, O>(rt: &R, at: JournalAt<'_>, out: &mut O) -> Result<(), ProgramFault>
 where
-    R: Files + AllocGlobal,
+    R: Files + Net<Stream = TcpStream> + Clock + AllocGlobal + Copy + Drop,
     O: Outlet,
     ensures { MatchResult result
         (λ _. (found text : List ℕ) × Lists found text × Wrote O.write_gives out.old text out.new)
         (λ fault. ListedAt O.write_gives out.old fault out.new) }
 {
-    let found = look(rt, path)?;
+    let found = match at {
+        JournalAt::File(path) => look(rt, path)?,
+        JournalAt::Etcd { members, name } => replicated::look(rt, members, name)?,
+    };
     match list_journal(rt.alloc(), found) {
         Ok(text) => tell_bytes(out, &text),
         Err(fault) => Err(told_of_recovery(fault)),

@@ -3,17 +3,15 @@ ghost use Rattle.std.specs.Prelude.{◌≡◌, ◌++◌, ◌⊎◌, ℕ, List, I
 ghost use Rattle.ring_lines.specs.Ends.{Wrote, WroteFront};
 ghost use Rattle.ring_accept.specs.Telling.{closed_line};
 ghost use Rattle.ringd.specs.private.Run.{Replayed};
-ghost use Rattle.ringd.specs.Run.{IsOfLines, KeptAt, RanAt, ServedAt, first_line};
+ghost use Rattle.ringd.specs.Run.{IsOfLines, RanAt, ServedAt, first_line};
 
-use crate::journal;
 use crate::listening::{Places, listen, listen_all, place_or};
 use crate::loading::load;
 use crate::sockets::Sockets;
 use ring_accept::{Limits, ProgramFault, say_listening, say_listening_at, tell};
 use ring_config::Config;
-use ring_file::{FileMedium, Replaces};
 use ring_lines::{FromRead, Intake, Outlet, ToWrite};
-use ring_server::{Metered, Resumed, accept_loop, resume_loop, run_loop};
+use ring_server::{accept_loop, run_loop};
 use ring_words::Place;
 use std::alloc::Global;
 use std::fs::{File, Files};
@@ -244,100 +242,13 @@ where
     run_loop(rt, listener, others, config, limits, first, out)
 }
 
-/// Serves clients as `run` does, by the table that a journal keeps, until the journal fails or the
-/// process ends.
-///
-/// The faults, in their order: those of the configuration; those of taking up the journal; a socket
-/// or a port cannot be listened on; those of `resume_loop`.
-#[tactic(auto, using(crate::proofs::Causes::kept_unloaded, crate::proofs::Causes::kept_unsaid))]
-pub fn run_kept<R, O>(
-    rt: &R,
-    path: &str,
-    file: &str,
-    limits: Limits,
-    places: Places<'_>,
-    out: &mut O,
-) -> Result<(), ProgramFault>
-where
-    R: Files<File = File>
-        + Replaces
-        + Eprint
-        + Clock
-        + AllocGlobal
-        + RandomSource
-        + Threads
-        + Wait
-        + Copy
-        + Send
-        + Sync
-        + Drop
-        + 'static
-        + Net<Stream = TcpStream, Listener = TcpListener>,
-    O: Outlet,
-    ensures { MatchResult result
-        (λ _. (port : ℕ)
-        × Wrote O.write_gives out.old (first_line port places.entry.sessions) out.new)
-        (λ fault. (port : ℕ)
-        × KeptAt O.write_gives out.old (first_line port places.entry.sessions) fault out.new) }
-{
-    let config = load(rt, path)?;
-    let first = say_first(rt.alloc(), config.port, places.sessions)?;
-    let resumed = journal::take_up(rt, file)?;
-    let mut sockets = Sockets::new(rt.alloc());
-    let first = first.as_str();
-    let ran = resume_at(
-        rt,
-        &config,
-        limits,
-        places,
-        resumed,
-        first,
-        &mut sockets,
-        out,
-    );
-    sockets.remove(rt);
-    ran
-}
-
-// Listens at the places, and serves clients there by a table that was taken up.
-#[tactic(auto, using(crate::proofs::Causes::kept_unlistened))]
-fn resume_at<R, O>(
-    rt: &R,
-    config: &Config,
-    limits: Limits,
-    places: Places<'_>,
-    resumed: Resumed<Metered<FileMedium<R>, R>>,
-    first: &str,
-    sockets: &mut Sockets,
-    out: &mut O,
-) -> Result<(), ProgramFault>
-where
-    R: Files<File = File>
-        + Replaces
-        + Eprint
-        + Clock
-        + AllocGlobal
-        + RandomSource
-        + Threads
-        + Wait
-        + Copy
-        + Send
-        + Sync
-        + Drop
-        + 'static
-        + Net<Stream = TcpStream, Listener = TcpListener>,
-    O: Outlet,
-    ensures { MatchResult result
-        (λ _. Wrote O.write_gives out.old first.now out.new)
-        (λ fault. KeptAt O.write_gives out.old first.now fault out.new) }
-{
-    let (listener, others) = listen_all(rt, config.port, places, sockets)?;
-    resume_loop(rt, listener, others, config, limits, resumed, first, out)
-}
-
-// Returns the first line of a service for sessions: with the path of its socket if there is one,
-// otherwise with its port.
-fn say_first(alloc: Global, port: u16, socket: Option<&str>) -> Result<String, ProgramFault>
+/// Returns the first line of a service for sessions: with the path of its socket if there is one,
+/// otherwise with its port.
+pub(crate) fn say_first(
+    alloc: Global,
+    port: u16,
+    socket: Option<&str>,
+) -> Result<String, ProgramFault>
     ensures line { IfOk result (λ line. string_bytes line ≡ first_line port socket.entry) }
     ensures fault { IfErr result (λ fault. fault ≡ ProgramFault.NoMemory) }
 {

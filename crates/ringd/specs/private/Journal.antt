@@ -3,6 +3,8 @@ use Rattle.std.specs.Prelude.{◌≡◌, List, ℕ}
 use Rattle.ring_accept.specs.declared.fault.JournalFault.TheVariants as journal
 use Rattle.ring_accept.specs.declared.fault.ProgramFault.{ProgramFault}
 use Rattle.ring_accept.specs.declared.fault.ProgramFault.TheVariants.{Journal, NoMemory}
+use Rattle.ring_etcd.specs.declared.place.EtcdFault.{EtcdFault}
+use Rattle.ring_etcd.specs.declared.place.EtcdFault.TheVariants as etcd
 use Rattle.ring_file.specs.declared.place.PlaceFault.{PlaceFault}
 use Rattle.ring_file.specs.declared.place.PlaceFault.TheVariants as place
 use Rattle.ring_recovery.specs.declared.fault.RecoverFault.{RecoverFault}
@@ -16,6 +18,13 @@ place_told_as place.Unreadable = Journal journal.Unreadable
 place_told_as place.NotAFile = Journal journal.NotAFile
 place_told_as place.Failed = Journal journal.Failed
 place_told_as place.NoMemory = NoMemory
+
+-- and so does each fault of a journal in etcd; what is no journal there is unreadable
+abbrev pub etcd_told_as : EtcdFault → ProgramFault
+etcd_told_as etcd.NoAnswer = Journal journal.NoAnswer
+etcd_told_as etcd.TakenOver = Journal journal.TakenOver
+etcd_told_as etcd.Damaged = Journal journal.Unreadable
+etcd_told_as etcd.NoMemory = NoMemory
 
 -- and so does each fault of a recovery
 abbrev pub recovery_told_as : RecoverFault → ProgramFault

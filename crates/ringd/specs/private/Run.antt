@@ -4,7 +4,8 @@ use Rattle.ring_lines.specs.Ends.{End, Reading, Writing}
 use Rattle.ring_lines.specs.declared.answers.LineFault.{LineFault}
 use Rattle.ring_accept.specs.Faults.{told_as}
 use Rattle.ring_accept.specs.declared.fault.ProgramFault.{ProgramFault}
-use Rattle.ring_accept.specs.declared.fault.ProgramFault.TheVariants.{Bad, NoMemory, Unreadable}
+use Rattle.ring_accept.specs.declared.fault.JournalFault.TheVariants.{Failed, TakenOver}
+use Rattle.ring_accept.specs.declared.fault.ProgramFault.TheVariants.{Bad, Journal, NoMemory, Unreadable}
 use Rattle.ring_schedule.specs.Replay.{Replays}
 use Rattle.ringd.specs.Run.{SpellsNone}
 
@@ -23,3 +24,9 @@ IsOfReading fault = (fault ≡ Unreadable) ⊎ (fault ≡ NoMemory)
 -- a fault of a configuration's file: one of reading it, or its text spells no configuration
 abbrev pub IsOfFile : ProgramFault → Type 0
 IsOfFile fault = IsOfReading fault ⊎ ((fault ≡ Bad) × SpellsNone)
+
+-- the fault of a service, and the one that the program ends with: the same one, or that the journal
+-- was taken over where it failed
+abbrev pub IsCauseOf : ProgramFault → ProgramFault → Type 0
+IsCauseOf fault told =
+    (told ≡ fault) ⊎ ((fault ≡ Journal Failed) × (told ≡ Journal TakenOver))
