@@ -1,3 +1,4 @@
+pub mod Addresses
 pub mod Campaigns
 pub mod Faults
 pub mod Replies

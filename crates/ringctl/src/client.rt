@@ -1,7 +1,10 @@
 //! A connection to a service.
+ghost use Rattle.std.specs.Fn.{FnReturnsAt};
+ghost use Rattle.ringctl.specs.private.Firsts.{IsFirst};
+
+use crate::addresses::path_of;
 use crate::fault::Fault;
 use crate::reply::{Reply, read_reply};
-use crate::words::path_of;
 use std::alloc::Global;
 use std::io::{self, BufRead, BufReader, ErrorKind, Read, Write};
 use std::net::{Net, TcpStream, ToSocketAddrs};
@@ -25,16 +28,14 @@ pub struct Client<S: Drop> {
 }
 
 impl Client<TcpStream> {
-    /// Connects to the service at `HOST:PORT` or `unix:PATH`. Tries each address of the host. Fails
-    /// with `NoService` if none can be connected to, and with `NoMemory` if an allocation fails.
-    pub fn reach<R>(rt: &R, address: &str) -> Result<Client<TcpStream>, Fault>
+    /// Connects to the first of these addresses that accepts a connection: each is `HOST:PORT` or
+    /// `unix:PATH`. Tries each address of a host. Fails with `NoService` if none can be connected
+    /// to, and with `NoMemory` if an allocation fails.
+    pub fn reach<R>(rt: &R, addresses: &[&str]) -> Result<Client<TcpStream>, Fault>
     where
         R: AllocGlobal + Net<Stream = TcpStream>,
     {
-        let reached = match path_of(address) {
-            Some(path) => connect_to(rt, path),
-            None => connect(rt, address),
-        };
+        let reached = first_of(addresses, |address: &str| connect_at(rt, address));
         let Some(stream) = reached else {
             return Err(Fault::NoService);
         };
@@ -118,6 +119,28 @@ impl<S: Read + Write + Drop> Client<S> {
             Ok(()) => Ok(()),
             Err(_) => Err(Fault::NoService),
         }
+    }
+}
+
+// Returns the first thing that `connect` gives for these addresses, which are tried in their order.
+fn first_of<T: Drop, F: Fn(&str) -> Option<T>>(addresses: &[&str], connect: F) -> Option<T>
+    requires { F.IsAlwaysCallable connect }
+    ensures { IsFirst (λ address given. FnReturnsAt F.Fn connect address.now given) addresses.now
+        result }
+{
+    for address in addresses {
+        if let Some(given) = connect(address) {
+            return Some(given);
+        }
+    }
+    None
+}
+
+// Connects to the port or the socket at an address.
+fn connect_at<R: Net<Stream = TcpStream>>(rt: &R, address: &str) -> Option<TcpStream> {
+    match path_of(address) {
+        Some(path) => connect_to(rt, path),
+        None => connect(rt, address),
     }
 }
 

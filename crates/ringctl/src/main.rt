@@ -15,6 +15,7 @@ ghost use Rattle.std.specs.Prelude.{◌≡◌, MatchResult};
 ghost use Rattle.std.specs.Process.{exit_status};
 ghost use Rattle.ringctl.specs.Faults.{status_of};
 
+mod addresses;
 mod campaign;
 mod client;
 mod fault;
@@ -24,6 +25,7 @@ mod told;
 mod watch;
 mod words;
 
+use addresses::addresses_of;
 use client::Client;
 use command_line::{WordsFault, ended_with, given_words, refused};
 use fault::Fault;
@@ -38,7 +40,8 @@ fn obey<R>(rt: &R, asked: &Asked, at_terminal: bool) -> Result<(), Fault>
 where
     R: Input + Print + Clock + AllocGlobal + Net<Stream = TcpStream>,
 {
-    let mut client = Client::reach(rt, asked.address.as_str())?;
+    let addresses = addresses_of(rt.alloc(), asked.addresses.as_str())?;
+    let mut client = Client::reach(rt, addresses.as_slice())?;
     let done = match &asked.order {
         Order::Session => session::hold(rt, &mut client, at_terminal),
         Order::Ask(line) => session::ask_once(rt, &mut client, line.as_str()),

@@ -1,7 +1,8 @@
 //! The words of the command line, and the orders that they give.
-ghost use Rattle.std.specs.Prelude.{◌≡◌, ◌≢◌, ◌++◌, ℕ, List, IfNone, IfSome, MatchOption, codes, string_bytes};
+ghost use Rattle.std.specs.Prelude.{◌≡◌, IfNone, IfSome, string_bytes};
 ghost use Rattle.ringctl.specs.private.Words.{IsAsk, IsCampaign, SpellsNoCommand, SpellsNoJoin, joins};
 
+use crate::addresses::names_addresses;
 use clap::error::ErrorKind;
 use clap::{Arg, ArgMatches, Command};
 use command_line::WordsFault;
@@ -15,6 +16,10 @@ use std::alloc::{AllocError, Global};
 const SESSIONS: &str = "127.0.0.1:7400";
 
 const CAMPAIGNS: &str = "127.0.0.1:7401";
+
+// Why the addresses are refused.
+const NO_ADDRESS: &str =
+    "the address must be HOST:PORT, with a port of 1 to 65535, or unix:PATH; commas separate several";
 
 // The end of the help.
 const COMMANDS: &str = "Commands, for a group G and a member N:
@@ -36,6 +41,9 @@ number. Under peterson another may lead.
 
 Without a command, ringctl sends each line of standard input and prints its reply.
 
+Of several addresses, ringctl asks the first that accepts a connection. If a part of the list
+is no address, the whole is one address, so the path of a socket may have commas.
+
 A watch asks a member once a second what it knows. When the answer has changed, it asks for
 the terms. 'ringd run' keeps nothing of these questions; 'ringd serve' keeps each until it ends.
 
@@ -46,12 +54,13 @@ Exit status:
   1   The command was refused, and standard error has the word of the refusal.
       Or reading, writing or an allocation failed.
   2   The command line is wrong, or asks for help.
-  3   No service answered at the address within ten seconds, or a campaign lost its service.";
+  3   No service answered at the addresses, within ten seconds each, or a campaign lost its
+      service.";
 
-/// The order that the words give, and the service that it is for.
+/// The order that the words give, and the text of the addresses at which its service may be.
 #[derive(Drop)]
 pub struct Asked {
-    pub address: String,
+    pub addresses: String,
     pub order: Order,
 }
 
@@ -79,13 +88,13 @@ fn command<'a>(alloc: Global) -> Result<Command<'a>, AllocError> {
         .arg(words_arg(alloc))
 }
 
-// The option with the address of the service.
+// The option with the addresses of the service.
 fn address_arg<'a>(alloc: Global) -> Arg<'a> {
     Arg::new(alloc, "address")
         .long("address")
-        .value_name("ADDRESS")
+        .value_name("ADDRESS[,ADDRESS ..]")
         .help(
-            "The address of the service: HOST:PORT, or unix:PATH for a socket [default: 127.0.0.1:7400; for campaign 127.0.0.1:7401]",
+            "The addresses of the service, tried in their order: each HOST:PORT, or unix:PATH for a socket [default: 127.0.0.1:7400; for campaign 127.0.0.1:7401]",
         )
 }
 
@@ -138,13 +147,13 @@ fn asked_of(
     matches: &ArgMatches<'_>,
 ) -> Result<Result<Asked, &'static str>, AllocError> {
     let given = matches.get_strs("words").unwrap_or(&[]);
-    let address = matches.get_str("address").unwrap_or(usual_address(given));
-    if !is_address(address) {
-        return Ok(Err("the address must be HOST:PORT, with a port of 1 to 65535, or unix:PATH"));
+    let addresses = matches.get_str("address").unwrap_or(usual_address(given));
+    if !names_addresses(addresses) {
+        return Ok(Err(NO_ADDRESS));
     }
     match order_of(alloc, given, matches.get_one::<u32>("for"))? {
         Some(order) => Ok(Ok(Asked {
-            address: String::from_str(alloc, address)?,
+            addresses: String::from_str(alloc, addresses)?,
             order,
         })),
         None => Ok(Err("this is no command; ringctl --help lists the commands")),
@@ -157,30 +166,6 @@ fn usual_address(words: &[&str]) -> &'static str {
         ["campaign", ..] => CAMPAIGNS,
         _ => SESSIONS,
     }
-}
-
-// Returns whether this is a host and a port, or the path of a socket.
-fn is_address(text: &str) -> bool {
-    if let Some(path) = path_of(text) {
-        return !path.is_empty();
-    }
-    let Some((host, port)) = text.rsplit_once(':') else {
-        return false;
-    };
-    match port.parse::<u16>() {
-        Ok(port) => port > 0 && !host.is_empty(),
-        Err(_) => false,
-    }
-}
-
-/// Returns the path of the socket that an address names: what follows `unix:`. Returns `None` if
-/// the address is that of a port.
-pub fn path_of(address: &str) -> Option<&str>
-    ensures { MatchOption result
-        ((path : List ℕ) → address.now ≢ codes "unix:" ++ path)
-        (λ path. address.now ≡ codes "unix:" ++ path.now) }
-{
-    address.strip_prefix("unix:")
 }
 
 // Returns the order that these words give, or `None` if they give none. Only a watch may have an
