@@ -77,9 +77,9 @@ class Room(Program):
         with contextlib.closing(Client(self.ports[0])) as client:
             return client.ask(f"{line}\n".encode()).decode().strip()
 
-    def command(self, member, *command, grace=GRACE):
+    def command(self, member, *command, grace=GRACE, address=None):
         """The words that run a command."""
-        return [self.path, "-a", self.address, "-g", str(grace), "a", str(member), "--", *command]
+        return [self.path, "-a", address or self.address, "-g", str(grace), "a", str(member), "--", *command]
 
     def work(self, member, way="obey", grace=GRACE):
         """The words that run the command above, in a place of the member's own."""

@@ -103,10 +103,52 @@ def words_give_addresses(ringctl):
 
 
 @check
+def the_first_that_listens_is_asked(ringctl):
+    """Of several addresses, in their order. The others are asked nothing."""
+    nobody, none = f"{HOST}:{free_port()}", f"unix:{ringctl.folder / 'none'}"
+    with Fake(b"groups other\n") as other:
+        for before in ((), (nobody,), (none,), (nobody, none, nobody)):
+            with Fake(b"groups\n") as service:
+                addresses = ",".join([*before, service.address, other.address])
+                ringctl.says(b"groups\n", "--address", addresses, "groups")
+                service.had(b"groups\n")
+        same("what the other was asked", other.asked, b"")
+    with Fake(b"members\n") as service:
+        ringctl.says(b"", "--address", f"{nobody},{service.address}", "watch", "a", "--for", "0")
+        service.had(b"members a\n")
+    with Fake(b"ok\n") as service:
+        ringctl.fails(3, NO_SERVICE, "--address", f"{nobody},{service.address}", "campaign", "a", "7", out=b"ok\n")
+        service.had(b"join a 7\n\n")
+
+
+@check
+def if_none_listens_there_is_no_service(ringctl):
+    """Also if a service accepts the connection and answers nothing: the addresses after it are not tried."""
+    nobody = [f"{HOST}:{free_port()}", f"unix:{ringctl.folder / 'none'}"]
+    for words in (("groups",), (), ("watch", "a"), ("campaign", "a", "1")):
+        ringctl.fails(3, NO_SERVICE, "--address", ",".join(nobody), *words)
+    with Fake(b"") as service, Fake(b"groups\n") as other:
+        ringctl.fails(3, NO_SERVICE, "--address", f"{service.address},{other.address}", "groups")
+        same("what the other was asked", other.asked, b"")
+
+
+@check
+def a_path_may_have_commas(ringctl):
+    """A text of which a part is no address is one address."""
+    path = ringctl.folder / "a,b"
+    with Fake(b"groups\n", path=path) as service, Fake(b"groups other\n") as other:
+        ringctl.says(b"groups\n", "--address", f"unix:{path}", "groups")
+        service.had(b"groups\n")
+        ringctl.fails(3, NO_SERVICE, "--address", f"unix:{path},,{other.address}", "groups")
+        same("what the other was asked", other.asked, b"")
+
+
+@check
 def other_words_are_refused(ringctl):
     for words in ("who a", "who a 03", "drain a 5", "elect a", "watch", "watch A", "watch a --for soon",
                   "groups --for 7", "--for 7", "--address nowhere groups", "--address :99 groups",
-                  "--address here:0 groups", "--help",
+                  "--address here:0 groups", "--address here:1,here groups", "--address here:1, groups",
+                  "--address here:1,unix: groups", "--help",
                   "watch a --for 86401", "watch a b", "--address here:65536 groups", "campaign", "campaign a",
                   "campaign a 03", "campaign a 3/0", "campaign A 3", "campaign a 3 4", "campaign a 3 --for 7"):
         ringctl.refuses(*words.split())

@@ -17,13 +17,17 @@ USUAL_PORT, USUAL_CAMPAIGNS = 7400, 7401
 class Fake:
     """A service that gives each client these bytes, then ends its sending or resets, and keeps what it is asked."""
 
-    def __init__(self, replies, port=0, host=HOST, how="end"):
+    def __init__(self, replies, port=0, host=HOST, how="end", path=None):
         self.replies, self.how, self.asked = replies, how, b""
-        self.socket = socket.socket(socket.AF_INET6 if ":" in host else socket.AF_INET)
-        self.socket.setsockopt(socket.SOL_SOCKET, socket.SO_REUSEADDR, 1)
-        bind(self.socket, host, port)
+        if path:
+            self.socket = socket.socket(socket.AF_UNIX)
+            self.socket.bind(str(path))
+        else:
+            self.socket = socket.socket(socket.AF_INET6 if ":" in host else socket.AF_INET)
+            self.socket.setsockopt(socket.SOL_SOCKET, socket.SO_REUSEADDR, 1)
+            bind(self.socket, host, port)
         self.socket.listen()
-        self.port = self.socket.getsockname()[1]
+        self.port = None if path else self.socket.getsockname()[1]
         self.has_ended = threading.Event()
         self.thread = threading.Thread(target=self.serve, daemon=True)
         self.thread.start()

@@ -58,6 +58,7 @@ def refused_words_are_told_with_the_usage(program):
                   ("serve", "x", "--connections", "x"), ("serve", "x", "y", "--connections", "2"),
                   ("run",), ("run", "x", "--sessions", "0"), ("run", "x", "--sessions", "65"),
                   ("run", "x", "--idle", "86401"), ("run", "x", "--connections", "2"),
+                  ("run", "x", "--journal", "etcd://x"),
                   ("--help",), ("serve", "--help"), ("run", "--help"), ("help", "run"), ("run", b"\xff")):
         program.fails(2, None, *words)
 

@@ -57,11 +57,14 @@ def cases_of_chart():
 
 @contextlib.contextmanager
 def cases_of_ctl():
-    """A command, one that is refused, a session, one look of a watch, a campaign to its end, and a request for help."""
+    """A command, one that is refused, a session, one look of a watch, a campaign to its end, and a request for help.
+    Also a command to the second of two addresses."""
     with Service(("127.0.0.1", 0), Answers) as service:
         threading.Thread(target=service.serve_forever, daemon=True).start()
-        address = ("--address", f"127.0.0.1:{service.server_address[1]}")
+        place = f"127.0.0.1:{service.server_address[1]}"
+        address = ("--address", place)
         yield [Case(CTL, *address, "groups"), Case(CTL, *address, "who", "a", "1"),
+               Case(CTL, "--address", f"unix:/nowhere,{place}", "groups"),
                Case(CTL, *address, given=b"groups\n\nhello\nterms a"),
                Case(CTL, *address, "watch", "a", "--for", "0"), Case(CTL, *address, "campaign", "a", "7/9"),
                Case(CTL, "--help")]
