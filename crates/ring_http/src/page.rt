@@ -1,6 +1,7 @@
 //! The files of the page, as texts.
 
 mod document;
+mod others;
 mod ring;
 mod run;
 mod service;
@@ -23,6 +24,7 @@ pub(crate) fn put_page(resource: &Resource, out: &mut Rope) -> Result<(), AllocE
                 service::TEXT,
                 words::TEXT,
                 ring::TEXT,
+                others::TEXT,
                 views::TEXT,
                 run::TEXT,
             ],

@@ -76,6 +76,7 @@ function route() {
   write(one("name"), page.open);
   showParts(false);
   showGroups();
+  showOthers();
   showTitle();
   if (page.open && one("groups").offsetParent === null) one("name").focus();
   if (!page.open) one("groups").children[page.groups.indexOf(before)]?.firstChild.focus();

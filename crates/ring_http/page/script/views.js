@@ -140,11 +140,13 @@ function tell(service, reason = "") {
   document.body.dataset.service = service;
   write(one("service"), { well: "Connected", ill: "Not well", gone: "No answer" }[service]);
   one("banner").hidden = service === "well";
-  const gone = `The service has not answered since ${clock()}. This page shows its last answers, and keeps asking.`;
+  const other = others.length ? " Another process may have taken over." : "";
+  const gone = `The service has not answered since ${clock()}. This page shows its last answers, and keeps asking.${other}`;
   write(one("banner"), { well: "", ill: `The service is not well: ${reason}.`, gone }[service]);
   if (service === "gone") note("The service does not answer.");
   if (was === "gone") note("The service answers again.");
   if (was === "gone" && page.shown) showElection(page.shown);
+  showOthers();
   showTitle();
 }
 

@@ -27,10 +27,14 @@ pub(crate) const TEXT: &str = "<!doctype html>
       ringd
     </a>
   </h1>
-  <p class=\"service\" id=\"service\">Connecting</p>
+  <p class=\"service\" id=\"service\" tabindex=\"-1\">Connecting</p>
 </header>
 
 <p class=\"banner\" id=\"banner\" role=\"alert\" hidden></p>
+<nav class=\"banner others\" id=\"others\" aria-labelledby=\"others-title\" hidden>
+  <p id=\"others-title\">Open this page at another address of the service:</p>
+  <ul id=\"addresses\"></ul>
+</nav>
 <noscript><p class=\"banner\">This page needs JavaScript. The same as JSON is at /v1/groups.</p></noscript>
 
 <div class=\"columns\">

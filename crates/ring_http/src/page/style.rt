@@ -130,6 +130,12 @@ ul:not(:empty) + .none, ol:not(:empty) + .none, .scroll:has(tbody:not(:empty)) +
   color: var(--alarm);
 }
 
+.others { border-color: var(--link); background: var(--panel); color: var(--ink); }
+
+.others ul { display: flex; flex-wrap: wrap; gap: 0.5rem; margin-top: 0.5rem; }
+
+.others a { display: block; padding: 0.5rem 0.875rem; border: 1px solid; border-radius: 8px; }
+
 /* ---- the list: cards by itself, a column next to an open group ---- */
 
 .columns { max-width: 75rem; margin: 0 auto; padding: 0.5rem 1.5rem 3rem; }
