@@ -79,6 +79,11 @@ class Browser:
         self.tool("Emulation.setDeviceMetricsOverride", width=width, height=height, deviceScaleFactor=scale, mobile=False)
         self.tool("Emulation.setEmulatedMedia", features=[{"name": "prefers-color-scheme", "value": scheme}])
 
+    def cut_off(self, is_cut):
+        """Lets all requests fail, or none."""
+        speeds = {"latency": 0, "downloadThroughput": -1, "uploadThroughput": -1}
+        self.tool("Network.emulateNetworkConditions", offline=is_cut, **speeds)
+
     def picture(self):
         """The whole page as a PNG."""
         return base64.b64decode(self.tool("Page.captureScreenshot", format="png", captureBeyondViewport=True)["data"])

@@ -24,6 +24,13 @@ CHART = """const it = document.getElementById('chart');
     const within = it.getBoundingClientRect().right < innerWidth;
     return [within, it.scrollWidth > it.clientWidth, getComputedStyle(it).backgroundColor]"""
 
+# The links to other addresses that are seen.
+LINKS = """return [...document.querySelectorAll('#others a')].filter((it) => it.checkVisibility())
+    .map((it) => [it.textContent, it.getAttribute('href')])"""
+# How many elements there are next to the links, each of which has a line of its own.
+STRANGE = "return document.querySelectorAll('#others *').length - 2 - 2 * document.querySelectorAll('#others a').length"
+AT = "return location.host === arguments[0] && document.readyState === 'complete'"
+
 # Each text whose contrast with the ground is less than 4.5 to 1.
 PALE = """
     const parts = (color) => color.match(/[0-9.]+/g).map(Number);

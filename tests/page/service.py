@@ -6,24 +6,34 @@ import subprocess
 import time
 
 from browser import wait_for
-from serving import HOST, Client, Differs, ended, free_port, short, text_of
+from ports import HOST, next_port
+from serving import Client, Differs, ended, short, text_of
 
 
 class Service:
-    """The program with a journal, which is ended and started again."""
+    """The program with a journal, which is ended and started again. Its journal is this one, or a file of its own."""
 
-    def __init__(self, program, folder):
-        self.port, self.http, self.run = free_port(), free_port(), None
-        self.file, self.journal = pathlib.Path(folder, "ring.toml"), pathlib.Path(folder, "journal")
-        self.file.write_bytes(text_of(self.port))
-        self.words = [os.path.abspath(program), "run", str(self.file)]
-        self.words += ["--http", str(self.http), "--journal", str(self.journal)]
-        self.site = f"http://{HOST}:{self.http}/"
+    def __init__(self, program, folder, journal=None):
+        self.port, self.http, self.run = next_port(), next_port(), None
+        file, self.journal = pathlib.Path(folder, f"{self.port}.toml"), pathlib.Path(folder, "journal")
+        file.write_bytes(text_of(self.port))
+        self.words = [os.path.abspath(program), "run", str(file)]
+        self.words += ["--http", str(self.http), "--journal", journal or str(self.journal)]
+        self.address = f"{HOST}:{self.http}"
+        self.site = f"http://{self.address}/"
 
     def start(self):
         """Starts it, and waits until it answers."""
+        self.begin()
+        self.wait()
+
+    def begin(self):
+        """Starts it."""
         self.run = subprocess.Popen(self.words, stdin=subprocess.DEVNULL, stdout=subprocess.PIPE,
                                     stderr=subprocess.PIPE)
+
+    def wait(self):
+        """Waits until it answers."""
         line = self.run.stdout.readline()
         if line != b"listening 127.0.0.1:%d\n" % self.port:
             self.run.kill()
