@@ -1,5 +1,10 @@
 pub mod Crossing
+pub mod Following
+pub mod Fresh
 pub mod Held
+pub mod Steps
 pub mod Telling
 pub mod Texts
 pub mod Values
+pub mod Whole
+pub mod Worked

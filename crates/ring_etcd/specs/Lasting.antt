@@ -61,7 +61,7 @@ EntriesAreHeld =
     (earlier : List Request) (text : ℕ) (held : List (List ℕ)) (entry : List ℕ)
     → WereAt earlier text held
     → Succeeds (log_after earlier) (put text (length held) entry)
-      ⊎ WasAt earlier text (length held) entry
+    ⊎ WasAt earlier text (length held) entry
     → WereAt (put text (length held) entry ∷ earlier) text (held ++ entry ∷ [])
 
 -- The text counts that an engine asked for. So the engine holds its bytes.

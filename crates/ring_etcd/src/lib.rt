@@ -89,6 +89,7 @@ mod engine;
 mod etcd;
 mod gateway;
 mod keys;
+mod lasting;
 mod lease;
 mod looking;
 mod medium;
@@ -100,6 +101,7 @@ mod store;
 
 pub use engine::{Engine, EngineFault};
 pub use etcd::Etcd;
+pub use lasting::{asked_once, engine_holds, nothing_is_lost, stay_for_good};
 pub use lease::{LOOKS, Lease};
 pub use medium::{EtcdMedium, Standing};
 pub use place::{EtcdFault, EtcdPlace};
