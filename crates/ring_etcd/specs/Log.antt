@@ -53,14 +53,14 @@ abbrev pub Was : (Log → Type 0) → List Request → Type 0
 Was P [] = P (log_after [])
 Was P (request ∷ earlier) = P (log_after (request ∷ earlier)) ⊎ Was P earlier
 
--- A text counted and had this at a number. A process knows so of each value that a reply has, or
--- says that it was put.
+-- A text counted, and had this at a number. If a reply has a value, or says that it was put, then it
+-- was there.
 abbrev pub WasAt : List Request → ℕ → ℕ → List ℕ → Type 0
 WasAt history text number value =
     Was (λ log. (log.text ≡ text) × (log.at number ≡ Some value)) history
 
--- These were at the numbers of a text from 0 on, be it at different moments. What an engine holds
--- is such a list, and so is what a process read that takes over.
+-- These were at the numbers of a text from 0 on, be it at different moments. What a process read is
+-- such a list. So is what an engine holds, with a first byte before each entry.
 abbrev pub WereAt : List Request → ℕ → List (List ℕ) → Type 0
 WereAt history text values =
     (number : ℕ) (value : List ℕ) → slice_get values number ≡ Some value
@@ -80,7 +80,7 @@ pub record AreFresh (history : List Request) : Type 0 where
       → slice_get history j ≡ Some (switch u m new y)
       → (t ≡ u) × (x ≡ y)
 
--- The number is the one after a number of which the process knows a value.
+-- The number of a request is the one after a number at which something was.
 pub record IsNext (request : Request) (earlier : List Request) : Type 0 where
   pub last : ℕ
   pub value : List ℕ

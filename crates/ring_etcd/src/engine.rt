@@ -21,10 +21,12 @@ pub enum EngineFault {
 /// entries after it, under the numbers 1, 2, 3 and so on.
 ///
 /// The ghost member `held` has the text that this process put and the entries that it put after it,
-/// in the order of their numbers, as far as the engine answered that they are there. This is the
-/// promise of the engine, which no proof can give: an entry that was put at a number is there for
-/// good, and nothing else is ever at that number. It lasts until another text counts, which only a
-/// process does that has read these.
+/// in the order of their numbers, as far as the engine answered that they are there.
+///
+/// Of etcd it is assumed that each request happens at one instant, in one order, or not at all, and
+/// that a reply says what was so then. What follows is proved (`stay_for_good`, `asked_once` and
+/// `nothing_is_lost`). What is in `held` is at its numbers as long as the text counts, and nothing
+/// else ever is. Another text comes to count only by a process that has read all of it.
 pub trait Engine {
     ghost use Rattle.std.specs.Prelude.{List, ℕ};
 

@@ -22,15 +22,15 @@ pub fn asked_once()
     ensures again { RepeatsChangeNothing }
 {}
 
-/// A process that takes over read all that is there, if its entry is put at the next number. Once
-/// its text counts, all that any process holds of the text before is the first part of what it read.
+/// If a process read a text with its entries, and its own entry is put at the next number, nothing
+/// else is there. Once its text counts, it has read all that any process holds of the text before.
 pub fn nothing_is_lost()
     ensures mark { MarksFollowAll }
     ensures text { TextsFollowAll }
 {}
 
-/// What `Engine` says of `held`: a text that an engine began, and each entry that it put or found at
-/// the next number, was at its number. By the other laws it is there for good, and is not lost.
+/// The text that an engine began, and each entry that it put or found at the next number, was at
+/// its number. That is what `Engine` says of `held`. By the other laws it is there for good.
 pub fn engine_holds()
     ensures entry { EntriesAreHeld }
     ensures text { TextsAreHeld }

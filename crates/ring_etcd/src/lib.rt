@@ -3,10 +3,14 @@
 //! # What the engine promises
 //!
 //! etcd carries out each request at one instant, in one order for all members, or not at all. A
-//! reply says what happened at that instant, and what was put stays until a request deletes it. So
-//! an entry that was put "if absent" at a number is there for good, and nothing else is at that
-//! number. No proof can give this. `Engine` states it, and its ghost member `held` has the entries
-//! of which a reply said that they are there.
+//! reply says what happened at that instant, and what was put stays until a request deletes it. No
+//! proof can give this.
+//!
+//! It follows that an entry which was put "if absent" at a number is there as long as its text
+//! counts, and that nothing else ever is. A text that takes the place of another follows all of its
+//! entries. These laws are proved of each history of requests (`stay_for_good`, `asked_once`,
+//! `nothing_is_lost`). The ghost member `held` of `Engine` has the entries of which a reply said
+//! that they are there (`engine_holds`).
 //!
 //! # What is in etcd
 //!
