@@ -1,9 +1,9 @@
--- What is at a number of a text is there for good, and the next text follows all of it. This holds
--- in each history of all requests, late and repeated ones too.
+-- A value at a number of a text is there for good, and the next text follows all of them. This is
+-- so in each history of requests, with late and repeated ones.
 use Rattle.std.specs.Prelude.{◌≡◌, ◌≢◌, ◌⊎◌, ℕ, List, [], ◌∷◌, ◌++◌, Some, length, slice_get}
 use Rattle.ring_etcd.specs.Log.{AreAll, AreFresh, AreInTurn, Request, Succeeds, Was, WasAt, WereAt, log_after, put, switch}
 
--- What was at a number is there as long as its text counts.
+-- A value that was at a number is there as long as its text counts.
 abbrev pub ValuesStay : Type 0
 ValuesStay =
     (history : List Request) (text number : ℕ) (value : List ℕ)

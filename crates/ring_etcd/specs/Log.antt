@@ -53,14 +53,14 @@ abbrev pub Was : (Log → Type 0) → List Request → Type 0
 Was P [] = P (log_after [])
 Was P (request ∷ earlier) = P (log_after (request ∷ earlier)) ⊎ Was P earlier
 
--- A text counted, and had this at a number. If a reply has a value, or says that it was put, then it
--- was there.
+-- A text counted, and had this at a number. If a reply has a value, or says that it was put, it was
+-- there.
 abbrev pub WasAt : List Request → ℕ → ℕ → List ℕ → Type 0
 WasAt history text number value =
     Was (λ log. (log.text ≡ text) × (log.at number ≡ Some value)) history
 
--- These were at the numbers of a text from 0 on, be it at different moments. What a process read is
--- such a list. So is what an engine holds, with a first byte before each entry.
+-- These were at the numbers of a text from 0 on, be it at different moments. A process that takes
+-- over reads such a list. An engine holds such a list, without the first byte of each entry.
 abbrev pub WereAt : List Request → ℕ → List (List ℕ) → Type 0
 WereAt history text values =
     (number : ℕ) (value : List ℕ) → slice_get values number ≡ Some value

@@ -23,10 +23,11 @@ pub enum EngineFault {
 /// The ghost member `held` has the text that this process put and the entries that it put after it,
 /// in the order of their numbers, as far as the engine answered that they are there.
 ///
-/// Of etcd it is assumed that each request happens at one instant, in one order, or not at all, and
-/// that a reply says what was so then. What follows is proved (`stay_for_good`, `asked_once` and
-/// `nothing_is_lost`). What is in `held` is at its numbers as long as the text counts, and nothing
-/// else ever is. Another text comes to count only by a process that has read all of it.
+/// Each value in `held` is at its number as long as the text counts, and nothing else ever is. Once
+/// another text counts, its process has read all of `held`. No proof can give this of etcd alone.
+/// It is assumed that each request happens at one instant, in one order, or not at all, and that a
+/// reply says what was so then. The rest follows by the laws `engine_holds`, `stay_for_good`,
+/// `asked_once` and `nothing_is_lost`, whose premises say what processes ask for.
 pub trait Engine {
     ghost use Rattle.std.specs.Prelude.{List, ℕ};
 
