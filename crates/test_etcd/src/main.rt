@@ -8,7 +8,10 @@
 #![tactic(auto)]
 
 use anyhow::{Context, Result, bail};
-use ring_etcd::{Engine, EtcdMedium, EtcdPlace, Standing};
+use ring_etcd::{
+    Engine, EtcdMedium, EtcdPlace, Standing, asked_once, engine_holds, nothing_is_lost,
+    stay_for_good,
+};
 use ring_journal::{Batch, Medium};
 use std::alloc::Global;
 use std::io;
@@ -93,5 +96,10 @@ where
 }
 
 fn main(rt: HostRuntime) -> Result<()> {
+    // the laws that the journal rests on, which do nothing
+    stay_for_good();
+    asked_once();
+    nothing_is_lost();
+    engine_holds();
     run(&rt)
 }
