@@ -12,7 +12,7 @@ import struct
 import time
 
 from failing import REFUSED, Failing
-from serving import PATIENCE
+from server import PATIENCE
 from sweep import Bad
 
 # The members by their numbers, as lines name them. The first comes alone.

@@ -8,7 +8,7 @@ import itertools
 
 from failing import Gone
 from journal import ENDED, FAILED
-from serving import serving
+from server import serving
 from sweep import Bad, FAULTS, NO_MEMORY
 from table import CHANCES, FEW, IN_A_ROW, THIRD, Sweep, growths_behind, seeds_of, sweep_all
 

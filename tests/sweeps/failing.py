@@ -7,7 +7,7 @@ again. If more fails than that, the program has to end.
 import re
 import subprocess
 
-from serving import PATIENCE, Client, Lost
+from server import PATIENCE, Client, Lost
 from sweep import Bad
 
 # The calls by which a connection may end, or a command be refused, if they fail.

@@ -14,7 +14,7 @@ import itertools
 import subprocess
 import zlib
 
-from serving import Client, Lost, serving
+from server import Client, Lost, serving
 from sweep import Bad, NO_MEMORY
 from table import Sweep, or_none, sweep_all
 

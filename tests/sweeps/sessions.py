@@ -11,7 +11,7 @@ import itertools
 import re
 import time
 
-from serving import Client, Lost, serving
+from server import Client, Lost, serving
 from sweep import Bad, NO_MEMORY
 from table import CHANCES, IN_A_ROW, Sweep, growths_behind, seeds_of, sweep_all
 

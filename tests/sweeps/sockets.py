@@ -7,7 +7,7 @@ Each works in a group of its own, so the replies of each are the same whatever b
 import itertools
 import time
 
-from serving import PATIENCE, Client, Lost, serving
+from server import PATIENCE, Client, Lost, serving
 from sweep import Bad
 from table import Sweep, or_none, sweep_all
 

@@ -10,7 +10,7 @@ import time
 
 from failing import Failing
 from identity import identity_of
-from serving import PATIENCE, Lost
+from server import PATIENCE, Lost
 from sums import sum_of
 from sweep import Bad, ROOT
 

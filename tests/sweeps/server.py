@@ -83,7 +83,7 @@ class Server:
     def __init__(self, library, program, words, workers=2, inbox=64, journal=None, campaigns=False, http=False,
                  **wrong):
         self.program, self.words, self.workers, self.inbox = program, words, workers, inbox
-        self.campaigns, self.http, self.may_refuse_ports = campaigns, http, "setsockopt" in wrong
+        self.campaigns, self.http, self.may_refuse_ports = campaigns, http, {"setsockopt", "socket"} & {*wrong}
         settings = {f"SWEEP_{name.upper()}": str(value) for name, value in wrong.items()}
         self.environment = {**os.environ, "LD_PRELOAD": str(library), **settings}
         self.folder = tempfile.TemporaryDirectory()
