@@ -1,4 +1,5 @@
 pub mod Crossing
+pub mod Digits
 pub mod Following
 pub mod Fresh
 pub mod Held

@@ -1,0 +1,49 @@
+-- The keys of a journal, before they are in base 64.
+use Rattle.std.specs.Prelude.{ℕ, List, ◌++◌, ◌-◌, codes, decimal, length, replicate}
+
+-- the 20 digits of a number, with zeros first
+abbrev pub twenty_digits : ℕ → List ℕ
+twenty_digits number = replicate (20 - length (decimal number)) 48 ++ decimal number
+
+-- Each put of it has a revision of its own.
+abbrev pub ids_key : List ℕ → List ℕ
+ids_key name = codes "ring/" ++ (name ++ codes "/ids")
+
+-- the key of the lease
+abbrev pub lease_key : List ℕ → List ℕ
+lease_key name = codes "ring/" ++ (name ++ codes "/lease")
+
+-- the key of the base
+abbrev pub base_key : List ℕ → List ℕ
+base_key name = codes "ring/" ++ (name ++ codes "/base")
+
+-- an entry after a text, by its number
+abbrev pub entry_key : List ℕ → ℕ → ℕ → List ℕ
+entry_key name text number =
+    codes "ring/" ++ (name ++ (codes "/t/" ++ (twenty_digits text
+    ++ (codes "/e/" ++ twenty_digits number))))
+
+-- It is after those of all entries after a text.
+abbrev pub after_entries_key : List ℕ → ℕ → List ℕ
+after_entries_key name text =
+    codes "ring/" ++ (name ++ (codes "/t/" ++ (twenty_digits text ++ codes "/e0")))
+
+-- a piece of a text, by its number
+abbrev pub piece_key : List ℕ → ℕ → ℕ → List ℕ
+piece_key name text number =
+    codes "ring/" ++ (name ++ (codes "/t/" ++ (twenty_digits text
+    ++ (codes "/p/" ++ twenty_digits number))))
+
+-- It is after those of all pieces of a text.
+abbrev pub after_pieces_key : List ℕ → ℕ → List ℕ
+after_pieces_key name text =
+    codes "ring/" ++ (name ++ (codes "/t/" ++ (twenty_digits text ++ codes "/p0")))
+
+-- It is before those of all texts.
+abbrev pub before_texts_key : List ℕ → List ℕ
+before_texts_key name = codes "ring/" ++ (name ++ codes "/t/")
+
+-- It is before those of this text, and after those of all earlier ones.
+abbrev pub before_text_key : List ℕ → ℕ → List ℕ
+before_text_key name text =
+    codes "ring/" ++ (name ++ (codes "/t/" ++ (twenty_digits text ++ codes "/")))
