@@ -1,7 +1,10 @@
 //! What is asked of etcd, and what it said.
-ghost use Rattle.std.specs.Prelude.{◌≡◌, ◌↔◌, Some, IfOk, IsTrue, option_map};
+ghost use Rattle.std.specs.Prelude.{◌≡◌, ◌↔◌, Some, IfOk, IsTrue, option_map, string_bytes};
+ghost use Rattle.base64.specs.Engines.{standard};
+ghost use Rattle.base64.specs.GeneralPurpose.{encode_of};
 ghost use Rattle.serde_json.specs.Data.{Data};
 ghost use Rattle.ring_etcd.specs.private.Bases.{base_text};
+ghost use Rattle.ring_etcd.specs.private.Keys.{entry_key, piece_key};
 ghost use Rattle.ring_etcd.specs.private.Putting.{IsPut, IsPutOver, IsSwitched};
 ghost use Rattle.ring_etcd.specs.private.Told.{IsToldPut, IsToldSwitched};
 
@@ -178,13 +181,19 @@ impl<R: Net<Stream = TcpStream> + Clock + AllocGlobal + Drop> Store<R> {
     }
 
     /// Returns whether a pair is the entry with this number after a text.
-    pub(crate) fn is_entry(&self, pair: &Pair, text: u64, number: u64) -> Result<bool, AskFault> {
+    pub(crate) fn is_entry(&self, pair: &Pair, text: u64, number: u64) -> Result<bool, AskFault>
+        ensures { IfOk result (λ is_entry. IsTrue is_entry ↔ (string_bytes pair.now.key
+            ≡ encode_of standard (entry_key (string_bytes self.now.keys.name) text number))) }
+    {
         let key = self.keys.entry(text, number)?;
         Ok(pair.key.as_str() == key.as_str())
     }
 
     /// Returns whether a pair is the piece with this number of a text.
-    pub(crate) fn is_piece(&self, pair: &Pair, text: u64, number: u64) -> Result<bool, AskFault> {
+    pub(crate) fn is_piece(&self, pair: &Pair, text: u64, number: u64) -> Result<bool, AskFault>
+        ensures { IfOk result (λ is_piece. IsTrue is_piece ↔ (string_bytes pair.now.key
+            ≡ encode_of standard (piece_key (string_bytes self.now.keys.name) text number))) }
+    {
         let key = self.keys.piece(text, number)?;
         Ok(pair.key.as_str() == key.as_str())
     }
