@@ -3,13 +3,12 @@ ghost use Rattle.std.specs.Prelude.{◌≡◌, ◌==◌, ◌+◌, ◌↔◌, ◌
 ghost use Rattle.serde_json.specs.Data.{Data};
 ghost use Rattle.ring_etcd.specs.Leases.{MayClaim, looked};
 ghost use Rattle.ring_etcd.specs.Done.{IsDone};
-ghost use Rattle.ring_etcd.specs.private.Replies.{IsSeen};
+ghost use Rattle.ring_etcd.specs.private.Replies.{IsRevision, IsSeen};
 
 use crate::cluster::{Cluster, Limits};
-use crate::keys::{Keys, encoded};
+use crate::keys::Keys;
 use crate::place::EtcdFault;
 use crate::replies::{Claimed, Revision, Seen};
-use crate::requests;
 use crate::requests::{PUT, RANGE, TXN};
 use crate::store::AskFault;
 use std::marker::Model;
@@ -30,10 +29,9 @@ pub const LOOKS: u32 = 10;
 #[derive(Drop)]
 pub struct Lease<R> {
     cluster: Cluster<R>,
-    // the key, in base 64
-    key: String,
-    // the value that this process puts, in base 64: no other process has its number
-    token: String,
+    keys: Keys,
+    // the number that this process puts; no other process has it
+    process: u64,
     // the revision of the last put that the last look found; 0 if there was none
     revision: u64,
     // how many looks in a row found it, `LOOKS` at most
@@ -56,11 +54,11 @@ impl<R: Net<Stream = TcpStream> + Clock + AllocGlobal + Copy + Drop> Lease<R> {
     {
         let keys = Keys::new(rt.alloc(), name)?;
         let mut cluster = Cluster::new(*rt, members, Limits::LEASE)?;
-        let token = new_token(&mut cluster, &keys)?;
+        let process = new_number(&mut cluster, &keys)?;
         Ok(Lease {
             cluster,
-            key: keys.lease()?,
-            token,
+            keys,
+            process,
             revision: 0,
             looks: 0,
         })
@@ -125,8 +123,7 @@ impl<R: Net<Stream = TcpStream> + Clock + AllocGlobal + Copy + Drop> Lease<R> {
         ensures held { IfOk result (λ is_held. (reply : Data) × (IsTrue is_held ↔ IsDone reply)) }
         ensures same { self.new ≡ self.old }
     {
-        let alloc = self.cluster.alloc();
-        let body = requests::renew(alloc, self.key.as_str(), self.token.as_str())?;
+        let body = self.keys.renewal_request(self.process)?;
         let Claimed(is_held) = self.cluster.ask(TXN, body.as_str())?;
         Ok(is_held)
     }
@@ -137,7 +134,7 @@ impl<R: Net<Stream = TcpStream> + Clock + AllocGlobal + Copy + Drop> Lease<R> {
         ensures looked { IfOk result (λ revision. (reply : Data) × IsSeen reply revision) }
         ensures same { self.new ≡ self.old }
     {
-        let body = requests::get(self.cluster.alloc(), self.key.as_str())?;
+        let body = self.keys.look_request()?;
         let Seen(revision) = self.cluster.ask(RANGE, body.as_str())?;
         Ok(revision)
     }
@@ -148,23 +145,21 @@ impl<R: Net<Stream = TcpStream> + Clock + AllocGlobal + Copy + Drop> Lease<R> {
         ensures claimed { IfOk result (λ is_claimed. (reply : Data) × (IsTrue is_claimed ↔ IsDone reply)) }
         ensures same { self.new ≡ self.old }
     {
-        let alloc = self.cluster.alloc();
-        let body = requests::claim(alloc, self.key.as_str(), revision, self.token.as_str())?;
+        let body = self.keys.claim_request(revision, self.process)?;
         let Claimed(is_claimed) = self.cluster.ask(TXN, body.as_str())?;
         Ok(is_claimed)
     }
 }
 
-// Returns a number that no other process has, in base 64: the revision of a put.
-fn new_token<R>(cluster: &mut Cluster<R>, keys: &Keys) -> Result<String, AskFault>
+// Returns a number that no other process has: the revision of a put, as a reply says.
+fn new_number<R>(cluster: &mut Cluster<R>, keys: &Keys) -> Result<u64, AskFault>
 where
     R: Net<Stream = TcpStream> + Clock + AllocGlobal + Drop,
+    ensures { IfOk result (λ number. (reply : Data) × IsRevision reply number) }
 {
-    let alloc = cluster.alloc();
-    let body = requests::put(alloc, keys.ids()?.as_str(), "")?;
+    let body = keys.identity_request()?;
     let Revision(number) = cluster.ask(PUT, body.as_str())?;
-    let text = format!(in alloc; "{number}")?;
-    Ok(encoded(alloc, text.as_str().as_bytes())?)
+    Ok(number)
 }
 
 // How many looks in a row found a revision that one more look found, `LOOKS` at most.

@@ -88,6 +88,7 @@
 #![tactic(auto)]
 
 mod base;
+mod bodies;
 mod cluster;
 mod engine;
 mod etcd;

@@ -6,14 +6,14 @@ ghost use Rattle.serde_json.specs.Data.{Data};
 ghost use Rattle.ring_etcd.specs.private.Bases.{base_text};
 ghost use Rattle.ring_etcd.specs.private.Keys.{entry_key, piece_key};
 ghost use Rattle.ring_etcd.specs.private.Putting.{IsPut, IsPutOver, IsSwitched};
+ghost use Rattle.ring_etcd.specs.private.Replies.{IsRevision};
 ghost use Rattle.ring_etcd.specs.private.Told.{IsToldPut, IsToldSwitched};
 
 use crate::base::Base;
 use crate::cluster::{Cluster, NoAnswer};
-use crate::keys::{Keys, encoded};
+use crate::keys::Keys;
 use crate::replies::{Page, Pair, Revision, Said};
-use crate::requests;
-use crate::requests::{PUT, RANGE, Slot, TXN};
+use crate::requests::{PUT, RANGE, TXN};
 use std::alloc::{AllocError, Global};
 use std::net::{Net, TcpStream};
 use std::time::Clock;
@@ -69,25 +69,24 @@ impl<R: Net<Stream = TcpStream> + Clock + AllocGlobal + Drop> Store<R> {
     }
 
     /// Returns a number that no process was given before: the revision of a put.
-    pub(crate) fn identity(&mut self) -> Result<u64, AskFault> {
-        let body = requests::put(self.alloc(), self.keys.ids()?.as_str(), "")?;
+    pub(crate) fn identity(&mut self) -> Result<u64, AskFault>
+        ensures { IfOk result (λ identity. (reply : Data) × IsRevision reply identity) }
+    {
+        let body = self.keys.identity_request()?;
         let Revision(revision) = self.cluster.ask(PUT, body.as_str())?;
         Ok(revision)
     }
 
     /// Returns the value of the base, or `None` if the journal was never begun.
     pub(crate) fn base(&mut self) -> Result<Option<Vec<u8>>, AskFault> {
-        let body = requests::get(self.alloc(), self.keys.base()?.as_str())?;
+        let body = self.keys.base_request()?;
         let Page { mut pairs } = self.cluster.ask(RANGE, body.as_str())?;
         Ok(pairs.pop().map(|pair| pair.value))
     }
 
     /// Begins the journal by a base, unless it was begun before.
     pub(crate) fn put_base(&mut self, base: Base) -> Result<(), AskFault> {
-        let alloc = self.alloc();
-        let value = base.value(alloc)?;
-        let value = encoded(alloc, value.as_str().as_bytes())?;
-        let body = requests::put_first(alloc, self.keys.base()?.as_str(), value.as_str())?;
+        let body = self.keys.first_base_request(base)?;
         let _said: Said = self.cluster.ask(TXN, body.as_str())?;
         Ok(())
     }
@@ -99,10 +98,7 @@ impl<R: Net<Stream = TcpStream> + Clock + AllocGlobal + Drop> Store<R> {
         number: u64,
         piece: &[u8],
     ) -> Result<(), AskFault> {
-        let alloc = self.alloc();
-        let key = self.keys.piece(text, number)?;
-        let value = encoded(alloc, piece)?;
-        let body = requests::put(alloc, key.as_str(), value.as_str())?;
+        let body = self.keys.piece_request(text, number, piece)?;
         let Revision(_) = self.cluster.ask(PUT, body.as_str())?;
         Ok(())
     }
@@ -119,18 +115,8 @@ impl<R: Net<Stream = TcpStream> + Clock + AllocGlobal + Drop> Store<R> {
         ensures { IfOk result (λ put. (reply : Data)
             × IsToldPut reply entry.now (base_text base.text base.pieces) put) }
     {
-        let alloc = self.alloc();
-        let base_key = self.keys.base()?;
-        let counts = base.value(alloc)?;
-        let counts_text = encoded(alloc, counts.as_str().as_bytes())?;
-        let key = self.keys.entry(base.text, number)?;
-        let value = encoded(alloc, entry)?;
-        let slot = Slot {
-            base_key: base_key.as_str(),
-            base: counts_text.as_str(),
-            key: key.as_str(),
-        };
-        let body = requests::put_entry(alloc, slot, value.as_str())?;
+        let counts = base.value(self.alloc())?;
+        let body = self.keys.entry_request(base, number, entry)?;
         let said = self.cluster.ask(TXN, body.as_str())?;
         Ok(put_of(said, entry, counts.as_str().as_bytes()))
     }
@@ -143,39 +129,22 @@ impl<R: Net<Stream = TcpStream> + Clock + AllocGlobal + Drop> Store<R> {
         ensures { IfOk result (λ is_done. (reply : Data)
             × (IsTrue is_done → IsToldSwitched reply (base_text new.text new.pieces))) }
     {
-        let alloc = self.alloc();
-        let base_key = self.keys.base()?;
-        let counts = old.value(alloc)?;
-        let counts = encoded(alloc, counts.as_str().as_bytes())?;
-        let key = self.keys.entry(old.text, number)?;
-        let value = new.value(alloc)?;
-        let text = encoded(alloc, value.as_str().as_bytes())?;
-        let from = self.keys.before_texts()?;
-        let to = self.keys.before_text(new.text)?;
-        let slot = Slot {
-            base_key: base_key.as_str(),
-            base: counts.as_str(),
-            key: key.as_str(),
-        };
-        let body = requests::switch(alloc, slot, text.as_str(), from.as_str(), to.as_str())?;
+        let value = new.value(self.alloc())?;
+        let body = self.keys.switch_request(old, number, new)?;
         let said = self.cluster.ask(TXN, body.as_str())?;
         Ok(is_base(said, value.as_str().as_bytes()))
     }
 
     /// Returns the first entries after a text, from a number on.
     pub(crate) fn entries(&mut self, text: u64, number: u64) -> Result<Vec<Pair>, AskFault> {
-        let from = self.keys.entry(text, number)?;
-        let end = self.keys.after_entries(text)?;
-        let body = requests::range(self.alloc(), from.as_str(), end.as_str())?;
+        let body = self.keys.entries_request(text, number)?;
         let Page { pairs } = self.cluster.ask(RANGE, body.as_str())?;
         Ok(pairs)
     }
 
     /// Returns the first pieces of a text, from a number on.
     pub(crate) fn pieces(&mut self, text: u64, number: u64) -> Result<Vec<Pair>, AskFault> {
-        let from = self.keys.piece(text, number)?;
-        let end = self.keys.after_pieces(text)?;
-        let body = requests::range(self.alloc(), from.as_str(), end.as_str())?;
+        let body = self.keys.pieces_request(text, number)?;
         let Page { pairs } = self.cluster.ask(RANGE, body.as_str())?;
         Ok(pairs)
     }

@@ -6,6 +6,6 @@ pub returns : goal.returns
 returns g c = (
   c.in_ok-said.ensures.0,
   λ yes. told_switched _ _ _ _ c.in_ok-said.ensures.1
-      (c.as_bytes-3.ensures.value ∙ c.as_str-10.ensures.value ∙ c.in_ok-value.ensures)
+      (c.as_bytes.ensures.value ∙ c.as_str-2.ensures.value ∙ c.in_ok-value.ensures)
       (c.is_base.ensures.0 yes),
 )

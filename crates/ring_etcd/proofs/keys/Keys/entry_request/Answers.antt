@@ -1,0 +1,14 @@
+use Rattle.ring_etcd.proofs.keys.Keys.entry_request.Goals as goal
+
+pub returns : goal.returns
+returns c =
+    simp (
+      c.as_str.ensures.value,
+      c.as_str-2.ensures.value,
+      c.as_str-3.ensures.value,
+      c.as_str-4.ensures.value,
+      c.in_ok-base_key.ensures,
+      c.in_ok-counts.ensures,
+      c.in_ok-key.ensures,
+      c.in_ok-value.ensures,
+    ) at c.put_entry.ensures
