@@ -3,6 +3,7 @@ pub mod Digits
 pub mod Following
 pub mod Fresh
 pub mod Held
+pub mod Sending
 pub mod Steps
 pub mod Telling
 pub mod Texts

@@ -1,5 +1,6 @@
 pub mod Bases
 pub mod Entries
+pub mod Http
 pub mod Keys
 pub mod Putting
 pub mod Replies

@@ -1,8 +1,9 @@
 //! Requests to the JSON gateway of etcd, over one connection.
 ghost use Rattle.std.specs.Prelude.{◌≡◌, ◌≤◌, ◌+◌, ◌++◌, length, List, ℕ, OnOk};
+ghost use Rattle.ring_etcd.specs.private.Http.{request_text};
 
 use bytes::{Buf, BytesMut};
-use http1::{BodySize, Client, Event, Header, Limits};
+use http1::{BodySize, Client, Event, Header, Limits, WriteError};
 use httparse::spans::EMPTY_HEADER_SPAN;
 use std::alloc::Global;
 use std::io::{Read, Write};
@@ -17,6 +18,12 @@ const PIECE: usize = 65536;
 /// HTTP, was too long, or had another status than 200.
 #[derive(Clone, Copy, Debug, PartialEq, Eq)]
 pub(crate) struct NoReply;
+
+impl From<WriteError> for NoReply {
+    fn from(_error: WriteError) -> NoReply {
+        NoReply
+    }
+}
 
 // What a step of reading a reply came to.
 #[derive(Clone, Copy)]
@@ -82,7 +89,10 @@ impl<S: Read + Write + Drop> Gateway<S> {
     }
 
     // Puts a request with this body into the buffer.
-    fn write(&mut self, path: &str, body: &str) -> Result<(), NoReply> {
+    fn write(&mut self, path: &str, body: &str) -> Result<(), NoReply>
+        ensures { OnOk result
+            (self.new.output.items ≡ self.old.output.items ++ request_text path.now body.now) }
+    {
         let headers = [
             Header {
                 name: b"host",
@@ -95,13 +105,10 @@ impl<S: Read + Write + Drop> Gateway<S> {
         ];
         let size = BodySize::Known(body.len() as u64);
         let (client, output) = (&mut self.client, &mut self.output);
-        client
-            .write_request(output, b"POST", path.as_bytes(), &headers, size)
-            .map_err(|_| NoReply)?;
-        client
-            .write_data(output, body.as_bytes())
-            .map_err(|_| NoReply)?;
-        client.write_end(output, &[]).map_err(|_| NoReply)
+        client.write_request(output, b"POST", path.as_bytes(), &headers, size)?;
+        client.write_data(output, body.as_bytes())?;
+        client.write_end(output, &[])?;
+        Ok(())
     }
 
     // Takes the next part of the reply, and adds the bytes of its body. Reads from the stream if
