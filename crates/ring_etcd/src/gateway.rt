@@ -1,5 +1,6 @@
 //! Requests to the JSON gateway of etcd, over one connection.
 ghost use Rattle.std.specs.Prelude.{◌≡◌, ◌≤◌, ◌+◌, ◌++◌, length, List, ℕ, OnOk};
+ghost use Rattle.std.specs.Io.KnownBytes.{Appends};
 ghost use Rattle.ring_etcd.specs.private.Http.{request_text};
 
 use bytes::{Buf, BytesMut};
@@ -80,18 +81,23 @@ impl<S: Read + Write + Drop> Gateway<S> {
     }
 
     // Sends a request with this body.
-    fn send(&mut self, path: &str, body: &str) -> Result<(), NoReply> {
+    fn send(&mut self, path: &str, body: &str) -> Result<(), NoReply>
+        ensures { OnOk result (Appends (S.contents self.old.stream) (S.contents self.new.stream)
+            (request_text path.now body.now)) }
+    {
         self.output.clear();
         self.write(path, body)?;
-        self.stream
-            .write_all(self.output.as_slice())
-            .map_err(|_| NoReply)
+        match self.stream.write_all(self.output.as_slice()) {
+            Ok(()) => Ok(()),
+            Err(_) => Err(NoReply),
+        }
     }
 
     // Puts a request with this body into the buffer.
     fn write(&mut self, path: &str, body: &str) -> Result<(), NoReply>
-        ensures { OnOk result
+        ensures bytes { OnOk result
             (self.new.output.items ≡ self.old.output.items ++ request_text path.now body.now) }
+        ensures same { self.new.stream ≡ self.old.stream }
     {
         let headers = [
             Header {
