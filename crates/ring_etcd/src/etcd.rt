@@ -1,5 +1,5 @@
 //! The engine on etcd.
-ghost use Rattle.std.specs.Prelude.{◌≡◌, ◌∷◌, [], IfOk};
+ghost use Rattle.std.specs.Prelude.{◌≡◌, ◌++◌, ◌∷◌, [], IfOk, OnErr, OnOk};
 
 use crate::base::Base;
 use crate::engine::{Engine, EngineFault};
@@ -26,6 +26,10 @@ impl From<AskFault> for EngineFault {
         }
     }
 }
+
+/// How often an entry is tried at most while allocations fail. Between two attempts 200 milliseconds
+/// pass.
+const TRIES: u32 = 64;
 
 /// A text in etcd that this process put, and the entries that it put after it.
 ///
@@ -106,13 +110,13 @@ impl<R: Net<Stream = TcpStream> + Clock + AllocGlobal + Drop> Etcd<R> {
         entry.extend_from_slice(bytes)?;
         Ok(entry)
     }
-}
 
-impl<R: Net<Stream = TcpStream> + Clock + AllocGlobal + Drop> Engine for Etcd<R> {
-    ghost held = { λ a. a };
-
+    // Puts an entry under the next number, if no allocation fails.
     #[tactic(auto, using(crate::proofs::Held::map_push))]
-    fn put(&mut self, entry: &Vec<u8>) -> Result<(), EngineFault> {
+    fn put_once(&mut self, entry: &Vec<u8>) -> Result<(), EngineFault>
+        ensures ok { OnOk result (self.new ≡ self.old ++ entry.now.items ∷ []) }
+        ensures err { OnErr result (self.new ≡ self.old) }
+    {
         let number = self.next();
         let value = self.entry_of(entry)?;
         self.more.reserve(1)?;
@@ -123,6 +127,21 @@ impl<R: Net<Stream = TcpStream> + Clock + AllocGlobal + Drop> Engine for Etcd<R>
             }
             Put::Other(_) | Put::Gone => Err(EngineFault::TakenOver),
         }
+    }
+}
+
+impl<R: Net<Stream = TcpStream> + Clock + AllocGlobal + Drop> Engine for Etcd<R> {
+    ghost held = { λ a. a };
+
+    /// If an allocation fails, it tries again, as it does if no member answers.
+    fn put(&mut self, entry: &Vec<u8>) -> Result<(), EngineFault> {
+        for _ in 1..TRIES {
+            match self.put_once(entry) {
+                Err(EngineFault::NoMemory) => self.store.pause(),
+                ended => return ended,
+            }
+        }
+        self.put_once(entry)
     }
 
     fn begin(&mut self, text: &Batch) -> Result<(), EngineFault> {

@@ -68,6 +68,11 @@ impl<R: Net<Stream = TcpStream> + Clock + AllocGlobal + Drop> Store<R> {
         self.cluster.alloc()
     }
 
+    /// Sleeps 200 milliseconds.
+    pub(crate) fn pause(&self) {
+        self.cluster.pause();
+    }
+
     /// Returns a number that no process was given before: the revision of a put.
     pub(crate) fn identity(&mut self) -> Result<u64, AskFault>
         ensures { IfOk result (λ identity. (reply : Data) × IsRevision reply identity) }
