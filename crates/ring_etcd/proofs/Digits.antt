@@ -2,7 +2,7 @@
 use Rattle.std.proofs.Common.{◌≡◌, ℕ, [], ◌++◌, ◌-◌, ◌^◌, ◌∙◌, length, ap, append-nil, arith}
 use Rattle.std.specs.Prelude.{false, replicate}
 use Rattle.std.specs.Fmt.{char_count, decimal, format_spec, padded_integral}
-use Rattle.ring_etcd.specs.private.Keys.{twenty_digits}
+use Rattle.ring_etcd.specs.Keys.{twenty_digits}
 
 -- what `{:020}` writes of a number
 pub padded_is : (n : ℕ) → padded_integral (format_spec 32 0 4 20 (2 ^ 64 - 1)) false [] (decimal n) ≡ twenty_digits n

@@ -2,7 +2,9 @@ pub mod Crossing
 pub mod Digits
 pub mod Following
 pub mod Fresh
+pub mod Gathering
 pub mod Held
+pub mod Pairing
 pub mod Sending
 pub mod Steps
 pub mod Telling

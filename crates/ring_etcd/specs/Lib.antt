@@ -1,6 +1,11 @@
+pub mod Bases
 pub mod Done
+pub mod Entries
+pub mod Found
 pub mod Holding
+pub mod Keys
 pub mod Lasting
 pub mod Leases
 pub mod Log
+pub mod Readings
 pub mod private

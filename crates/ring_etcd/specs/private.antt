@@ -1,7 +1,6 @@
-pub mod Bases
-pub mod Entries
 pub mod Http
 pub mod Keys
+pub mod Paging
 pub mod Putting
 pub mod Replies
 pub mod Requests

@@ -12,7 +12,8 @@
 ghost use Rattle.std.specs.Prelude.{◌≡◌, IfOk, string_bytes};
 ghost use Rattle.base64.specs.Engines.{standard};
 ghost use Rattle.base64.specs.GeneralPurpose.{encode_of};
-ghost use Rattle.ring_etcd.specs.private.Keys.{after_entries_key, after_pieces_key, base_key, before_text_key, before_texts_key, entry_key, ids_key, lease_key, piece_key};
+ghost use Rattle.ring_etcd.specs.Keys.{entry_key, piece_key};
+ghost use Rattle.ring_etcd.specs.private.Keys.{after_entries_key, after_pieces_key, base_key, before_text_key, before_texts_key, ids_key, lease_key};
 
 use base64::engine::general_purpose::STANDARD;
 use std::alloc::{AllocError, Global};

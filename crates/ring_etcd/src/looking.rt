@@ -1,4 +1,7 @@
 //! Looking at a journal in etcd, which another process may have.
+ghost use Rattle.std.specs.Prelude.{◌≡◌, ℕ, IfOk, IfSome, string_bytes};
+ghost use Rattle.ring_etcd.specs.Readings.{IsFound};
+
 use crate::base::Base;
 use crate::cluster::{Cluster, Limits};
 use crate::keys::Keys;
@@ -13,7 +16,10 @@ impl<R: Net<Stream = TcpStream> + Clock + AllocGlobal + Copy + Drop> EtcdPlace<R
     /// HOST:PORT,HOST:PORT and so on. Another process may have the journal.
     ///
     /// Returns `Damaged` if there is no journal of this name.
-    pub fn look(rt: &R, members: &str, name: &str) -> Result<Vec<u8>, EtcdFault> {
+    pub fn look(rt: &R, members: &str, name: &str) -> Result<Vec<u8>, EtcdFault>
+        ensures { IfOk result (λ found. (text : ℕ) × (pieces : ℕ)
+            × IsFound name.now text pieces found.items) }
+    {
         let keys = Keys::new(rt.alloc(), name)?;
         let mut store = Store::new(Cluster::new(*rt, members, Limits::JOURNAL)?, keys);
         if store.base()?.is_none() {
@@ -34,6 +40,9 @@ impl<R: Net<Stream = TcpStream> + Clock + AllocGlobal + Copy + Drop> EtcdPlace<R
 fn found_at<R>(store: &mut Store<R>, base: Base) -> Result<Option<Vec<u8>>, EtcdFault>
 where
     R: Net<Stream = TcpStream> + Clock + AllocGlobal + Drop,
+    ensures keys { store.new.keys ≡ store.old.keys }
+    ensures found { IfOk result (λ found. IfSome found (λ found.
+        IsFound (string_bytes store.old.keys.name) base.text base.pieces found.items)) }
 {
     let mut found = Vec::new(store.alloc());
     match store.read(base, &mut found) {

@@ -1,6 +1,7 @@
 //! The place of a journal in etcd: taking it over, and reading it.
-ghost use Rattle.std.specs.Prelude.{◌≡◌, length, IfOk, None};
-ghost use Rattle.ring_etcd.specs.private.Bases.{base_text};
+ghost use Rattle.std.specs.Prelude.{◌≡◌, [], length, IfOk, IfSome, None, string_bytes};
+ghost use Rattle.ring_etcd.specs.Bases.{base_text};
+ghost use Rattle.ring_etcd.specs.Readings.{IsTaken, IsTakenBy};
 
 use crate::base::Base;
 use crate::cluster::{Cluster, Limits};
@@ -12,6 +13,7 @@ use crate::reading::ReadFault;
 use crate::store::{AskFault, Store};
 use ring_journal::Batch;
 use std::alloc::{AllocError, Global};
+use std::marker::Model;
 use std::net::{Net, TcpStream};
 use std::sync::Arc;
 use std::time::Clock;
@@ -69,6 +71,8 @@ impl From<EngineFault> for EtcdFault {
 
 /// The place of a journal in etcd, which this process has taken over. Another process may take it
 /// over from then on, and then `begin` says so.
+///
+/// Contracts see what was read, and where.
 #[derive(Drop)]
 pub struct EtcdPlace<R> {
     store: Store<R>,
@@ -81,13 +85,31 @@ pub struct EtcdPlace<R> {
     found: Vec<u8>,
 }
 
+impl<R> Model for EtcdPlace<R> {
+    ghost use Rattle.std.specs.Prelude.{string_bytes};
+    ghost use Rattle.ring_etcd.specs.Readings.{Place};
+
+    ghost Value = { Place };
+
+    ghost view = { λ a. record {
+      name = string_bytes a.store.keys.name;
+      text = a.base.text;
+      pieces = a.base.pieces;
+      identity = a.identity;
+      next = a.next;
+      bytes = a.found.items;
+    } };
+}
+
 impl<R: Net<Stream = TcpStream> + Clock + AllocGlobal + Copy + Drop> EtcdPlace<R> {
     /// Takes over the journal of this name from whichever process has it, and reads it. The members
     /// of etcd are HOST:PORT,HOST:PORT and so on.
     ///
     /// Puts an entry under the next number. From then on no other process puts one there, so the
     /// process that had the journal is told so at its next put.
-    pub fn take(rt: &R, members: &str, name: &str) -> Result<EtcdPlace<R>, EtcdFault> {
+    pub fn take(rt: &R, members: &str, name: &str) -> Result<EtcdPlace<R>, EtcdFault>
+        ensures { IfOk result (IsTaken name.now) }
+    {
         let keys = Keys::new(rt.alloc(), name)?;
         let mut store = Store::new(Cluster::new(*rt, members, Limits::JOURNAL)?, keys);
         let identity = store.identity()?;
@@ -108,7 +130,10 @@ impl<R: Net<Stream = TcpStream> + Clock + AllocGlobal + Copy + Drop> EtcdPlace<R
     }
 
     /// Returns the bytes of the journal, of which there are none from then on.
-    pub fn read(&mut self) -> Vec<u8> {
+    pub fn read(&mut self) -> Vec<u8>
+        ensures bytes { result.items ≡ self.old.bytes }
+        ensures rest { self.new ≡ record self.old { bytes = [] } }
+    {
         let alloc = self.store.alloc();
         std::mem::replace(&mut self.found, Vec::new(alloc))
     }
@@ -141,6 +166,7 @@ impl<R: Net<Stream = TcpStream> + Clock + AllocGlobal + Copy + Drop> EtcdPlace<R
 pub(crate) fn current<R>(store: &mut Store<R>) -> Result<Base, EtcdFault>
 where
     R: Net<Stream = TcpStream> + Clock + AllocGlobal + Drop,
+    ensures { store.new.keys ≡ store.old.keys }
 {
     if let Some(value) = store.base()? {
         return base_of(store.alloc(), &value);
@@ -172,6 +198,10 @@ fn taken<R>(
 ) -> Result<Option<u64>, EtcdFault>
 where
     R: Net<Stream = TcpStream> + Clock + AllocGlobal + Drop,
+    ensures keys { store.new.keys ≡ store.old.keys }
+    ensures taken { IfOk result (λ put. IfSome put (λ after.
+        IsTakenBy (string_bytes store.old.keys.name) base.text base.pieces identity after
+        found.old.items found.new.items)) }
 {
     let mark = format!(in store.alloc(); "t{identity}")?;
     match store.read(base, found) {

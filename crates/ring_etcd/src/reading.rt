@@ -1,6 +1,11 @@
 //! Reads what a journal in etcd holds.
-ghost use Rattle.std.specs.Prelude.{◌≡◌, ◌+◌, ◌++◌, IfOk, IsSomeAnd, OnOk};
-ghost use Rattle.ring_etcd.specs.private.Entries.{added};
+ghost use Rattle.std.specs.Prelude.{◌≡◌, ◌+◌, ◌++◌, IfOk, IfSome, IsSomeAnd, OnOk, length, string_bytes};
+ghost use Rattle.ring_etcd.specs.Bases.{base_text};
+ghost use Rattle.ring_etcd.specs.Entries.{AreAdded, added};
+ghost use Rattle.ring_etcd.specs.Holding.{joined};
+ghost use Rattle.ring_etcd.specs.Keys.{codes_from, entry_code, piece_code};
+ghost use Rattle.ring_etcd.specs.Readings.{AreEntries, ArePieces, IsPutBehind, IsRead};
+ghost use Rattle.ring_etcd.specs.private.Paging.{keys_of, values_of};
 
 use crate::base::Base;
 use crate::replies::Pair;
@@ -69,10 +74,23 @@ fn after(number: u64) -> Result<u64, ReadFault>
 
 impl<R: Net<Stream = TcpStream> + Clock + AllocGlobal + Drop> Store<R> {
     /// Reads the text of a base and the entries after it. Returns the number of the next entry.
-    pub(crate) fn read(&mut self, base: Base, found: &mut Vec<u8>) -> Result<u64, ReadFault> {
+    pub(crate) fn read(&mut self, base: Base, found: &mut Vec<u8>) -> Result<u64, ReadFault>
+        ensures keys { self.new.keys ≡ self.old.keys }
+        ensures read { IfOk result (λ next. IsRead (string_bytes self.old.keys.name)
+            base.text base.pieces next found.old.items found.new.items) }
+    {
         if self.read_pieces(base, found)? != base.pieces {
             return Err(ReadFault::Damaged);
         }
+        self.read_entries(base, found)
+    }
+
+    // Reads the entries after the text of a base. Returns the number of the next one.
+    fn read_entries(&mut self, base: Base, found: &mut Vec<u8>) -> Result<u64, ReadFault>
+        ensures keys { self.new.keys ≡ self.old.keys }
+        ensures read { IfOk result (λ next. AreEntries (string_bytes self.old.keys.name)
+            base.text next found.old.items found.new.items) }
+    {
         let mut next = 1;
         for _ in 0..u64::MAX {
             let page = self.entries(base.text, next)?;
@@ -85,7 +103,11 @@ impl<R: Net<Stream = TcpStream> + Clock + AllocGlobal + Drop> Store<R> {
     }
 
     // Reads the pieces of the text of a base. Returns how many there are.
-    fn read_pieces(&mut self, base: Base, found: &mut Vec<u8>) -> Result<u64, ReadFault> {
+    fn read_pieces(&mut self, base: Base, found: &mut Vec<u8>) -> Result<u64, ReadFault>
+        ensures keys { self.new.keys ≡ self.old.keys }
+        ensures read { IfOk result (λ number. ArePieces (string_bytes self.old.keys.name)
+            base.text number found.old.items found.new.items) }
+    {
         let mut next = 0;
         for _ in 0..u64::MAX {
             let page = self.pieces(base.text, next)?;
@@ -105,7 +127,14 @@ impl<R: Net<Stream = TcpStream> + Clock + AllocGlobal + Drop> Store<R> {
         mut next: u64,
         page: &[Pair],
         found: &mut Vec<u8>,
-    ) -> Result<u64, ReadFault> {
+    ) -> Result<u64, ReadFault>
+        ensures number { IfOk result (λ after. after ≡ next + length page.now) }
+        ensures keys { OnOk result (keys_of page.now
+            ≡ codes_from (entry_code (string_bytes self.now.keys.name) text) next
+            (values_of page.now)) }
+        ensures bytes { OnOk result
+            (AreAdded (values_of page.now) found.old.items found.new.items) }
+    {
         for pair in page {
             if !self.is_entry(pair, text, next)? {
                 return Err(ReadFault::Damaged);
@@ -123,7 +152,14 @@ impl<R: Net<Stream = TcpStream> + Clock + AllocGlobal + Drop> Store<R> {
         mut next: u64,
         page: &[Pair],
         found: &mut Vec<u8>,
-    ) -> Result<u64, ReadFault> {
+    ) -> Result<u64, ReadFault>
+        ensures number { IfOk result (λ after. after ≡ next + length page.now) }
+        ensures keys { OnOk result (keys_of page.now
+            ≡ codes_from (piece_code (string_bytes self.now.keys.name) text) next
+            (values_of page.now)) }
+        ensures bytes { OnOk result
+            (found.new.items ≡ found.old.items ++ joined (values_of page.now)) }
+    {
         for pair in page {
             if !self.is_piece(pair, text, next)? {
                 return Err(ReadFault::Damaged);
@@ -144,7 +180,12 @@ impl<R: Net<Stream = TcpStream> + Clock + AllocGlobal + Drop> Store<R> {
         mut next: u64,
         mark: &[u8],
         found: &mut Vec<u8>,
-    ) -> Result<Option<u64>, ReadFault> {
+    ) -> Result<Option<u64>, ReadFault>
+        ensures keys { self.new.keys ≡ self.old.keys }
+        ensures put { IfOk result (λ put. IfSome put (λ after.
+            IsPutBehind (base_text base.text base.pieces) mark.now next after
+            found.old.items found.new.items)) }
+    {
         for _ in 0..u64::MAX {
             match self.put_entry(base, next, mark)? {
                 Put::Ours => return Ok(Some(after(next)?)),

@@ -1,9 +1,11 @@
 //! What a reply of the gateway says.
-ghost use Rattle.std.specs.Prelude.{◌≡◌, ◌↔◌, Some, IfOk, IfSome, IsTrue, codes, option_and_then, option_map};
-ghost use Rattle.serde_json.specs.Find.{as_str, pointer};
-ghost use Rattle.serde_json.specs.View.{view};
+ghost use Rattle.std.specs.Prelude.{◌≡◌, ◌↔◌, Some, IfOk, IfSome, IsTrue, codes, map, option_and_then, option_map};
+ghost use Rattle.serde_json.specs.Find.{as_array, as_str, pointer};
+ghost use Rattle.serde_json.specs.View.{items_view, view};
 ghost use Rattle.ring_etcd.specs.Done.{IsDone};
-ghost use Rattle.ring_etcd.specs.private.Replies.{IsRevisionAt, base_in, bytes_at, entry_in};
+ghost use Rattle.ring_etcd.specs.Found.{base_in, bytes_at, entry_in};
+ghost use Rattle.ring_etcd.specs.private.Paging.{ArePairs, IsPair};
+ghost use Rattle.ring_etcd.specs.private.Replies.{IsRevisionAt};
 ghost use Rattle.ring_etcd.specs.private.Saying.{Says};
 
 use base64::engine::general_purpose::STANDARD;
@@ -73,6 +75,14 @@ fn text_at<'v>(reply: &'v Value, path: &str) -> Option<&'v str>
         ≡ option_and_then as_str (pointer path.now (view reply.now)) }
 {
     reply.pointer(path).and_then(Value::as_str)
+}
+
+// The array at a place of a reply; `None` if none is there.
+fn array_at<'v>(reply: &'v Value, path: &str) -> Option<&'v Vec<Value>>
+    ensures { option_map (λ array. items_view array.now.items) result
+        ≡ option_and_then as_array (pointer path.now (view reply.now)) }
+{
+    reply.pointer(path).and_then(Value::as_array)
 }
 
 // The bytes that are in base 64 at a place of a reply; `None` if no text is there.
@@ -175,29 +185,46 @@ pub(crate) struct Page {
 }
 
 impl Answer for Page {
-    ghost use Rattle.std.specs.Prelude.{⊤};
+    ghost use Rattle.ring_etcd.specs.Found.{pairs_in};
+    ghost use Rattle.ring_etcd.specs.private.Paging.{ArePairs};
 
-    ghost says = { λ _ _. ⊤ };
+    ghost says = { λ reply page. ArePairs (pairs_in reply) page.pairs.items };
 
     fn read(alloc: Global, reply: &Value) -> Result<Page, Unread> {
         if reply.pointer("/header/revision").is_none() {
             return Err(Unread);
         }
-        let mut pairs = Vec::new(alloc);
-        let Some(found) = reply.pointer("/kvs").and_then(Value::as_array) else {
-            return Ok(Page { pairs });
-        };
-        for item in found {
-            let pair = pair_of(alloc, item)?;
-            pairs.push(pair).map_err(|_| Unread)?;
+        match array_at(reply, "/kvs") {
+            Some(found) => {
+                let pairs = pairs_of(alloc, found)?;
+                Ok(Page { pairs })
+            }
+            None => Ok(Page {
+                pairs: Vec::new(alloc),
+            }),
         }
-        Ok(Page { pairs })
     }
 }
 
+// The pairs that the items of a range are, in their order.
+fn pairs_of(alloc: Global, found: &[Value]) -> Result<Vec<Pair>, Unread>
+    ensures { IfOk result (λ pairs. ArePairs (map view found.now) pairs.items) }
+{
+    let mut pairs = Vec::new(alloc);
+    for item in found {
+        let pair = pair_of(alloc, item)?;
+        let Ok(()) = pairs.push(pair) else {
+            return Err(Unread);
+        };
+    }
+    Ok(pairs)
+}
+
 // The pair that an item of a range is.
-fn pair_of(alloc: Global, item: &Value) -> Result<Pair, Unread> {
-    let Some(key) = item.pointer("/key").and_then(Value::as_str) else {
+fn pair_of(alloc: Global, item: &Value) -> Result<Pair, Unread>
+    ensures { IfOk result (λ pair. IsPair (view item.now) pair) }
+{
+    let Some(key) = text_at(item, "/key") else {
         return Err(Unread);
     };
     let Some(value) = value_at(alloc, item, "/value")? else {

@@ -3,8 +3,10 @@ ghost use Rattle.std.specs.Prelude.{◌≡◌, ◌↔◌, Some, IfOk, IsTrue, op
 ghost use Rattle.base64.specs.Engines.{standard};
 ghost use Rattle.base64.specs.GeneralPurpose.{encode_of};
 ghost use Rattle.serde_json.specs.Data.{Data};
-ghost use Rattle.ring_etcd.specs.private.Bases.{base_text};
-ghost use Rattle.ring_etcd.specs.private.Keys.{entry_key, piece_key};
+ghost use Rattle.ring_etcd.specs.Bases.{base_text};
+ghost use Rattle.ring_etcd.specs.Found.{pairs_in};
+ghost use Rattle.ring_etcd.specs.Keys.{entry_key, piece_key};
+ghost use Rattle.ring_etcd.specs.private.Paging.{ArePairs};
 ghost use Rattle.ring_etcd.specs.private.Putting.{IsPut, IsPutOver, IsSwitched};
 ghost use Rattle.ring_etcd.specs.private.Replies.{IsRevision};
 ghost use Rattle.ring_etcd.specs.private.Told.{IsToldPut, IsToldSwitched};
@@ -59,7 +61,9 @@ pub(crate) struct Store<R> {
 
 impl<R: Net<Stream = TcpStream> + Clock + AllocGlobal + Drop> Store<R> {
     /// Returns the journal of this name in a cluster. Nothing is asked yet.
-    pub(crate) fn new(cluster: Cluster<R>, keys: Keys) -> Store<R> {
+    pub(crate) fn new(cluster: Cluster<R>, keys: Keys) -> Store<R>
+        ensures { result.keys ≡ keys }
+    {
         Store { cluster, keys }
     }
 
@@ -75,7 +79,8 @@ impl<R: Net<Stream = TcpStream> + Clock + AllocGlobal + Drop> Store<R> {
 
     /// Returns a number that no process was given before: the revision of a put.
     pub(crate) fn identity(&mut self) -> Result<u64, AskFault>
-        ensures { IfOk result (λ identity. (reply : Data) × IsRevision reply identity) }
+        ensures keys { self.new.keys ≡ self.old.keys }
+        ensures told { IfOk result (λ identity. (reply : Data) × IsRevision reply identity) }
     {
         let body = self.keys.identity_request()?;
         let Revision(revision) = self.cluster.ask(PUT, body.as_str())?;
@@ -83,14 +88,18 @@ impl<R: Net<Stream = TcpStream> + Clock + AllocGlobal + Drop> Store<R> {
     }
 
     /// Returns the value of the base, or `None` if the journal was never begun.
-    pub(crate) fn base(&mut self) -> Result<Option<Vec<u8>>, AskFault> {
+    pub(crate) fn base(&mut self) -> Result<Option<Vec<u8>>, AskFault>
+        ensures { self.new.keys ≡ self.old.keys }
+    {
         let body = self.keys.base_request()?;
         let Page { mut pairs } = self.cluster.ask(RANGE, body.as_str())?;
         Ok(pairs.pop().map(|pair| pair.value))
     }
 
     /// Begins the journal by a base, unless it was begun before.
-    pub(crate) fn put_base(&mut self, base: Base) -> Result<(), AskFault> {
+    pub(crate) fn put_base(&mut self, base: Base) -> Result<(), AskFault>
+        ensures { self.new.keys ≡ self.old.keys }
+    {
         let body = self.keys.first_base_request(base)?;
         let _said: Said = self.cluster.ask(TXN, body.as_str())?;
         Ok(())
@@ -117,7 +126,8 @@ impl<R: Net<Stream = TcpStream> + Clock + AllocGlobal + Drop> Store<R> {
         number: u64,
         entry: &[u8],
     ) -> Result<Put, AskFault>
-        ensures { IfOk result (λ put. (reply : Data)
+        ensures keys { self.new.keys ≡ self.old.keys }
+        ensures told { IfOk result (λ put. (reply : Data)
             × IsToldPut reply entry.now (base_text base.text base.pieces) put) }
     {
         let counts = base.value(self.alloc())?;
@@ -141,14 +151,20 @@ impl<R: Net<Stream = TcpStream> + Clock + AllocGlobal + Drop> Store<R> {
     }
 
     /// Returns the first entries after a text, from a number on.
-    pub(crate) fn entries(&mut self, text: u64, number: u64) -> Result<Vec<Pair>, AskFault> {
+    pub(crate) fn entries(&mut self, text: u64, number: u64) -> Result<Vec<Pair>, AskFault>
+        ensures keys { self.new.keys ≡ self.old.keys }
+        ensures pairs { IfOk result (λ pairs. (reply : Data) × ArePairs (pairs_in reply) pairs.items) }
+    {
         let body = self.keys.entries_request(text, number)?;
         let Page { pairs } = self.cluster.ask(RANGE, body.as_str())?;
         Ok(pairs)
     }
 
     /// Returns the first pieces of a text, from a number on.
-    pub(crate) fn pieces(&mut self, text: u64, number: u64) -> Result<Vec<Pair>, AskFault> {
+    pub(crate) fn pieces(&mut self, text: u64, number: u64) -> Result<Vec<Pair>, AskFault>
+        ensures keys { self.new.keys ≡ self.old.keys }
+        ensures pairs { IfOk result (λ pairs. (reply : Data) × ArePairs (pairs_in reply) pairs.items) }
+    {
         let body = self.keys.pieces_request(text, number)?;
         let Page { pairs } = self.cluster.ask(RANGE, body.as_str())?;
         Ok(pairs)

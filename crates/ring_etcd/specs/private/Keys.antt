@@ -1,9 +1,6 @@
--- The keys of a journal, before they are in base 64.
-use Rattle.std.specs.Prelude.{ℕ, List, ◌++◌, ◌-◌, codes, decimal, length, replicate}
-
--- the 20 digits of a number, with zeros first
-abbrev pub twenty_digits : ℕ → List ℕ
-twenty_digits number = replicate (20 - length (decimal number)) 48 ++ decimal number
+-- More keys of a journal, before they are in base 64.
+use Rattle.std.specs.Prelude.{ℕ, List, ◌++◌, codes}
+use Rattle.ring_etcd.specs.Keys.{twenty_digits}
 
 -- Each put of it has a revision of its own.
 abbrev pub ids_key : List ℕ → List ℕ
@@ -17,22 +14,10 @@ lease_key name = codes "ring/" ++ (name ++ codes "/lease")
 abbrev pub base_key : List ℕ → List ℕ
 base_key name = codes "ring/" ++ (name ++ codes "/base")
 
--- an entry after a text, by its number
-abbrev pub entry_key : List ℕ → ℕ → ℕ → List ℕ
-entry_key name text number =
-    codes "ring/" ++ (name ++ (codes "/t/" ++ (twenty_digits text
-    ++ (codes "/e/" ++ twenty_digits number))))
-
 -- It is after those of all entries after a text.
 abbrev pub after_entries_key : List ℕ → ℕ → List ℕ
 after_entries_key name text =
     codes "ring/" ++ (name ++ (codes "/t/" ++ (twenty_digits text ++ codes "/e0")))
-
--- a piece of a text, by its number
-abbrev pub piece_key : List ℕ → ℕ → ℕ → List ℕ
-piece_key name text number =
-    codes "ring/" ++ (name ++ (codes "/t/" ++ (twenty_digits text
-    ++ (codes "/p/" ++ twenty_digits number))))
 
 -- It is after those of all pieces of a text.
 abbrev pub after_pieces_key : List ℕ → ℕ → List ℕ

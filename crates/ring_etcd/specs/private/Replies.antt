@@ -1,23 +1,8 @@
 -- What a reply of the gateway says.
-use Rattle.std.specs.Prelude.{◌≡◌, ◌⊎◌, ℕ, List, Option, Some, None, codes, option_and_then}
+use Rattle.std.specs.Prelude.{◌≡◌, ◌⊎◌, ℕ, List, Some, None, codes, option_and_then}
 use Rattle.std.specs.Str.Parse.{digits_value, without_leading_plus}
-use Rattle.base64.specs.Engines.{standard}
-use Rattle.base64.specs.GeneralPurpose.{decoded_of}
 use Rattle.serde_json.specs.Data.{Data}
 use Rattle.serde_json.specs.Find.{as_str, pointer}
-
--- The bytes that are in base 64 at a place of a reply. There are none if no text is there.
-abbrev pub bytes_at : List ℕ → Data → Option (List ℕ)
-bytes_at path reply =
-    option_and_then (decoded_of standard) (option_and_then as_str (pointer path reply))
-
--- the value at the key that was to be put, if the condition did not hold
-abbrev pub entry_in : Data → Option (List ℕ)
-entry_in = bytes_at (codes "/responses/0/response_range/kvs/0/value")
-
--- the value of the base, if the condition did not hold
-abbrev pub base_in : Data → Option (List ℕ)
-base_in = bytes_at (codes "/responses/1/response_range/kvs/0/value")
 
 -- The reply has this revision at a place.
 pub record IsRevisionAt (path : List ℕ) (reply : Data) (revision : ℕ) : Type 0 where
