@@ -87,8 +87,8 @@ impl<R: Net<Stream = TcpStream> + Clock + AllocGlobal + Drop> Cluster<R> {
         thread::sleep(&self.rt, Duration::from_millis(PAUSE_MILLIS));
     }
 
-    /// Sends a request until a member answers it by a value of JSON that answers it, as often as the
-    /// limits say at most.
+    /// Sends a request until a member gives a reply in JSON that answers it, as often as the limits
+    /// say at most.
     ///
     /// A request may be carried out more than once, so it has to be one of which that makes no
     /// difference.

@@ -27,8 +27,8 @@ impl From<AskFault> for EngineFault {
     }
 }
 
-/// How often an entry is tried at most while allocations fail. Between two attempts 200 milliseconds
-/// pass.
+/// How often an entry is tried at most while allocations fail. Between two attempts pass 200
+/// milliseconds.
 const TRIES: u32 = 64;
 
 /// A text in etcd that this process put, and the entries that it put after it.

@@ -77,8 +77,8 @@ impl<R: Net<Stream = TcpStream> + Clock + AllocGlobal + Copy + Drop> Lease<R> {
         }
     }
 
-    /// Looks once at the lease, and claims it if nothing is there, or if `LOOKS` looks in a row found
-    /// the same revision. Returns whether this process claimed it.
+    /// Looks once at the lease, and claims it if nothing is there, or if `LOOKS` looks in a row
+    /// found the same revision. Returns whether this process claimed it.
     ///
     /// Each renewal and each claim gives the lease another revision. If two processes claim the
     /// same one, etcd carries out one claim and refuses the other.
@@ -142,7 +142,8 @@ impl<R: Net<Stream = TcpStream> + Clock + AllocGlobal + Copy + Drop> Lease<R> {
     // Puts the key if its last put still has this revision. Returns whether that was carried out,
     // as a reply says.
     fn put_claim(&mut self, revision: u64) -> Result<bool, AskFault>
-        ensures claimed { IfOk result (λ is_claimed. (reply : Data) × (IsTrue is_claimed ↔ IsDone reply)) }
+        ensures claimed { IfOk result (λ is_claimed.
+            (reply : Data) × (IsTrue is_claimed ↔ IsDone reply)) }
         ensures same { self.new ≡ self.old }
     {
         let body = self.keys.claim_request(revision, self.process)?;

@@ -59,8 +59,8 @@
 //! `Lease` is for a second process that waits while the first one is active. The active process
 //! renews the lease at least twice a second: it puts a key, which gets another revision. A standby
 //! process looks at the key five times a second. If ten looks in a row find the same revision, it
-//! claims the lease: it puts the key on the condition that the revision is still that one. So of two
-//! standby processes only one claims it. It then takes the journal over.
+//! claims the lease: it puts the key on the condition that the revision is still that one. So of
+//! two standby processes only one claims it. It then takes the journal over.
 //!
 //! The journal does not rest on the lease, only these waits do. If the active process still runs,
 //! it finds another value at the key when it next renews the lease. It also finds its number taken
@@ -77,10 +77,10 @@
 //! |---|---|
 //! | before a put is sent | the entries that are kept |
 //! | after it was sent, or its reply was lost | these, or these and that one |
-//! | the reply was lost, and the put is sent again | that one once: its number is taken by its own bytes |
+//! | the reply was lost, and the put is sent again | that one once: its bytes take its number |
 //! | a put arrives after another process took over | the number is taken, so it changes nothing |
 //! | a put arrives after another text counts | the base is another, so it changes nothing |
-//! | before the request of `replace` | the old text; the pieces of the new one are deleted by a later `replace` |
+//! | before the request of `replace` | the old text; a later `replace` deletes the new pieces |
 //! | after it was sent, or its reply was lost | the old text or the new one, each whole |
 //! | between `tID` and the text of a takeover | the old text: `tID` adds no bytes |
 //! | two processes take over at once | one number each; the first one's text is refused |

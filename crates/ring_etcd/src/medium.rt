@@ -67,7 +67,8 @@ impl<E: Engine + Drop> Model for EtcdMedium<E> {
 
     ghost Value = { Moment };
 
-    ghost view = { λ a. moment_of (E.held a.engine) a.pending.items (text_in (λ text. text.value.bytes) a.other) };
+    ghost view = { λ a. moment_of (E.held a.engine) a.pending.items
+        (text_in (λ text. text.value.bytes) a.other) };
 }
 
 impl<E: Engine + Drop> EtcdMedium<E> {

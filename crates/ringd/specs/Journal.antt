@@ -5,6 +5,7 @@ use Rattle.ring_any.specs.declared.any.Any.{Any}
 use Rattle.ring_table.specs.Tables.{RecordedView}
 use Rattle.ring_recovery.specs.Compacted.{Resumes}
 use Rattle.ring_recovery.specs.Recovered.{RecoveredView}
+use Rattle.ring_etcd.specs.Readings.{IsTaken, Place}
 use Rattle.ring_accept.specs.declared.fault.JournalFault.{JournalFault}
 use Rattle.ring_accept.specs.declared.fault.ProgramFault.{ProgramFault}
 use Rattle.ring_accept.specs.declared.fault.ProgramFault.TheVariants.{Journal, NoMemory, Thread, Write}
@@ -25,6 +26,13 @@ pub record IsTakenUp (found : List ℕ) (table : RecordedView Any) (life : ℕ) 
   pub book : table.book ≡ resumed.book
   pub history : table.history ≡ resumed.history
   pub next : life ≡ resumed.life
+
+-- The journal of this name in etcd was read and taken over, and a table was resumed from the bytes
+-- that were read. This is the life that it begins.
+pub record IsTakenOver (name : List ℕ) (table : RecordedView Any) (life : ℕ) : Type 0 where
+  pub place : Place
+  pub taken : IsTaken name place
+  pub resumed : IsTakenUp place.bytes table life
 
 -- The text that was written at a fault of `journal`: nothing, or a prefix of a text at a failed
 -- write. No other fault comes.

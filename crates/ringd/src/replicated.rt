@@ -1,6 +1,7 @@
 //! The journal in etcd: standing by, taking it over, and printing it.
-ghost use Rattle.std.specs.Prelude.{◌≡◌, ℕ, List, IfErr, IfOk};
-ghost use Rattle.ringd.specs.Journal.{IsOfJournal, IsOfTaking, IsTakenUp};
+ghost use Rattle.std.specs.Prelude.{◌≡◌, ℕ, IfErr, IfOk};
+ghost use Rattle.ring_etcd.specs.Readings.{IsFound};
+ghost use Rattle.ringd.specs.Journal.{IsOfJournal, IsOfTaking, IsTakenOver, IsTakenUp};
 ghost use Rattle.ringd.specs.private.Journal.{etcd_told_as};
 
 use crate::journal::{another, open_over, prepare, recovered, shared};
@@ -48,7 +49,7 @@ where
         + Drop
         + 'static,
     ensures ok { IfOk result (λ resumed.
-        (found : List ℕ) × IsTakenUp found resumed.table resumed.life) }
+        IsTakenOver name.now resumed.table resumed.life) }
     ensures fault { IfErr result IsOfTaking }
 {
     let lease = claimed(rt, members, name)?;
@@ -70,8 +71,7 @@ fn begin_over<R>(
 ) -> Result<Resumed<Metered<EtcdMedium<Etcd<R>>, R>>, ProgramFault>
 where
     R: Net<Stream = TcpStream> + Clock + AllocGlobal + Copy + Drop,
-    ensures ok { IfOk result (λ resumed.
-        (found : List ℕ) × IsTakenUp found resumed.table resumed.life) }
+    ensures ok { IfOk result (λ resumed. IsTakenUp place.bytes resumed.table resumed.life) }
     ensures fault { IfErr result IsOfJournal }
 {
     let alloc = rt.alloc();
@@ -160,9 +160,13 @@ where
 pub fn look<R>(rt: &R, members: &str, name: &str) -> Result<Vec<u8>, ProgramFault>
 where
     R: Net<Stream = TcpStream> + Clock + AllocGlobal + Copy + Drop,
-    ensures { IfErr result IsOfJournal }
+    ensures ok { IfOk result (λ found. (text pieces : ℕ) × IsFound name.now text pieces found.items) }
+    ensures fault { IfErr result IsOfJournal }
 {
-    EtcdPlace::look(rt, members, name).map_err(told_of_etcd)
+    match EtcdPlace::look(rt, members, name) {
+        Ok(found) => Ok(found),
+        Err(fault) => Err(told_of_etcd(fault)),
+    }
 }
 
 // Returns the program's fault for a journal in etcd that cannot be used.
