@@ -1,13 +1,14 @@
 //! The members of a cluster, which are asked in turn until one of them answers.
-ghost use Rattle.std.specs.Prelude.{IfOk};
-ghost use Rattle.serde_json.specs.Data.{Data};
+ghost use Rattle.std.specs.Prelude.{◌≡◌, [], IfOk, OnErr};
 ghost use Rattle.serde_json.specs.View.{view};
+ghost use Rattle.ring_etcd.specs.private.Hearing.{Hears, Reads};
 
 use crate::gateway::{Gateway, NoReply};
 use crate::replies::Answer;
 use serde_json::Value;
 use std::alloc::{AllocError, Global};
 use std::net::{Net, SocketAddr, TcpStream, ToSocketAddrs};
+use std::snapshot::Snapshot;
 use std::time::{Clock, Duration};
 use std::{io, thread};
 
@@ -41,9 +42,15 @@ impl Limits {
     };
 }
 
-/// A request got no answer, however often it was sent. It may have been carried out or not.
+/// A request got no reply that answers it. It may have been carried out or not.
 #[derive(Clone, Copy, Debug, PartialEq, Eq)]
 pub(crate) struct NoAnswer;
+
+impl From<NoReply> for NoAnswer {
+    fn from(_silence: NoReply) -> NoAnswer {
+        NoAnswer
+    }
+}
 
 /// The members of a cluster, one of which may be connected. Replies of another cluster are not
 /// believed.
@@ -57,13 +64,18 @@ pub(crate) struct Cluster<R> {
     gateway: Option<Gateway<TcpStream>>,
     // the identity of the cluster that answered first; no other one is believed
     identity: Option<u64>,
+    // the replies that were heard, which have no bytes in memory
+    heard: Vec<Snapshot<Vec<u8>>>,
 }
 
 impl<R: Net<Stream = TcpStream> + Clock + AllocGlobal + Drop> Cluster<R> {
     /// Returns a cluster of these members, none of them connected. They are HOST:PORT,HOST:PORT and
     /// so on.
-    pub(crate) fn new(rt: R, members: &str, limits: Limits) -> Result<Cluster<R>, AllocError> {
+    pub(crate) fn new(rt: R, members: &str, limits: Limits) -> Result<Cluster<R>, AllocError>
+        ensures { IfOk result (λ cluster. cluster.heard.items ≡ []) }
+    {
         let mut each = Vec::new(rt.alloc());
+        let heard = Vec::new(rt.alloc());
         for member in members.split(',') {
             each.push(String::from_str(rt.alloc(), member)?)?;
         }
@@ -74,6 +86,7 @@ impl<R: Net<Stream = TcpStream> + Clock + AllocGlobal + Drop> Cluster<R> {
             at: 0,
             gateway: None,
             identity: None,
+            heard,
         })
     }
 
@@ -92,25 +105,41 @@ impl<R: Net<Stream = TcpStream> + Clock + AllocGlobal + Drop> Cluster<R> {
     ///
     /// A request may be carried out more than once, so it has to be one of which that makes no
     /// difference.
-    pub(crate) fn ask<T: Answer>(&mut self, path: &str, body: &str) -> Result<T, NoAnswer>
-        ensures { IfOk result (λ answer. (reply : Data) × T.says reply answer) }
+    pub(crate) fn ask<T: Answer + Drop>(&mut self, path: &str, body: &str) -> Result<T, NoAnswer>
+        ensures ok { IfOk result (λ answer.
+            Hears (λ reply. reply.value.items) (λ json. T.says json answer)
+            self.old.heard.items self.new.heard.items) }
+        ensures err { OnErr result (self.new.heard.items ≡ self.old.heard.items) }
     {
         let members = self.members.len() as u64;
         for attempt in 0..self.limits.attempts {
             if attempt > members {
                 self.pause();
             }
-            if let Ok(answer) = self.ask_once(path, body) {
-                return Ok(answer);
+            let answer = self.ask_once(path, body);
+            if answer.is_ok() {
+                return answer;
             }
             self.move_on();
         }
         Err(NoAnswer)
     }
 
-    // Sends a request to the member that is next. A connection that failed is closed.
-    fn ask_once<T: Answer>(&mut self, path: &str, body: &str) -> Result<T, NoReply>
-        ensures { IfOk result (λ answer. (reply : Data) × T.says reply answer) }
+    // Sends a request to the member that is next, and hears its reply.
+    fn ask_once<T: Answer>(&mut self, path: &str, body: &str) -> Result<T, NoAnswer>
+        ensures ok { IfOk result (λ answer.
+            Hears (λ reply. reply.value.items) (λ json. T.says json answer)
+            self.old.heard.items self.new.heard.items) }
+        ensures err { OnErr result (self.new.heard.items ≡ self.old.heard.items) }
+    {
+        let text = self.reply_to(path, body)?;
+        self.hear(&text)
+    }
+
+    // Sends a request to the member that is next, and returns the text of its reply. A connection
+    // that failed is closed.
+    fn reply_to(&mut self, path: &str, body: &str) -> Result<Vec<u8>, NoReply>
+        ensures { self.new.heard ≡ self.old.heard }
     {
         let alloc = self.alloc();
         let mut gateway = match self.gateway.take() {
@@ -121,17 +150,45 @@ impl<R: Net<Stream = TcpStream> + Clock + AllocGlobal + Drop> Cluster<R> {
         if gateway.is_idle() {
             self.gateway = Some(gateway);
         }
-        let Ok(reply) = Value::from_slice(alloc, text.as_slice()) else {
-            return Err(NoReply);
+        Ok(text)
+    }
+
+    // Notes the text of a reply if it answers, and returns what it says.
+    fn hear<T: Answer>(&mut self, text: &Vec<u8>) -> Result<T, NoAnswer>
+        ensures ok { IfOk result (λ answer.
+            Hears (λ reply. reply.value.items) (λ json. T.says json answer)
+            self.old.heard.items self.new.heard.items) }
+        ensures err { OnErr result (self.new.heard.items ≡ self.old.heard.items) }
+    {
+        if self.heard.reserve(1).is_err() {
+            return Err(NoAnswer);
+        }
+        let answer = self.answer_in(text);
+        if answer.is_ok() {
+            self.heard.push_reserved(Snapshot::of(text));
+        }
+        answer
+    }
+
+    // Returns what the text of a reply says. One of another cluster says nothing.
+    fn answer_in<T: Answer>(&mut self, text: &[u8]) -> Result<T, NoAnswer>
+        ensures ok { IfOk result (λ answer. Reads (λ json. T.says json answer) text.now) }
+        ensures same { self.new.heard ≡ self.old.heard }
+    {
+        let alloc = self.alloc();
+        let Ok(reply) = Value::from_slice(alloc, text) else {
+            return Err(NoAnswer);
         };
         if !self.is_of_cluster(&reply) {
-            return Err(NoReply);
+            return Err(NoAnswer);
         }
         answer_of(alloc, &reply)
     }
 
     // Whether a reply is from the cluster that answered first.
-    fn is_of_cluster(&mut self, reply: &Value) -> bool {
+    fn is_of_cluster(&mut self, reply: &Value) -> bool
+        ensures { self.new.heard ≡ self.old.heard }
+    {
         let identity = identity_in(reply);
         if self.identity.is_none() {
             self.identity = identity;
@@ -140,7 +197,9 @@ impl<R: Net<Stream = TcpStream> + Clock + AllocGlobal + Drop> Cluster<R> {
     }
 
     // The next member is asked next.
-    fn move_on(&mut self) {
+    fn move_on(&mut self)
+        ensures { self.new.heard ≡ self.old.heard }
+    {
         self.gateway = None;
         self.at = self.at.saturating_add(1);
         if self.at >= self.members.len() {
@@ -188,11 +247,11 @@ fn identity_in(reply: &Value) -> Option<u64> {
 }
 
 // What a reply says.
-fn answer_of<T: Answer>(alloc: Global, reply: &Value) -> Result<T, NoReply>
+fn answer_of<T: Answer>(alloc: Global, reply: &Value) -> Result<T, NoAnswer>
     ensures { IfOk result (λ answer. T.says (view reply.now) answer) }
 {
     match T::read(alloc, reply) {
         Ok(answer) => Ok(answer),
-        Err(_) => Err(NoReply),
+        Err(_) => Err(NoAnswer),
     }
 }

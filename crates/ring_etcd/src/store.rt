@@ -2,10 +2,10 @@
 ghost use Rattle.std.specs.Prelude.{◌≡◌, ◌↔◌, Some, IfOk, IsTrue, option_map, string_bytes};
 ghost use Rattle.base64.specs.Engines.{standard};
 ghost use Rattle.base64.specs.GeneralPurpose.{encode_of};
-ghost use Rattle.serde_json.specs.Data.{Data};
 ghost use Rattle.ring_etcd.specs.Bases.{base_text};
 ghost use Rattle.ring_etcd.specs.Found.{pairs_in};
 ghost use Rattle.ring_etcd.specs.Keys.{entry_key, piece_key};
+ghost use Rattle.ring_etcd.specs.private.Hearing.{Hears};
 ghost use Rattle.ring_etcd.specs.private.Paging.{ArePairs};
 ghost use Rattle.ring_etcd.specs.private.Putting.{IsPut, IsPutOver, IsSwitched};
 ghost use Rattle.ring_etcd.specs.private.Replies.{IsRevision};
@@ -80,7 +80,9 @@ impl<R: Net<Stream = TcpStream> + Clock + AllocGlobal + Drop> Store<R> {
     /// Returns a number that no process was given before: the revision of a put.
     pub(crate) fn identity(&mut self) -> Result<u64, AskFault>
         ensures keys { self.new.keys ≡ self.old.keys }
-        ensures told { IfOk result (λ identity. (reply : Data) × IsRevision reply identity) }
+        ensures told { IfOk result (λ identity.
+            Hears (λ reply. reply.value.items) (λ json. IsRevision json identity)
+            self.old.cluster.heard.items self.new.cluster.heard.items) }
     {
         let body = self.keys.identity_request()?;
         let Revision(revision) = self.cluster.ask(PUT, body.as_str())?;
@@ -127,8 +129,10 @@ impl<R: Net<Stream = TcpStream> + Clock + AllocGlobal + Drop> Store<R> {
         entry: &[u8],
     ) -> Result<Put, AskFault>
         ensures keys { self.new.keys ≡ self.old.keys }
-        ensures told { IfOk result (λ put. (reply : Data)
-            × IsToldPut reply entry.now (base_text base.text base.pieces) put) }
+        ensures told { IfOk result (λ put.
+            Hears (λ reply. reply.value.items) (λ json. IsToldPut json entry.now
+            (base_text base.text base.pieces) put)
+            self.old.cluster.heard.items self.new.cluster.heard.items) }
     {
         let counts = base.value(self.alloc())?;
         let body = self.keys.entry_request(base, number, entry)?;
@@ -141,8 +145,10 @@ impl<R: Net<Stream = TcpStream> + Clock + AllocGlobal + Drop> Store<R> {
     ///
     /// Returns whether this process did that, as a reply says.
     pub(crate) fn switch(&mut self, old: Base, number: u64, new: Base) -> Result<bool, AskFault>
-        ensures { IfOk result (λ is_done. (reply : Data)
-            × (IsTrue is_done → IsToldSwitched reply (base_text new.text new.pieces))) }
+        ensures { IfOk result (λ is_done.
+            Hears (λ reply. reply.value.items) (λ json. IsTrue is_done
+            → IsToldSwitched json (base_text new.text new.pieces))
+            self.old.cluster.heard.items self.new.cluster.heard.items) }
     {
         let value = new.value(self.alloc())?;
         let body = self.keys.switch_request(old, number, new)?;
@@ -153,7 +159,9 @@ impl<R: Net<Stream = TcpStream> + Clock + AllocGlobal + Drop> Store<R> {
     /// Returns the first entries after a text, from a number on.
     pub(crate) fn entries(&mut self, text: u64, number: u64) -> Result<Vec<Pair>, AskFault>
         ensures keys { self.new.keys ≡ self.old.keys }
-        ensures pairs { IfOk result (λ pairs. (reply : Data) × ArePairs (pairs_in reply) pairs.items) }
+        ensures pairs { IfOk result (λ pairs.
+            Hears (λ reply. reply.value.items) (λ json. ArePairs (pairs_in json) pairs.items)
+            self.old.cluster.heard.items self.new.cluster.heard.items) }
     {
         let body = self.keys.entries_request(text, number)?;
         let Page { pairs } = self.cluster.ask(RANGE, body.as_str())?;
@@ -163,7 +171,9 @@ impl<R: Net<Stream = TcpStream> + Clock + AllocGlobal + Drop> Store<R> {
     /// Returns the first pieces of a text, from a number on.
     pub(crate) fn pieces(&mut self, text: u64, number: u64) -> Result<Vec<Pair>, AskFault>
         ensures keys { self.new.keys ≡ self.old.keys }
-        ensures pairs { IfOk result (λ pairs. (reply : Data) × ArePairs (pairs_in reply) pairs.items) }
+        ensures pairs { IfOk result (λ pairs.
+            Hears (λ reply. reply.value.items) (λ json. ArePairs (pairs_in json) pairs.items)
+            self.old.cluster.heard.items self.new.cluster.heard.items) }
     {
         let body = self.keys.pieces_request(text, number)?;
         let Page { pairs } = self.cluster.ask(RANGE, body.as_str())?;

@@ -3,9 +3,14 @@ use Rattle.ring_etcd.proofs.Telling.{told_switched}
 use Rattle.ring_etcd.proofs.store.Store.switch.Goals as goal
 
 pub returns : goal.returns
-returns g c = (
-  c.in_ok-said.ensures.0,
-  λ yes. told_switched _ _ _ _ c.in_ok-said.ensures.1
-      (c.as_bytes.ensures.value ∙ c.as_str-2.ensures.value ∙ c.in_ok-value.ensures)
-      (c.is_base.ensures.0 yes),
-)
+returns g c = record {
+  reply = c.in_ok-said.ensures.ok.reply;
+  is_next = c.in_ok-said.ensures.ok.is_next;
+  reads = record {
+    json = c.in_ok-said.ensures.ok.reads.json;
+    is_read = c.in_ok-said.ensures.ok.reads.is_read;
+    says = λ yes. told_switched _ _ _ _ c.in_ok-said.ensures.ok.reads.says
+        (c.as_bytes.ensures.value ∙ c.as_str-2.ensures.value ∙ c.in_ok-value.ensures)
+        (c.is_base.ensures.0 yes);
+  };
+}
