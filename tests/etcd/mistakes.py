@@ -156,6 +156,8 @@ class ReadsAnOldState(Sound):
         return said
 
 
+# How often the scene of a mistake is played at most, until it is reported.
+SCENES = 8
 SOUND = (Sound, ReadsAnOldState)
 MISTAKES = (PutsOverEntries, PutsAfterAnyText, SwitchesOverEntries, PutsNoMark, PutsNothing, AnswersEarly,
             AnswersDoneToRefused)
@@ -234,9 +236,11 @@ def report(program, kind):
 
 
 def see_all(program):
-    """Sees that each mistake is reported, and nothing else."""
+    """Sees that each mistake is reported, and nothing else. On a busy machine a scene may end before its mistake is told to
+    a client. So the scene of a mistake is played again until the mistake is reported."""
     for kind in (*SOUND, *MISTAKES):
-        why = report(program, kind)
+        scenes = (report(program, kind) for _ in range(1 if kind in SOUND else SCENES))
+        why = next(filter(None, scenes), None)
         print(f"mistakes: {kind.__name__}: {why or 'nothing is reported'}", flush=True)
         if (why is None) != (kind in SOUND):
             raise Differs(f"{kind.__name__}: {why or 'this mistake is not reported'}")
