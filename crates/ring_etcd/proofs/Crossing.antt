@@ -6,59 +6,32 @@ use denote.Struct.Declared.{Declared, shape}
 use denote.Struct.Struct.{Struct}
 use Rattle.std.proofs.Crossing.{crosses}
 use Rattle.ring_etcd.specs.declared.engine.Engine as engine
-use Rattle.ring_etcd.specs.contracts.cluster.Cluster as cluster
 use Rattle.ring_etcd.specs.contracts.etcd.Etcd as etcd
 use Rattle.ring_etcd.specs.contracts.lease.Lease as lease
 use Rattle.ring_etcd.specs.contracts.medium.EtcdMedium as medium
-use Rattle.ring_etcd.specs.contracts.store.Store as store
 use Rattle.ring_etcd.proofs.base.Base.TheSendSync as base_crosses
-use Rattle.ring_etcd.proofs.cluster.Limits.TheSendSync as limits_crosses
-use Rattle.ring_etcd.proofs.gateway.Gateway.TheSendSync as gateway_crosses
-use Rattle.ring_etcd.proofs.keys.Keys.TheSendSync as keys_crosses
+use Rattle.ring_etcd.proofs.cluster.Cluster.TheSendSync as cluster_crosses
 use Rattle.ring_etcd.proofs.medium.Standing.TheSendSync as standing_crosses
-
-cluster_send : (R : RattleType) → IsSend R → IsSend (cluster.the_field R).row
-cluster_send R send =
-    let T : Declared = cluster.the_type R in
-    let fields : AllSend (shape T).fields = (send, (limits_crosses.the_field_send, (search (sendable, crosses) depth 20, (search (sendable, crosses) depth 20, (search (sendable, crosses, gateway_crosses.the_send) depth 20, (search (sendable, crosses) depth 20, search (sendable, crosses) depth 20)))))) in
-    struct_send (shape T) fields
-
-cluster_sync : (R : RattleType) → IsSync R → IsSync (cluster.the_field R).row
-cluster_sync R sync =
-    let T : Declared = cluster.the_type R in
-    let fields : AllSync (shape T).fields = (sync, (limits_crosses.the_field_sync, (search (sendable, crosses) depth 20, (search (sendable, crosses) depth 20, (search (sendable, crosses, gateway_crosses.the_sync) depth 20, (search (sendable, crosses) depth 20, search (sendable, crosses) depth 20)))))) in
-    struct_sync (shape T) fields
-
-store_send : (R : RattleType) → IsSend R → IsSend (store.the_field R).row
-store_send R send =
-    let T : Declared = store.the_type R in
-    let fields : AllSend (shape T).fields = (cluster_send R send, search (sendable, crosses, keys_crosses.the_send) depth 20) in
-    struct_send (shape T) fields
-
-store_sync : (R : RattleType) → IsSync R → IsSync (store.the_field R).row
-store_sync R sync =
-    let T : Declared = store.the_type R in
-    let fields : AllSync (shape T).fields = (cluster_sync R sync, search (sendable, crosses, keys_crosses.the_sync) depth 20) in
-    struct_sync (shape T) fields
+use Rattle.ring_etcd.proofs.store.Store.TheSendSync as store_crosses
 
 pub etcd_send : (R : RattleType) → IsSend R → IsSend (etcd.the_row R)
 etcd_send R send =
     let T : Declared = etcd.TheInside.the_type R in
-    let fields : AllSend (shape T).fields = (store_send R send, (base_crosses.the_field_send, search (sendable, crosses) depth 20)) in
+    let fields : AllSend (shape T).fields = (store_crosses.the_field_send R send, (base_crosses.the_field_send, search (sendable, crosses) depth 20)) in
     let inside : IsSend (etcd.TheInside.the_row R) = recorded_send (Struct (shape T)) T.D T.to T.to_one (struct_send (shape T) fields) in
     view_send (etcd.TheInside.the_row R) _ _ _ _ inside
 
 pub etcd_sync : (R : RattleType) → IsSync R → IsSync (etcd.the_row R)
 etcd_sync R sync =
     let T : Declared = etcd.TheInside.the_type R in
-    let fields : AllSync (shape T).fields = (store_sync R sync, (base_crosses.the_field_sync, search (sendable, crosses) depth 20)) in
+    let fields : AllSync (shape T).fields = (store_crosses.the_field_sync R sync, (base_crosses.the_field_sync, search (sendable, crosses) depth 20)) in
     let inside : IsSync (etcd.TheInside.the_row R) = recorded_sync (Struct (shape T)) T.D T.to T.to_one (struct_sync (shape T) fields) in
     view_sync (etcd.TheInside.the_row R) _ _ _ _ inside
 
 pub lease_send : (R : RattleType) → IsSend R → IsSend (lease.the_row R)
 lease_send R send =
     let T : Declared = lease.TheInside.the_type R in
-    let fields : AllSend (shape T).fields = (cluster_send R send, search (sendable, crosses) depth 20) in
+    let fields : AllSend (shape T).fields = (cluster_crosses.the_field_send R send, search (sendable, crosses) depth 20) in
     let inside : IsSend (lease.TheInside.the_row R) = recorded_send (Struct (shape T)) T.D T.to T.to_one (struct_send (shape T) fields) in
     view_send (lease.TheInside.the_row R) _ _ _ _ inside
 

@@ -3,7 +3,6 @@ pub mod Digits
 pub mod Following
 pub mod Fresh
 pub mod Gathering
-pub mod Hearing
 pub mod Held
 pub mod Pairing
 pub mod Sending

@@ -1,5 +1,5 @@
 //! The members of a cluster, which are asked in turn until one of them answers.
-ghost use Rattle.std.specs.Prelude.{◌≡◌, [], IfOk, OnErr};
+ghost use Rattle.std.specs.Prelude.{◌≡◌, IfOk, OnErr};
 ghost use Rattle.serde_json.specs.View.{view};
 ghost use Rattle.ring_etcd.specs.private.Hearing.{Hears, Reads};
 
@@ -8,7 +8,6 @@ use crate::replies::Answer;
 use serde_json::Value;
 use std::alloc::{AllocError, Global};
 use std::net::{Net, SocketAddr, TcpStream, ToSocketAddrs};
-use std::snapshot::Snapshot;
 use std::time::{Clock, Duration};
 use std::{io, thread};
 
@@ -64,18 +63,19 @@ pub(crate) struct Cluster<R> {
     gateway: Option<Gateway<TcpStream>>,
     // the identity of the cluster that answered first; no other one is believed
     identity: Option<u64>,
-    // the replies that were heard, which have no bytes in memory
-    heard: Vec<Snapshot<Vec<u8>>>,
+    // how many replies were heard, by which contracts know a new one, and the text of the last
+    heard: u64,
+    last: Vec<u8>,
 }
 
 impl<R: Net<Stream = TcpStream> + Clock + AllocGlobal + Drop> Cluster<R> {
     /// Returns a cluster of these members, none of them connected. They are HOST:PORT,HOST:PORT and
     /// so on.
     pub(crate) fn new(rt: R, members: &str, limits: Limits) -> Result<Cluster<R>, AllocError>
-        ensures { IfOk result (λ cluster. cluster.heard.items ≡ []) }
+        ensures { IfOk result (λ cluster. cluster.heard ≡ 0) }
     {
         let mut each = Vec::new(rt.alloc());
-        let heard = Vec::new(rt.alloc());
+        let last = Vec::new(rt.alloc());
         for member in members.split(',') {
             each.push(String::from_str(rt.alloc(), member)?)?;
         }
@@ -86,7 +86,8 @@ impl<R: Net<Stream = TcpStream> + Clock + AllocGlobal + Drop> Cluster<R> {
             at: 0,
             gateway: None,
             identity: None,
-            heard,
+            heard: 0,
+            last,
         })
     }
 
@@ -107,9 +108,9 @@ impl<R: Net<Stream = TcpStream> + Clock + AllocGlobal + Drop> Cluster<R> {
     /// difference.
     pub(crate) fn ask<T: Answer + Drop>(&mut self, path: &str, body: &str) -> Result<T, NoAnswer>
         ensures ok { IfOk result (λ answer.
-            Hears (λ reply. reply.value.items) (λ json. T.says json answer)
-            self.old.heard.items self.new.heard.items) }
-        ensures err { OnErr result (self.new.heard.items ≡ self.old.heard.items) }
+            Hears (λ json. T.says json answer)
+            self.old.heard self.new.heard self.new.last.items) }
+        ensures err { OnErr result (self.new.heard ≡ self.old.heard) }
     {
         let members = self.members.len() as u64;
         for attempt in 0..self.limits.attempts {
@@ -128,12 +129,12 @@ impl<R: Net<Stream = TcpStream> + Clock + AllocGlobal + Drop> Cluster<R> {
     // Sends a request to the member that is next, and hears its reply.
     fn ask_once<T: Answer>(&mut self, path: &str, body: &str) -> Result<T, NoAnswer>
         ensures ok { IfOk result (λ answer.
-            Hears (λ reply. reply.value.items) (λ json. T.says json answer)
-            self.old.heard.items self.new.heard.items) }
-        ensures err { OnErr result (self.new.heard.items ≡ self.old.heard.items) }
+            Hears (λ json. T.says json answer)
+            self.old.heard self.new.heard self.new.last.items) }
+        ensures err { OnErr result (self.new.heard ≡ self.old.heard) }
     {
         let text = self.reply_to(path, body)?;
-        self.hear(&text)
+        self.hear(text)
     }
 
     // Sends a request to the member that is next, and returns the text of its reply. A connection
@@ -153,19 +154,19 @@ impl<R: Net<Stream = TcpStream> + Clock + AllocGlobal + Drop> Cluster<R> {
         Ok(text)
     }
 
-    // Notes the text of a reply if it answers, and returns what it says.
-    fn hear<T: Answer>(&mut self, text: &Vec<u8>) -> Result<T, NoAnswer>
-        ensures ok { IfOk result (λ answer.
-            Hears (λ reply. reply.value.items) (λ json. T.says json answer)
-            self.old.heard.items self.new.heard.items) }
-        ensures err { OnErr result (self.new.heard.items ≡ self.old.heard.items) }
+    // Keeps the text of a reply if it answers, and returns what it says.
+    fn hear<T: Answer>(&mut self, text: Vec<u8>) -> Result<T, NoAnswer>
+        ensures ok { IfOk result (λ answer. Hears (λ json. T.says json answer)
+            self.old.heard self.new.heard self.new.last.items) }
+        ensures err { OnErr result (self.new.heard ≡ self.old.heard) }
     {
-        if self.heard.reserve(1).is_err() {
+        let Some(heard) = self.heard.checked_add(1) else {
             return Err(NoAnswer);
-        }
-        let answer = self.answer_in(text);
+        };
+        let answer = self.answer_in(&text);
+        self.last = text;
         if answer.is_ok() {
-            self.heard.push_reserved(Snapshot::of(text));
+            self.heard = heard;
         }
         answer
     }

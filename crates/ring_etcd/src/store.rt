@@ -81,8 +81,9 @@ impl<R: Net<Stream = TcpStream> + Clock + AllocGlobal + Drop> Store<R> {
     pub(crate) fn identity(&mut self) -> Result<u64, AskFault>
         ensures keys { self.new.keys ≡ self.old.keys }
         ensures told { IfOk result (λ identity.
-            Hears (λ reply. reply.value.items) (λ json. IsRevision json identity)
-            self.old.cluster.heard.items self.new.cluster.heard.items) }
+            Hears (λ json. IsRevision json identity)
+            self.old.cluster.heard self.new.cluster.heard
+            self.new.cluster.last.items) }
     {
         let body = self.keys.identity_request()?;
         let Revision(revision) = self.cluster.ask(PUT, body.as_str())?;
@@ -130,9 +131,10 @@ impl<R: Net<Stream = TcpStream> + Clock + AllocGlobal + Drop> Store<R> {
     ) -> Result<Put, AskFault>
         ensures keys { self.new.keys ≡ self.old.keys }
         ensures told { IfOk result (λ put.
-            Hears (λ reply. reply.value.items) (λ json. IsToldPut json entry.now
+            Hears (λ json. IsToldPut json entry.now
             (base_text base.text base.pieces) put)
-            self.old.cluster.heard.items self.new.cluster.heard.items) }
+            self.old.cluster.heard self.new.cluster.heard
+            self.new.cluster.last.items) }
     {
         let counts = base.value(self.alloc())?;
         let body = self.keys.entry_request(base, number, entry)?;
@@ -146,9 +148,10 @@ impl<R: Net<Stream = TcpStream> + Clock + AllocGlobal + Drop> Store<R> {
     /// Returns whether this process did that, as a reply says.
     pub(crate) fn switch(&mut self, old: Base, number: u64, new: Base) -> Result<bool, AskFault>
         ensures { IfOk result (λ is_done.
-            Hears (λ reply. reply.value.items) (λ json. IsTrue is_done
+            Hears (λ json. IsTrue is_done
             → IsToldSwitched json (base_text new.text new.pieces))
-            self.old.cluster.heard.items self.new.cluster.heard.items) }
+            self.old.cluster.heard self.new.cluster.heard
+            self.new.cluster.last.items) }
     {
         let value = new.value(self.alloc())?;
         let body = self.keys.switch_request(old, number, new)?;
@@ -160,8 +163,9 @@ impl<R: Net<Stream = TcpStream> + Clock + AllocGlobal + Drop> Store<R> {
     pub(crate) fn entries(&mut self, text: u64, number: u64) -> Result<Vec<Pair>, AskFault>
         ensures keys { self.new.keys ≡ self.old.keys }
         ensures pairs { IfOk result (λ pairs.
-            Hears (λ reply. reply.value.items) (λ json. ArePairs (pairs_in json) pairs.items)
-            self.old.cluster.heard.items self.new.cluster.heard.items) }
+            Hears (λ json. ArePairs (pairs_in json) pairs.items)
+            self.old.cluster.heard self.new.cluster.heard
+            self.new.cluster.last.items) }
     {
         let body = self.keys.entries_request(text, number)?;
         let Page { pairs } = self.cluster.ask(RANGE, body.as_str())?;
@@ -172,8 +176,9 @@ impl<R: Net<Stream = TcpStream> + Clock + AllocGlobal + Drop> Store<R> {
     pub(crate) fn pieces(&mut self, text: u64, number: u64) -> Result<Vec<Pair>, AskFault>
         ensures keys { self.new.keys ≡ self.old.keys }
         ensures pairs { IfOk result (λ pairs.
-            Hears (λ reply. reply.value.items) (λ json. ArePairs (pairs_in json) pairs.items)
-            self.old.cluster.heard.items self.new.cluster.heard.items) }
+            Hears (λ json. ArePairs (pairs_in json) pairs.items)
+            self.old.cluster.heard self.new.cluster.heard
+            self.new.cluster.last.items) }
     {
         let body = self.keys.pieces_request(text, number)?;
         let Page { pairs } = self.cluster.ask(RANGE, body.as_str())?;

@@ -1,5 +1,5 @@
--- The replies that were heard, in their order.
-use Rattle.std.specs.Prelude.{◌≡◌, ℕ, List, [], ◌∷◌, ◌++◌, Some}
+-- The reply that was heard last.
+use Rattle.std.specs.Prelude.{◌≡◌, ◌+◌, ℕ, List, Some}
 use Rattle.serde_json.specs.Data.{Data}
 use Rattle.serde_json.specs.Read.{read as read_text}
 
@@ -9,8 +9,7 @@ pub record Reads (P : Data → Type 0) (text : List ℕ) : Type 0 where
   pub is_read : read_text text ≡ Some json
   pub says : P json
 
--- One more reply was heard, and this is so of it.
-pub record Hears {A : Type 0} (text : A → List ℕ) (P : Data → Type 0) (old new : List A) : Type 0 where
-  pub reply : A
-  pub is_next : new ≡ old ++ reply ∷ []
-  pub reads : Reads P (text reply)
+-- One more reply was heard than before. This is so of the last one.
+pub record Hears (P : Data → Type 0) (old new : ℕ) (last : List ℕ) : Type 0 where
+  pub is_next : new ≡ old + 1
+  pub reads : Reads P last

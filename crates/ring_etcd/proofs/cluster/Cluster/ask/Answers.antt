@@ -5,5 +5,5 @@ use Rattle.ring_etcd.proofs.cluster.Cluster.ask.Goals as goal
 
 pub returns-then-is_ok-clause-ok : goal.returns-then-is_ok-clause-ok
 returns-then-is_ok-clause-ok g c =
-    subst (λ old. IfOk c.ask_once-answer.result (λ answer. Hears (λ reply. reply.value.items) (λ json. g.T.Answer.says json answer) old c.ask_once-answer.new.self.heard.items))
+    subst (λ old. IfOk c.ask_once-answer.result (λ answer. Hears (λ json. g.T.Answer.says json answer) old c.ask_once-answer.new.self.heard c.ask_once-answer.new.self.last.items))
     c.loop-attempt.invariant c.ask_once-answer.ensures.ok

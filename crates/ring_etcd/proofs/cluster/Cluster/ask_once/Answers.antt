@@ -1,9 +1,9 @@
-use Rattle.std.proofs.Common.{ap, subst}
+use Rattle.std.proofs.Common.{subst}
 use Rattle.std.specs.Prelude.{IfOk}
 use Rattle.ring_etcd.specs.private.Hearing.{Hears}
 use Rattle.ring_etcd.proofs.cluster.Cluster.ask_once.Goals as goal
 
 pub returns-clause-ok : goal.returns-clause-ok
 returns-clause-ok g c =
-    subst (λ old. IfOk c.hear.result (λ answer. Hears (λ reply. reply.value.items) (λ json. g.T.Answer.says json answer) old c.hear.new.self.heard.items))
-    (ap (λ heard. heard.items) c.in_ok-text.ensures) c.hear.ensures.ok
+    subst (λ old. IfOk c.hear.result (λ answer. Hears (λ json. g.T.Answer.says json answer) old c.hear.new.self.heard c.hear.new.self.last.items))
+    c.in_ok-text.ensures c.hear.ensures.ok

@@ -4,7 +4,6 @@ use Rattle.ring_etcd.proofs.store.Store.put_entry.Goals as goal
 
 pub returns-clause-told : goal.returns-clause-told
 returns-clause-told g c = record {
-  reply = c.in_ok-said.ensures.ok.reply;
   is_next = c.in_ok-said.ensures.ok.is_next;
   reads = record {
     json = c.in_ok-said.ensures.ok.reads.json;

@@ -4,7 +4,6 @@ use Rattle.ring_etcd.proofs.store.Store.switch.Goals as goal
 
 pub returns : goal.returns
 returns g c = record {
-  reply = c.in_ok-said.ensures.ok.reply;
   is_next = c.in_ok-said.ensures.ok.is_next;
   reads = record {
     json = c.in_ok-said.ensures.ok.reads.json;
