@@ -1,6 +1,7 @@
 pub mod Bases
 pub mod Done
 pub mod Entries
+pub mod Faults
 pub mod Found
 pub mod Holding
 pub mod Keys

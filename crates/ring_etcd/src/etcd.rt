@@ -13,12 +13,22 @@ use std::snapshot::Snapshot;
 use std::time::Clock;
 
 impl From<AllocError> for EngineFault {
+    ghost use Rattle.std.specs.Prelude.{◌≡◌};
+    ghost use Rattle.ring_etcd.specs.declared.engine.EngineFault.TheVariants.{NoMemory};
+
+    ghost from_gives = { λ _ fault. fault ≡ NoMemory };
+
     fn from(_error: AllocError) -> EngineFault {
         EngineFault::NoMemory
     }
 }
 
 impl From<AskFault> for EngineFault {
+    ghost use Rattle.std.specs.Prelude.{◌≡◌};
+    ghost use Rattle.ring_etcd.specs.Faults.{engine_fault_of};
+
+    ghost from_gives = { λ asked fault. fault ≡ engine_fault_of asked };
+
     fn from(fault: AskFault) -> EngineFault {
         match fault {
             AskFault::NoMemory => EngineFault::NoMemory,

@@ -35,12 +35,22 @@ pub enum EtcdFault {
 }
 
 impl From<AllocError> for EtcdFault {
+    ghost use Rattle.std.specs.Prelude.{◌≡◌};
+    ghost use Rattle.ring_etcd.specs.declared.place.EtcdFault.TheVariants.{NoMemory};
+
+    ghost from_gives = { λ _ fault. fault ≡ NoMemory };
+
     fn from(_error: AllocError) -> EtcdFault {
         EtcdFault::NoMemory
     }
 }
 
 impl From<AskFault> for EtcdFault {
+    ghost use Rattle.std.specs.Prelude.{◌≡◌};
+    ghost use Rattle.ring_etcd.specs.Faults.{fault_of_ask};
+
+    ghost from_gives = { λ asked fault. fault ≡ fault_of_ask asked };
+
     fn from(fault: AskFault) -> EtcdFault {
         match fault {
             AskFault::NoMemory => EtcdFault::NoMemory,
@@ -50,6 +60,11 @@ impl From<AskFault> for EtcdFault {
 }
 
 impl From<ReadFault> for EtcdFault {
+    ghost use Rattle.std.specs.Prelude.{◌≡◌};
+    ghost use Rattle.ring_etcd.specs.Faults.{fault_of_read};
+
+    ghost from_gives = { λ read fault. fault ≡ fault_of_read read };
+
     fn from(fault: ReadFault) -> EtcdFault {
         match fault {
             ReadFault::NoMemory => EtcdFault::NoMemory,
@@ -60,6 +75,11 @@ impl From<ReadFault> for EtcdFault {
 }
 
 impl From<EngineFault> for EtcdFault {
+    ghost use Rattle.std.specs.Prelude.{◌≡◌};
+    ghost use Rattle.ring_etcd.specs.Faults.{fault_of_engine};
+
+    ghost from_gives = { λ engine fault. fault ≡ fault_of_engine engine };
+
     fn from(fault: EngineFault) -> EtcdFault {
         match fault {
             EngineFault::NoMemory => EtcdFault::NoMemory,

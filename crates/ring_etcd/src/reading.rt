@@ -32,12 +32,22 @@ pub(crate) enum ReadFault {
 }
 
 impl From<AllocError> for ReadFault {
+    ghost use Rattle.std.specs.Prelude.{◌≡◌};
+    ghost use Rattle.ring_etcd.specs.declared.reading.ReadFault.TheVariants.{NoMemory};
+
+    ghost from_gives = { λ _ fault. fault ≡ NoMemory };
+
     fn from(_error: AllocError) -> ReadFault {
         ReadFault::NoMemory
     }
 }
 
 impl From<AskFault> for ReadFault {
+    ghost use Rattle.std.specs.Prelude.{◌≡◌};
+    ghost use Rattle.ring_etcd.specs.private.Faults.{read_fault_of};
+
+    ghost from_gives = { λ asked fault. fault ≡ read_fault_of asked };
+
     fn from(fault: AskFault) -> ReadFault {
         match fault {
             AskFault::NoMemory => ReadFault::NoMemory,

@@ -30,12 +30,22 @@ pub(crate) enum AskFault {
 }
 
 impl From<AllocError> for AskFault {
+    ghost use Rattle.std.specs.Prelude.{◌≡◌};
+    ghost use Rattle.ring_etcd.specs.declared.store.AskFault.TheVariants.{NoMemory};
+
+    ghost from_gives = { λ _ fault. fault ≡ NoMemory };
+
     fn from(_error: AllocError) -> AskFault {
         AskFault::NoMemory
     }
 }
 
 impl From<NoAnswer> for AskFault {
+    ghost use Rattle.std.specs.Prelude.{◌≡◌};
+    ghost use Rattle.ring_etcd.specs.declared.store.AskFault.TheVariants.{NoAnswer};
+
+    ghost from_gives = { λ _ fault. fault ≡ NoAnswer };
+
     fn from(_silence: NoAnswer) -> AskFault {
         AskFault::NoAnswer
     }
