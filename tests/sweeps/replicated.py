@@ -4,9 +4,9 @@ The program begins over a new journal, over one with groups, or takes one over f
 asks commands, one by one. In some runs another process takes the journal over before the last one.
 
 If a call of the connection to etcd goes wrong, the request is sent again, so the program goes on as usual. If memory
-is refused to a request, it is tried again too. Elsewhere a command may be refused, or a start ends with its one line.
-In the end the journal in etcd has all that was told, and nothing in part. If the program has ended, another one takes
-over and shows the same.
+is refused to a request, it is tried again too. Elsewhere a command may be refused, or the program ends with its one
+line. In the end the journal in etcd has all that was told, and nothing in part. If the program has ended, another one
+takes over and shows the same.
 """
 
 import contextlib
@@ -53,7 +53,8 @@ PLACES, PLACES_FULL = 50, 1000
 ABOUT = {"growth": (20, 60), "read": (4, 3), "write": (4, 3)}
 # What the program may say if it ends before it listens, and after that.
 AT_START = {"growth": (NO_MEMORY, UNTHREADED), "spawn": (UNTHREADED,), "socket": (LISTEN_FAILED,)}
-LATER = {"growth": (UNTHREADED,), "spawn": (UNTHREADED,)}
+# Without memory to gather the bytes of a change, the journal fails.
+LATER = {"growth": (FAILED, UNTHREADED), "spawn": (UNTHREADED,)}
 # The first thread renews the lease. Without it, no other keys than these are put.
 OF_LEASE = {"ids", "lease"}
 
@@ -204,7 +205,7 @@ class Sweeps:
         for case, step in ((NEW, 1), (KEPT, 2), (TAKEN, THIRD), *([(LONG, 1)] if self.is_full else [])):
             sweep = Sweep(f"growth, run {case.name} in etcd")
             numbers = range(1, self.counts(case, "growth")[1], 1 if self.is_full else step)
-            self.make(sweep, numbers, case, "growth", haste=STANDING)
+            self.make(sweep, numbers, case, "growth")
             yield sweep
         sweep = Sweep("growths in a row, run over a journal in etcd")
         for times in IN_A_ROW:

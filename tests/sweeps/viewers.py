@@ -18,7 +18,7 @@ PAGE = ROOT / "crates/ring_http/page"
 # The files whose texts each path has, one after another.
 FILES = {
     "/": ("index.html",),
-    "/app.js": tuple(f"script/{part}.js" for part in ("service", "words", "ring", "views", "run")),
+    "/app.js": tuple(f"script/{part}.js" for part in ("service", "words", "ring", "others", "views", "run")),
     "/app.css": ("app.css",),
 }
 POLICY = b"\r\ncontent-security-policy: default-src 'self'\r\n"
