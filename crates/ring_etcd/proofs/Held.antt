@@ -18,6 +18,6 @@ put_all new old entry left text put none whole =
 pub put_len : (new old : List (List ℕ)) (entry text : List ℕ) → new ≡ old ++ entry ∷ [] → joined old ++ entry ≡ text → length (joined new) ≡ length text
 put_len new old entry text put whole = ap length (ap joined put ∙ joined-push old entry ∙ whole)
 
-pub begun : (held : List (List ℕ)) (text : List ℕ) → held ≡ text ∷ [] → moment_of held [] None ≡ record { text = text; kept = length text; other = None }
-begun held text is =
-    ap (λ h. moment_of h [] None) is ∙ (λ i. record { text = (append-nil (text ++ []) ∙ append-nil text) i; kept = length (append-nil text i); other = None })
+pub begun : (held : List (List ℕ)) (pending text : List ℕ) → held ≡ text ∷ [] → pending ≡ [] → moment_of held pending None ≡ record { text = text; kept = length text; other = None }
+begun held pending text is none =
+    ap (λ p. moment_of held p None) none ∙ ap (λ h. moment_of h [] None) is ∙ (λ i. record { text = (append-nil (text ++ []) ∙ append-nil text) i; kept = length (append-nil text i); other = None })

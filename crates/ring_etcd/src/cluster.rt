@@ -11,35 +11,14 @@ use std::net::{Net, SocketAddr, TcpStream, ToSocketAddrs};
 use std::time::{Clock, Duration};
 use std::{io, thread};
 
+/// How often a request is sent at most.
+const ATTEMPTS: u64 = 256;
+
+/// How many milliseconds an attempt waits for a connection, and for each read and write.
+const WAIT_MILLIS: u64 = 300;
+
 /// How many milliseconds pass between two attempts, once each member was asked.
-const PAUSE_MILLIS: u64 = 200;
-
-/// How long a request is tried.
-#[derive(Clone, Copy, Debug, PartialEq, Eq)]
-pub(crate) struct Limits {
-    /// How often the request is sent at most.
-    pub(crate) attempts: u64,
-    /// How many milliseconds each attempt waits for a connection.
-    pub(crate) connect_millis: u64,
-    /// How many milliseconds each attempt waits for each read or write.
-    pub(crate) reply_millis: u64,
-}
-
-impl Limits {
-    /// The limits of a journal's requests.
-    pub(crate) const JOURNAL: Limits = Limits {
-        attempts: 64,
-        connect_millis: 1000,
-        reply_millis: 2500,
-    };
-
-    /// The limits of a lease's requests. All attempts take at least as long as a journal's.
-    pub(crate) const LEASE: Limits = Limits {
-        attempts: 256,
-        connect_millis: 500,
-        reply_millis: 500,
-    };
-}
+const PAUSE_MILLIS: u64 = 50;
 
 /// A request got no reply that answers it. It may have been carried out or not.
 #[derive(Clone, Copy, Debug, PartialEq, Eq)]
@@ -56,7 +35,6 @@ impl From<NoReply> for NoAnswer {
 #[derive(Drop)]
 pub(crate) struct Cluster<R> {
     rt: R,
-    limits: Limits,
     members: Vec<String>,
     // the member that is asked next
     at: usize,
@@ -71,7 +49,7 @@ pub(crate) struct Cluster<R> {
 impl<R: Net<Stream = TcpStream> + Clock + AllocGlobal + Drop> Cluster<R> {
     /// Returns a cluster of these members, none of them connected. They are HOST:PORT,HOST:PORT and
     /// so on.
-    pub(crate) fn new(rt: R, members: &str, limits: Limits) -> Result<Cluster<R>, AllocError>
+    pub(crate) fn new(rt: R, members: &str) -> Result<Cluster<R>, AllocError>
         ensures { IfOk result (λ cluster. cluster.heard ≡ 0) }
     {
         let mut each = Vec::new(rt.alloc());
@@ -81,7 +59,6 @@ impl<R: Net<Stream = TcpStream> + Clock + AllocGlobal + Drop> Cluster<R> {
         }
         Ok(Cluster {
             rt,
-            limits,
             members: each,
             at: 0,
             gateway: None,
@@ -96,13 +73,12 @@ impl<R: Net<Stream = TcpStream> + Clock + AllocGlobal + Drop> Cluster<R> {
         self.rt.alloc()
     }
 
-    /// Sleeps 200 milliseconds.
-    pub(crate) fn pause(&self) {
-        thread::sleep(&self.rt, Duration::from_millis(PAUSE_MILLIS));
+    /// Sleeps for so many milliseconds.
+    pub(crate) fn pause(&self, millis: u64) {
+        thread::sleep(&self.rt, Duration::from_millis(millis));
     }
 
-    /// Sends a request until a member gives a reply in JSON that answers it, as often as the limits
-    /// say at most.
+    /// Sends a request until a member gives a reply in JSON that answers it, 256 times at most.
     ///
     /// A request may be carried out more than once, so it has to be one of which that makes no
     /// difference.
@@ -113,9 +89,9 @@ impl<R: Net<Stream = TcpStream> + Clock + AllocGlobal + Drop> Cluster<R> {
         ensures err { OnErr result (self.new.heard ≡ self.old.heard) }
     {
         let members = self.members.len() as u64;
-        for attempt in 0..self.limits.attempts {
+        for attempt in 0..ATTEMPTS {
             if attempt > members {
-                self.pause();
+                self.pause(PAUSE_MILLIS);
             }
             let answer = self.ask_once(path, body);
             if answer.is_ok() {
@@ -218,7 +194,7 @@ impl<R: Net<Stream = TcpStream> + Clock + AllocGlobal + Drop> Cluster<R> {
             .to_socket_addrs(&self.rt)
             .map_err(|_| NoReply)?;
         for address in addresses {
-            if let Ok(stream) = connected(&self.rt, &address, self.limits) {
+            if let Ok(stream) = connected(&self.rt, &address) {
                 return Ok(Gateway::new(self.alloc(), stream));
             }
         }
@@ -226,18 +202,13 @@ impl<R: Net<Stream = TcpStream> + Clock + AllocGlobal + Drop> Cluster<R> {
     }
 }
 
-// Connects to an address, with limits on how long each call waits.
-fn connected<R: Net<Stream = TcpStream>>(
-    rt: &R,
-    address: &SocketAddr,
-    limits: Limits,
-) -> io::Result<TcpStream> {
-    let wait = Duration::from_millis(limits.connect_millis);
-    let stream = TcpStream::connect_timeout(rt, address, wait)?;
-    let limit = Some(Duration::from_millis(limits.reply_millis));
+// Connects to an address, with a limit on how long each call waits.
+fn connected<R: Net<Stream = TcpStream>>(rt: &R, address: &SocketAddr) -> io::Result<TcpStream> {
+    let limit = Duration::from_millis(WAIT_MILLIS);
+    let stream = TcpStream::connect_timeout(rt, address, limit)?;
     stream.set_nodelay(true)?;
-    stream.set_read_timeout(limit)?;
-    stream.set_write_timeout(limit)?;
+    stream.set_read_timeout(Some(limit))?;
+    stream.set_write_timeout(Some(limit))?;
     Ok(stream)
 }
 

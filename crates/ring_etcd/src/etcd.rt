@@ -37,9 +37,11 @@ impl From<AskFault> for EngineFault {
     }
 }
 
-/// How often an entry is tried at most while allocations fail. Between two attempts pass 200
-/// milliseconds.
+/// How often an entry is tried at most while allocations fail.
 const TRIES: u32 = 64;
+
+/// How many milliseconds pass between two of these attempts.
+const PAUSE_MILLIS: u64 = 200;
 
 /// A text in etcd that this process put, and the entries that it put after it.
 ///
@@ -147,7 +149,7 @@ impl<R: Net<Stream = TcpStream> + Clock + AllocGlobal + Drop> Engine for Etcd<R>
     fn put(&mut self, entry: &Vec<u8>) -> Result<(), EngineFault> {
         for _ in 1..TRIES {
             match self.put_once(entry) {
-                Err(EngineFault::NoMemory) => self.store.pause(),
+                Err(EngineFault::NoMemory) => self.store.pause(PAUSE_MILLIS),
                 ended => return ended,
             }
         }

@@ -5,7 +5,7 @@ ghost use Rattle.ring_etcd.specs.Leases.{MayClaim, looked};
 ghost use Rattle.ring_etcd.specs.Done.{IsDone};
 ghost use Rattle.ring_etcd.specs.private.Replies.{IsRevision, IsSeen};
 
-use crate::cluster::{Cluster, Limits};
+use crate::cluster::Cluster;
 use crate::keys::Keys;
 use crate::place::EtcdFault;
 use crate::replies::{Claimed, Revision, Seen};
@@ -18,9 +18,12 @@ use std::time::Clock;
 /// How many looks in a row find the same revision before a standby process claims a lease.
 pub const LOOKS: u32 = 10;
 
+// How many milliseconds pass between two looks.
+const LOOK_MILLIS: u64 = 150;
+
 /// The lease of a journal in etcd.
 ///
-/// The active process renews it some twice a second. A standby process waits until nobody renews
+/// The active process renews it some three times a second. A standby process waits until nobody renews
 /// it, and then claims it. The process that had it finds that at its next renewal. The lease only
 /// decides how long these processes wait. Nothing else depends on it: the journal is safe if two
 /// processes claim it, or none does.
@@ -53,7 +56,7 @@ impl<R: Net<Stream = TcpStream> + Clock + AllocGlobal + Copy + Drop> Lease<R> {
         ensures { IfOk result (λ lease. lease ≡ record { revision = 0; looks = 0 }) }
     {
         let keys = Keys::new(rt.alloc(), name)?;
-        let mut cluster = Cluster::new(*rt, members, Limits::LEASE)?;
+        let mut cluster = Cluster::new(*rt, members)?;
         let process = new_number(&mut cluster, &keys)?;
         Ok(Lease {
             cluster,
@@ -65,8 +68,8 @@ impl<R: Net<Stream = TcpStream> + Clock + AllocGlobal + Copy + Drop> Lease<R> {
     }
 
     /// Renews the lease, if this process has it. Returns whether it has: another process may have
-    /// claimed it. Tries for at least as long as the journal does before it returns `NoAnswer`. The
-    /// caller may call again.
+    /// claimed it. Tries as often as the journal does before it returns `NoAnswer`. The caller may
+    /// call again.
     pub fn renew(&mut self) -> Result<bool, EtcdFault>
         ensures held { IfOk result (λ is_held. (reply : Data) × (IsTrue is_held ↔ IsDone reply)) }
         ensures same { self.new ≡ self.old }
@@ -99,15 +102,15 @@ impl<R: Net<Stream = TcpStream> + Clock + AllocGlobal + Copy + Drop> Lease<R> {
         Ok(is_claimed)
     }
 
-    /// Looks at the lease five times a second until this process has claimed it. Sleeps before the
-    /// first look.
+    /// Looks at the lease every 150 milliseconds until this process has claimed it. Sleeps before
+    /// the first look.
     ///
     /// If no member of etcd answers, it goes on. Such a time does not count as looks.
     pub fn stand_by(&mut self) -> Result<(), EtcdFault>
         ensures { OnOk result (MayClaim self.new) }
     {
         for _ in 0..u64::MAX {
-            self.cluster.pause();
+            self.cluster.pause(LOOK_MILLIS);
             match self.claim() {
                 Ok(true) => return Ok(()),
                 Ok(false) | Err(EtcdFault::NoAnswer) => {}

@@ -3,7 +3,7 @@ ghost use Rattle.std.specs.Prelude.{◌≡◌, ℕ, IfOk, IfSome, string_bytes};
 ghost use Rattle.ring_etcd.specs.Readings.{IsFound};
 
 use crate::base::Base;
-use crate::cluster::{Cluster, Limits};
+use crate::cluster::Cluster;
 use crate::keys::Keys;
 use crate::place::{EtcdFault, EtcdPlace, READINGS, current};
 use crate::reading::ReadFault;
@@ -21,7 +21,7 @@ impl<R: Net<Stream = TcpStream> + Clock + AllocGlobal + Copy + Drop> EtcdPlace<R
             × IsFound name.now text pieces found.items) }
     {
         let keys = Keys::new(rt.alloc(), name)?;
-        let mut store = Store::new(Cluster::new(*rt, members, Limits::JOURNAL)?, keys);
+        let mut store = Store::new(Cluster::new(*rt, members)?, keys);
         if store.base()?.is_none() {
             return Err(EtcdFault::Damaged);
         }

@@ -1,10 +1,9 @@
 //! The medium on an engine.
-ghost use Rattle.std.specs.Prelude.{◌≡◌, [], None};
+ghost use Rattle.std.specs.Prelude.{◌≡◌, None};
 ghost use Rattle.ring_etcd.specs.Holding.{moment_of};
 
 use crate::engine::{Engine, EngineFault};
 use ring_journal::{Batch, Fault, Medium};
-use std::alloc::Global;
 use std::marker::Model;
 use std::snapshot::Snapshot;
 use std::sync::Arc;
@@ -72,13 +71,14 @@ impl<E: Engine + Drop> Model for EtcdMedium<E> {
 }
 
 impl<E: Engine + Drop> EtcdMedium<E> {
-    /// Returns the medium of what an engine holds. Does not allocate.
-    pub fn new(alloc: Global, engine: E, standing: Arc<Standing>) -> EtcdMedium<E>
-        ensures { result ≡ moment_of (E.held engine) [] None }
+    /// Returns the medium of what an engine holds, and of the bytes in `pending`. Does not allocate.
+    /// As long as the bytes of `append` fit into the room of `pending`, it does not allocate either.
+    pub fn new(engine: E, pending: Vec<u8>, standing: Arc<Standing>) -> EtcdMedium<E>
+        ensures { result ≡ moment_of (E.held engine) pending.items None }
     {
         EtcdMedium {
             engine,
-            pending: Vec::new(alloc),
+            pending,
             other: None,
             is_broken: false,
             standing,

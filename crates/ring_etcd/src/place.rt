@@ -4,14 +4,14 @@ ghost use Rattle.ring_etcd.specs.Bases.{base_text};
 ghost use Rattle.ring_etcd.specs.Readings.{IsTaken, IsTakenBy};
 
 use crate::base::Base;
-use crate::cluster::{Cluster, Limits};
+use crate::cluster::Cluster;
 use crate::engine::EngineFault;
 use crate::etcd::Etcd;
 use crate::keys::Keys;
 use crate::medium::{EtcdMedium, Standing};
 use crate::reading::ReadFault;
 use crate::store::{AskFault, Store};
-use ring_journal::Batch;
+use ring_journal::{Batch, LONGEST_BATCH};
 use std::alloc::{AllocError, Global};
 use std::marker::Model;
 use std::net::{Net, TcpStream};
@@ -131,7 +131,7 @@ impl<R: Net<Stream = TcpStream> + Clock + AllocGlobal + Copy + Drop> EtcdPlace<R
         ensures { IfOk result (IsTaken name.now) }
     {
         let keys = Keys::new(rt.alloc(), name)?;
-        let mut store = Store::new(Cluster::new(*rt, members, Limits::JOURNAL)?, keys);
+        let mut store = Store::new(Cluster::new(*rt, members)?, keys);
         let identity = store.identity()?;
         for _ in 0..READINGS {
             let base = current(&mut store)?;
@@ -158,7 +158,8 @@ impl<R: Net<Stream = TcpStream> + Clock + AllocGlobal + Copy + Drop> EtcdPlace<R
         std::mem::replace(&mut self.found, Vec::new(alloc))
     }
 
-    /// Makes `text` count in the place of what was read, and returns the medium of it.
+    /// Makes `text` count in the place of what was read, and returns the medium of it. It has room
+    /// for the longest batch, so that no allocation fails while a batch is gathered.
     pub fn begin(
         self,
         text: &Batch,
@@ -175,9 +176,9 @@ impl<R: Net<Stream = TcpStream> + Clock + AllocGlobal + Copy + Drop> EtcdPlace<R
             found,
         } = self;
         drop(found);
-        let alloc = store.alloc();
+        let pending = Vec::with_capacity(store.alloc(), LONGEST_BATCH)?;
         let etcd = Etcd::begin_at(store, base, next, identity, text)?;
-        Ok(EtcdMedium::new(alloc, etcd, standing))
+        Ok(EtcdMedium::new(etcd, pending, standing))
     }
 }
 

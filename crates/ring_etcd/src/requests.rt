@@ -26,12 +26,12 @@ pub(crate) fn put(alloc: Global, key: &str, value: &str) -> Result<String, Alloc
     format!(in alloc; "{{\"key\":\"{key}\",\"value\":\"{value}\"}}")
 }
 
-/// Reads the pairs from `key` on and before `end`, in the order of their keys, 64 at most.
+/// Reads the pairs from `key` on and before `end`, in the order of their keys, 128 at most.
 pub(crate) fn range(alloc: Global, key: &str, end: &str) -> Result<String, AllocError>
     ensures { IfOk result (λ text. string_bytes text ≡ range_text key.now end.now) }
 {
     format!(in alloc;
-        "{{\"key\":\"{key}\",\"range_end\":\"{end}\",\"limit\":\"64\",\"sort_order\":\"ASCEND\",\"sort_target\":\"KEY\"}}"
+        "{{\"key\":\"{key}\",\"range_end\":\"{end}\",\"limit\":\"128\",\"sort_order\":\"ASCEND\",\"sort_target\":\"KEY\"}}"
     )
 }
 

@@ -82,9 +82,9 @@ impl<R: Net<Stream = TcpStream> + Clock + AllocGlobal + Drop> Store<R> {
         self.cluster.alloc()
     }
 
-    /// Sleeps 200 milliseconds.
-    pub(crate) fn pause(&self) {
-        self.cluster.pause();
+    /// Sleeps for so many milliseconds.
+    pub(crate) fn pause(&self, millis: u64) {
+        self.cluster.pause(millis);
     }
 
     /// Returns a number that no process was given before: the revision of a put.

@@ -14,7 +14,7 @@ get_text key = codes "{\"key\":\"" ++ (key ++ codes "\"}")
 abbrev pub range_text : List ℕ → List ℕ → List ℕ
 range_text key end =
     codes "{\"key\":\"" ++ (key ++ (codes "\",\"range_end\":\"" ++ (end
-    ++ codes "\",\"limit\":\"64\",\"sort_order\":\"ASCEND\",\"sort_target\":\"KEY\"}")))
+    ++ codes "\",\"limit\":\"128\",\"sort_order\":\"ASCEND\",\"sort_target\":\"KEY\"}")))
 
 -- Puts a value at a key if its last put has this revision, and reads the key otherwise.
 abbrev pub claim_text : List ℕ → List ℕ → List ℕ → List ℕ
