@@ -25,7 +25,7 @@ SOON = 3
 # How long a start may look for members of etcd, in seconds.
 VERY_LONG = 240
 # How many members join and leave in a long journal, and how often a lease is renewed at least, in seconds.
-LONG_JOURNAL, RENEWED = 1500, 1.5
+LONG_JOURNAL, RENEWED = 1500, 1.3
 RING = (Identity(0, 3), Identity(9, 1), Identity(0, 2))
 CHECKS, check = listed()
 

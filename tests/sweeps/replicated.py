@@ -53,8 +53,7 @@ PLACES, PLACES_FULL = 50, 1000
 ABOUT = {"growth": (20, 60), "read": (4, 3), "write": (4, 3)}
 # What the program may say if it ends before it listens, and after that.
 AT_START = {"growth": (NO_MEMORY, UNTHREADED), "spawn": (UNTHREADED,), "socket": (LISTEN_FAILED,)}
-# Without memory to gather the bytes of a change, the journal fails.
-LATER = {"growth": (FAILED, UNTHREADED), "spawn": (UNTHREADED,)}
+LATER = {"growth": (UNTHREADED,), "spawn": (UNTHREADED,)}
 # The first thread renews the lease. Without it, no other keys than these are put.
 OF_LEASE = {"ids", "lease"}
 

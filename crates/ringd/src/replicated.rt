@@ -16,7 +16,7 @@ use std::thread::Threads;
 use std::time::{Clock, Duration};
 
 // How many milliseconds pass between two renewals of the lease.
-const RENEWAL_MILLIS: u64 = 500;
+const RENEWAL_MILLIS: u64 = 300;
 
 /// Waits until no other process renews the lease of the journal in etcd with this name, takes the
 /// journal over, and recovers its table. The journal begins anew as one in a file does. The meter
