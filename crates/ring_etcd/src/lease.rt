@@ -16,10 +16,10 @@ use std::net::{Net, TcpStream};
 use std::time::Clock;
 
 /// How many looks in a row find the same revision before a standby process claims a lease.
-pub const LOOKS: u32 = 10;
+pub const LOOKS: u32 = 5;
 
-// How many milliseconds pass between two looks.
-const LOOK_MILLIS: u64 = 150;
+// How many milliseconds pass between two looks. Few looks end soon, also if each takes long.
+const LOOK_MILLIS: u64 = 300;
 
 /// The lease of a journal in etcd.
 ///
@@ -86,9 +86,9 @@ impl<R: Net<Stream = TcpStream> + Clock + AllocGlobal + Copy + Drop> Lease<R> {
     /// Each renewal and each claim gives the lease another revision. If two processes claim the
     /// same one, etcd carries out one claim and refuses the other.
     ///
-    /// If a look or a claim gets no answer, the looks count as before. If the answer to a claim is
-    /// lost, no process may know that it was carried out. The lease then ends as if it was not
-    /// renewed.
+    /// A request to claim it is sent again if its answer is lost, and may then find that it was
+    /// carried out: the key has the value of this process, and is put once more. If a look or a
+    /// claim gets no answer at all, the looks count as before.
     pub fn claim(&mut self) -> Result<bool, EtcdFault>
         ensures looked { OnOk result ((revision : ℕ) × self.new ≡ looked self.old revision) }
         ensures claimed { IfOk result (λ is_claimed. IsTrue is_claimed → MayClaim self.new) }
@@ -96,13 +96,14 @@ impl<R: Net<Stream = TcpStream> + Clock + AllocGlobal + Copy + Drop> Lease<R> {
     {
         let revision = self.look()?;
         let looks = looks_after(self.revision, self.looks, revision);
-        let is_claimed = may_claim(revision, looks) && self.put_claim(revision)?;
+        let is_claimed = may_claim(revision, looks)
+            && (self.put_claim(revision)? || self.put_again()?);
         self.revision = revision;
         self.looks = looks;
         Ok(is_claimed)
     }
 
-    /// Looks at the lease every 150 milliseconds until this process has claimed it. Sleeps before
+    /// Looks at the lease every 300 milliseconds until this process has claimed it. Sleeps before
     /// the first look.
     ///
     /// If no member of etcd answers, it goes on. Such a time does not count as looks.

@@ -58,9 +58,9 @@
 //!
 //! `Lease` is for a second process that waits while the first one is active. The active process
 //! renews the lease some three times a second: it puts a key, which gets another revision. A
-//! standby process looks at the key every 150 milliseconds. If ten looks in a row find the same
-//! revision, it claims the lease: it puts the key on the condition that the revision is still that
-//! one. So of two standby processes only one claims it. It then takes the journal over.
+//! standby process looks at the key as often. If five looks in a row find the same revision, it
+//! claims the lease: it puts the key on the condition that the revision is still that one. So of
+//! two standby processes only one claims it. It then takes the journal over.
 //!
 //! The journal does not rest on the lease, only these waits do. If the active process still runs,
 //! it finds another value at the key when it next renews the lease. It also finds its number taken
