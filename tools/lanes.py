@@ -9,6 +9,7 @@ import threading
 import time
 
 from crates import built_by_rt
+from heard import Heard
 
 MEMORY = 3_000_000_000  # what one check may take
 PAUSE = 1
@@ -23,31 +24,20 @@ class Gate:
     which it holds back until then. So to wait for that last line would be too late, for wrong algorithms as for wrong
     bodies. A library that was not taken before `rt: ok` is not used."""
 
-    PROVED = re.compile(r"^rt: (\w+) (?:proved$|is kept: )", re.M)
-    PUTS_BACK = re.compile(r"^rt: (?:ok;|FAILED: )|^\d+ passed, \d+ failed", re.M)
-    ENDED = re.compile(r"^\d+ passed, \d+ failed", re.M)
-
     def __init__(self, path, room):
-        self.path, self.room = pathlib.Path(path), room
-        self.said, self.settled, self.looking = "", set(), threading.Lock()
-
-    def read(self):
-        """Reads what the run has said so far."""
-        with contextlib.suppress(OSError):
-            self.said = self.path.read_text(encoding="utf-8", errors="replace")
+        self.heard, self.room = Heard(path), room
+        self.settled, self.looking = set(), threading.Lock()
 
     def look(self):
         """Looks at what the run has said, and takes the libraries of the crates that it has proved since the last look."""
         with self.looking:
-            size = len(self.said)
-            self.read()
-            if len(self.said) == size:
-                return
-            new = set(self.PROVED.findall(self.said)) - self.settled
+            self.heard.listen()
+            new = self.heard.proved - self.settled
             for crate in new:
                 self.take(crate)
-            self.read()
-            if self.PUTS_BACK.search(self.said):
+            if new:
+                self.heard.listen()
+            if self.heard.puts_back:
                 for crate in new:
                     shutil.rmtree(self.library(crate), ignore_errors=True)
             self.settled |= new
@@ -66,7 +56,7 @@ class Gate:
 
     def is_at_work(self):
         self.look()
-        return not self.ENDED.search(self.said)
+        return not self.heard.has_ended
 
     def wait_for(self, crates):
         """Waits until all these crates are proved, or the run has ended."""
