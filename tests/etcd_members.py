@@ -5,19 +5,13 @@ import json
 import pathlib
 import shutil
 import signal
-import socket
 import subprocess
 import time
 
-HOST = "127.0.0.1"
+from ports import HOST, free_port
+
 # What docs/SCALING.md advises for members that are near each other: another leader comes sooner.
 NEAR = ("--pre-vote", "--heartbeat-interval", "50", "--election-timeout", "500")
-
-
-def free_port():
-    with socket.socket() as it:
-        it.bind((HOST, 0))
-        return it.getsockname()[1]
 
 
 class Members:

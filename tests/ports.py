@@ -2,6 +2,7 @@
 
 import contextlib
 import itertools
+import os
 import random
 import socket
 import threading
@@ -9,13 +10,16 @@ import threading
 HOST = "127.0.0.1"
 # Below the ports that the system gives to clients, so that no client of another run is in the way.
 LOWEST, HIGHEST = 11000, 32000
-PORTS = itertools.cycle(random.sample(range(LOWEST, HIGHEST), HIGHEST - LOWEST))
+# Checks that run side by side have ports of their own: `1/2` are the odd ones.
+PART, PARTS = map(int, os.environ.get("CHECK_PORTS", "0/1").split("/"))
+OWN = range(LOWEST + PART, HIGHEST, PARTS)
+PORTS = itertools.cycle(random.sample(OWN, len(OWN)))
 LOCK = threading.Lock()
 
 
-def next_port():
+def free_port():
     """Returns a port that nobody listens on, and that no other thread is given soon."""
-    for _ in range(HIGHEST - LOWEST):
+    for _ in OWN:
         with LOCK:
             port = next(PORTS)
         with contextlib.suppress(OSError), socket.socket() as probe:

@@ -8,7 +8,7 @@ import pathlib
 import socket
 import struct
 
-from ports import HOST
+from ports import HOST, free_port
 
 PATIENCE = 20
 
@@ -27,13 +27,6 @@ def short(value):
     """A value as a short text for a message."""
     text = ascii(value)
     return text if len(text) <= 200 else f"{text[:200]}.."
-
-
-def free_port():
-    """A port that nobody listens on."""
-    with socket.socket() as probe:
-        probe.bind((HOST, 0))
-        return probe.getsockname()[1]
 
 
 def text_of(port, workers=2, inbox=1024):

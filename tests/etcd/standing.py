@@ -17,7 +17,7 @@ from histories.commands import KINDS
 from identity import Identity
 from journals.changes import history_of, line_of, text_of_changes
 from journals.lives import compare, wait_until_decided
-from ports import next_port
+from ports import free_port
 from serving import Differs, same, short
 
 # Within how many seconds a standby serves after the first process ended.
@@ -174,7 +174,7 @@ def a_stopped_process_is_superseded(room):
 @check
 def no_member_answers(room):
     """If no member of etcd answers, a start ends."""
-    run = room.run(members=",".join(f"127.0.0.1:{next_port()}" for _ in range(3)))
+    run = room.run(members=",".join(f"127.0.0.1:{free_port()}" for _ in range(3)))
     status, texts = run.wait_for_end(VERY_LONG)
     same("the end", (status, texts), (1, ["ringd: journal unanswered"]))
 

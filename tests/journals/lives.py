@@ -8,7 +8,7 @@ import time
 
 from identity import numbers_of
 from journals.changes import line_of
-from ports import next_port
+from ports import free_port
 from serving import HOST, PATIENCE, Client, Differs, same, short, text_of
 
 # How often the program is started because somebody else took its port.
@@ -38,7 +38,7 @@ class Life:
 
     def begin(self):
         """Starts the program on a free port."""
-        self.port, self.listens, self.error = next_port(), False, b""
+        self.port, self.listens, self.error = free_port(), False, b""
         config = self.folder / f"{self.port}.toml"
         config.write_bytes(text_of(self.port, self.workers, self.inbox))
         drop = (lambda: os.setuid(self.user)) if self.user else None
@@ -66,7 +66,7 @@ class Life:
 def kill_in_the_start(program, file, seconds):
     """Starts the program over a journal, and kills it after `seconds` seconds."""
     config = file.with_name("start.toml")
-    config.write_bytes(text_of(next_port()))
+    config.write_bytes(text_of(free_port()))
     run = subprocess.Popen([program, "run", str(config), "--journal", str(file)], stdin=subprocess.DEVNULL,
                            stdout=subprocess.DEVNULL, stderr=subprocess.DEVNULL)
     time.sleep(seconds)

@@ -10,7 +10,7 @@ from page.keys import focus_on
 from page.look import Look, requests
 from page.scripts import AT, FOCUS, IS, LINKS, SAYS, STRANGE
 from page.service import Service
-from ports import next_port
+from ports import free_port
 from serving import PATIENCE, same
 
 GROUP, LED = "jobs", "Term 1, leader 1/9, known to 2 of 2"
@@ -135,7 +135,7 @@ def check_others(words, window, folder):
         first.start()
         first.say(*GROUPS)
         second.begin()
-        look, nobody = Look(words, first, window), f"localhost:{next_port()}"
+        look, nobody = Look(words, first, window), f"localhost:{free_port()}"
         check_takeover(look, second, nobody)
         check_return(look, first, nobody)
         check_queries(look)

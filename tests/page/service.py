@@ -6,7 +6,7 @@ import subprocess
 import time
 
 from browser import wait_for
-from ports import HOST, next_port
+from ports import HOST, free_port
 from serving import Client, Differs, ended, short, text_of
 
 
@@ -14,7 +14,7 @@ class Service:
     """The program with a journal, which is ended and started again. Its journal is this one, or a file of its own."""
 
     def __init__(self, program, folder, journal=None):
-        self.port, self.http, self.run = next_port(), next_port(), None
+        self.port, self.http, self.run = free_port(), free_port(), None
         file, self.journal = pathlib.Path(folder, f"{self.port}.toml"), pathlib.Path(folder, "journal")
         file.write_bytes(text_of(self.port))
         self.words = [os.path.abspath(program), "run", str(file)]

@@ -10,7 +10,7 @@ import subprocess
 import tempfile
 import time
 
-from ports import HOST, next_port
+from ports import HOST, free_port
 from sweep import Bad
 
 PATIENCE = 20
@@ -106,7 +106,7 @@ class Server:
 
     def start(self):
         """Starts the program on free ports."""
-        self.port, self.out, self.error, self.refusals = next_port(), b"", b"", 0
+        self.port, self.out, self.error, self.refusals = free_port(), b"", b"", 0
         self.ours, theirs = os.pipe()
         os.set_blocking(self.ours, False)
         file = pathlib.Path(self.folder.name) / "ring.toml"
@@ -114,10 +114,10 @@ class Server:
         file.write_text(text, encoding="utf-8")
         words = [self.program, self.words[0], file, *self.words[1:]]
         if self.campaigns:
-            self.second = next_port()
+            self.second = free_port()
             words += ["--campaign", str(self.second)]
         if self.http:
-            self.web = next_port()
+            self.web = free_port()
             words += ["--http", str(self.web)]
         self.run = subprocess.Popen(words, stdin=subprocess.DEVNULL, stdout=subprocess.PIPE,
                                     stderr=subprocess.PIPE, pass_fds=[theirs],
