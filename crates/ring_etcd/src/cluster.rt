@@ -1,7 +1,7 @@
 //! The members of a cluster, which are asked in turn until one of them answers.
 ghost use Rattle.std.specs.Prelude.{◌≡◌, IfOk, OnErr};
 ghost use Rattle.serde_json.specs.View.{view};
-ghost use Rattle.ring_etcd.specs.private.Hearing.{Hears, Reads};
+ghost use Rattle.ring_etcd.specs.Hearing.{Hears, Reads};
 
 use crate::gateway::{Gateway, NoReply};
 use crate::replies::Answer;
@@ -140,9 +140,9 @@ impl<R: Net<Stream = TcpStream> + Clock + AllocGlobal + Drop> Cluster<R> {
             return Err(NoAnswer);
         };
         let answer = self.answer_in(&text);
-        self.last = text;
         if answer.is_ok() {
             self.heard = heard;
+            self.last = text;
         }
         answer
     }
