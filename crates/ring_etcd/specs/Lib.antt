@@ -3,6 +3,7 @@ pub mod Done
 pub mod Entries
 pub mod Faults
 pub mod Found
+pub mod Hearing
 pub mod Holding
 pub mod Keys
 pub mod Lasting

@@ -1,5 +1,4 @@
 pub mod Faults
-pub mod Hearing
 pub mod Http
 pub mod Keys
 pub mod Paging

@@ -1,8 +1,8 @@
 //! The lease of a journal: the active process renews it, and a standby process waits for its end.
-ghost use Rattle.std.specs.Prelude.{◌≡◌, ◌==◌, ◌+◌, ◌↔◌, ◌⊎◌, ℕ, IfOk, IsTrue, OnErr, OnOk, if◌then◌else◌, min};
-ghost use Rattle.serde_json.specs.Data.{Data};
-ghost use Rattle.ring_etcd.specs.Leases.{MayClaim, looked};
+ghost use Rattle.std.specs.Prelude.{◌≡◌, ◌==◌, ◌+◌, ◌≤◌, ◌↔◌, ◌⊎◌, ℕ, IfOk, IsTrue, OnErr, OnOk, if◌then◌else◌, min};
 ghost use Rattle.ring_etcd.specs.Done.{IsDone};
+ghost use Rattle.ring_etcd.specs.Hearing.{Hears, HearsSince};
+ghost use Rattle.ring_etcd.specs.Leases.{HasLooked, MayClaim, SameLooks};
 ghost use Rattle.ring_etcd.specs.private.Replies.{IsRevision, IsSeen};
 
 use crate::cluster::Cluster;
@@ -28,7 +28,8 @@ const LOOK_MILLIS: u64 = 300;
 /// decides how long these processes wait. Nothing else depends on it: the journal is safe if two
 /// processes claim it, or none does.
 ///
-/// Contracts see the revision that the last look found, and how many looks in a row found it.
+/// Contracts see the revision that the last look found, and how many looks in a row found it. They
+/// also see the number of replies that were heard, and the text of the last one.
 #[derive(Drop)]
 pub struct Lease<R> {
     cluster: Cluster<R>,
@@ -46,14 +47,19 @@ impl<R> Model for Lease<R> {
 
     ghost Value = { Watched };
 
-    ghost view = { λ a. record { revision = a.revision; looks = a.looks } };
+    ghost view = { λ a. record {
+      revision = a.revision;
+      looks = a.looks;
+      heard = a.cluster.heard;
+      last = a.cluster.last.items;
+    } };
 }
 
 impl<R: Net<Stream = TcpStream> + Clock + AllocGlobal + Copy + Drop> Lease<R> {
     /// Returns the lease of the journal with this name, before the first look. Asks for a number
     /// that no other process has. The members of etcd are HOST:PORT,HOST:PORT and so on.
     pub fn new(rt: &R, members: &str, name: &str) -> Result<Lease<R>, EtcdFault>
-        ensures { IfOk result (λ lease. lease ≡ record { revision = 0; looks = 0 }) }
+        ensures { IfOk result (λ lease. (lease.revision ≡ 0) × (lease.looks ≡ 0)) }
     {
         let keys = Keys::new(rt.alloc(), name)?;
         let mut cluster = Cluster::new(*rt, members)?;
@@ -67,12 +73,15 @@ impl<R: Net<Stream = TcpStream> + Clock + AllocGlobal + Copy + Drop> Lease<R> {
         })
     }
 
-    /// Renews the lease, if this process has it. Returns whether it has: another process may have
-    /// claimed it. Tries as often as the journal does before it returns `NoAnswer`. The caller may
-    /// call again.
+    /// Renews the lease, if this process has it. Returns whether it has, as the reply says that was
+    /// heard: another process may have claimed it. Tries as often as the journal does before it
+    /// returns `NoAnswer`. The caller may call again.
     pub fn renew(&mut self) -> Result<bool, EtcdFault>
-        ensures held { IfOk result (λ is_held. (reply : Data) × (IsTrue is_held ↔ IsDone reply)) }
-        ensures same { self.new ≡ self.old }
+        ensures held { IfOk result (λ is_held.
+            Hears (λ json. IsTrue is_held ↔ IsDone json)
+            self.old.heard self.new.heard self.new.last) }
+        ensures same { SameLooks self.old self.new }
+        ensures err { OnErr result (self.new.heard ≡ self.old.heard) }
     {
         match self.put_again() {
             Ok(is_held) => Ok(is_held),
@@ -81,7 +90,8 @@ impl<R: Net<Stream = TcpStream> + Clock + AllocGlobal + Copy + Drop> Lease<R> {
     }
 
     /// Looks once at the lease, and claims it if nothing is there, or if `LOOKS` looks in a row
-    /// found the same revision. Returns whether this process claimed it.
+    /// found the same revision. Returns whether this process claimed it. If it did, the last reply
+    /// that was heard says that a put was carried out.
     ///
     /// Each renewal and each claim gives the lease another revision. If two processes claim the
     /// same one, etcd carries out one claim and refuses the other.
@@ -90,9 +100,12 @@ impl<R: Net<Stream = TcpStream> + Clock + AllocGlobal + Copy + Drop> Lease<R> {
     /// carried out: the key has the value of this process, and is put once more. If a look or a
     /// claim gets no answer at all, the looks count as before.
     pub fn claim(&mut self) -> Result<bool, EtcdFault>
-        ensures looked { OnOk result ((revision : ℕ) × self.new ≡ looked self.old revision) }
+        ensures looked { OnOk result ((revision : ℕ) × HasLooked self.old self.new revision) }
         ensures claimed { IfOk result (λ is_claimed. IsTrue is_claimed → MayClaim self.new) }
-        ensures err { OnErr result (self.new ≡ self.old) }
+        ensures told { IfOk result (λ is_claimed. IsTrue is_claimed
+            → HearsSince IsDone self.old.heard self.new.heard self.new.last) }
+        ensures heard { self.old.heard ≤ self.new.heard }
+        ensures err { OnErr result (SameLooks self.old self.new) }
     {
         let revision = self.look()?;
         let looks = looks_after(self.revision, self.looks, revision);
@@ -103,12 +116,14 @@ impl<R: Net<Stream = TcpStream> + Clock + AllocGlobal + Copy + Drop> Lease<R> {
         Ok(is_claimed)
     }
 
-    /// Looks at the lease every 300 milliseconds until this process has claimed it. Sleeps before
-    /// the first look.
+    /// Looks at the lease every 300 milliseconds until this process has claimed it. Then the last
+    /// reply that was heard says that a put was carried out. Sleeps before the first look.
     ///
     /// If no member of etcd answers, it goes on. Such a time does not count as looks.
     pub fn stand_by(&mut self) -> Result<(), EtcdFault>
-        ensures { OnOk result (MayClaim self.new) }
+        ensures may { OnOk result (MayClaim self.new) }
+        ensures told { OnOk result
+            (HearsSince IsDone self.old.heard self.new.heard self.new.last) }
     {
         for _ in 0..u64::MAX {
             self.cluster.pause(LOOK_MILLIS);
@@ -121,22 +136,28 @@ impl<R: Net<Stream = TcpStream> + Clock + AllocGlobal + Copy + Drop> Lease<R> {
         Err(EtcdFault::NoAnswer)
     }
 
-    // Puts the key if it has the value of this process. Returns whether that was carried out, as a
-    // reply says.
+    // Puts the key if it has the value of this process. Returns whether that was carried out, as
+    // the reply says that was heard.
     fn put_again(&mut self) -> Result<bool, AskFault>
-        ensures held { IfOk result (λ is_held. (reply : Data) × (IsTrue is_held ↔ IsDone reply)) }
-        ensures same { self.new ≡ self.old }
+        ensures held { IfOk result (λ is_held.
+            Hears (λ json. IsTrue is_held ↔ IsDone json)
+            self.old.heard self.new.heard self.new.last) }
+        ensures same { SameLooks self.old self.new }
+        ensures err { OnErr result (self.new.heard ≡ self.old.heard) }
     {
         let body = self.keys.renewal_request(self.process)?;
         let Claimed(is_held) = self.cluster.ask(TXN, body.as_str())?;
         Ok(is_held)
     }
 
-    // Looks at the key. Returns the revision of its last put, as a reply says, or 0 if nothing is
-    // there.
+    // Looks at the key. Returns the revision of its last put, or 0 if nothing is there, as the
+    // reply says that was heard.
     fn look(&mut self) -> Result<u64, AskFault>
-        ensures looked { IfOk result (λ revision. (reply : Data) × IsSeen reply revision) }
-        ensures same { self.new ≡ self.old }
+        ensures looked { IfOk result (λ revision.
+            Hears (λ json. IsSeen json revision)
+            self.old.heard self.new.heard self.new.last) }
+        ensures same { SameLooks self.old self.new }
+        ensures err { OnErr result (self.new.heard ≡ self.old.heard) }
     {
         let body = self.keys.look_request()?;
         let Seen(revision) = self.cluster.ask(RANGE, body.as_str())?;
@@ -144,11 +165,13 @@ impl<R: Net<Stream = TcpStream> + Clock + AllocGlobal + Copy + Drop> Lease<R> {
     }
 
     // Puts the key if its last put still has this revision. Returns whether that was carried out,
-    // as a reply says.
+    // as the reply says that was heard.
     fn put_claim(&mut self, revision: u64) -> Result<bool, AskFault>
         ensures claimed { IfOk result (λ is_claimed.
-            (reply : Data) × (IsTrue is_claimed ↔ IsDone reply)) }
-        ensures same { self.new ≡ self.old }
+            Hears (λ json. IsTrue is_claimed ↔ IsDone json)
+            self.old.heard self.new.heard self.new.last) }
+        ensures same { SameLooks self.old self.new }
+        ensures err { OnErr result (self.new.heard ≡ self.old.heard) }
     {
         let body = self.keys.claim_request(revision, self.process)?;
         let Claimed(is_claimed) = self.cluster.ask(TXN, body.as_str())?;
@@ -156,11 +179,14 @@ impl<R: Net<Stream = TcpStream> + Clock + AllocGlobal + Copy + Drop> Lease<R> {
     }
 }
 
-// Returns a number that no other process has: the revision of a put, as a reply says.
+// Returns a number that no other process has: the revision of a put, as the reply says that was
+// heard.
 fn new_number<R>(cluster: &mut Cluster<R>, keys: &Keys) -> Result<u64, AskFault>
 where
     R: Net<Stream = TcpStream> + Clock + AllocGlobal + Drop,
-    ensures { IfOk result (λ number. (reply : Data) × IsRevision reply number) }
+    ensures { IfOk result (λ number.
+        Hears (λ json. IsRevision json number)
+        cluster.old.heard cluster.new.heard cluster.new.last.items) }
 {
     let body = keys.identity_request()?;
     let Revision(number) = cluster.ask(PUT, body.as_str())?;

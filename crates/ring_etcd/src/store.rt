@@ -5,7 +5,7 @@ ghost use Rattle.base64.specs.GeneralPurpose.{encode_of};
 ghost use Rattle.ring_etcd.specs.Bases.{base_text};
 ghost use Rattle.ring_etcd.specs.Found.{pairs_in};
 ghost use Rattle.ring_etcd.specs.Keys.{entry_key, piece_key};
-ghost use Rattle.ring_etcd.specs.private.Hearing.{Hears};
+ghost use Rattle.ring_etcd.specs.Hearing.{Hears};
 ghost use Rattle.ring_etcd.specs.private.Paging.{ArePairs};
 ghost use Rattle.ring_etcd.specs.private.Putting.{IsPut, IsPutOver, IsSwitched};
 ghost use Rattle.ring_etcd.specs.private.Replies.{IsRevision};

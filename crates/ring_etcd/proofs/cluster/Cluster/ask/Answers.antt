@@ -1,6 +1,6 @@
 use Rattle.std.proofs.Common.{subst}
 use Rattle.std.specs.Prelude.{IfOk}
-use Rattle.ring_etcd.specs.private.Hearing.{Hears}
+use Rattle.ring_etcd.specs.Hearing.{Hears}
 use Rattle.ring_etcd.proofs.cluster.Cluster.ask.Goals as goal
 
 pub returns-then-is_ok-clause-ok : goal.returns-then-is_ok-clause-ok
