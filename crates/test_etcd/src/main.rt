@@ -7,92 +7,68 @@
 //! ```
 #![tactic(auto)]
 
-use anyhow::{Context, Result, bail};
-use ring_etcd::{
-    Engine, EtcdMedium, EtcdPlace, Standing, asked_once, engine_holds, nothing_is_lost,
-    stay_for_good,
-};
-use ring_journal::{Batch, Medium};
-use std::alloc::Global;
+mod appending;
+mod asked;
+
+use crate::appending::{Lines, append, take};
+use crate::asked::{Asked, Order, read_words};
+use anyhow::Result;
+use ring_etcd::{asked_once, engine_holds, nothing_is_lost, stay_for_good};
 use std::io;
 use std::io::Write;
 use std::net::{Net, TcpStream};
 use std::rt::Env;
-use std::sync::Arc;
 use std::time::Clock;
 
-/// Settles a line. Returns whether the journal is still this process's.
-fn settle<E: Engine + Drop>(alloc: Global, medium: &mut EtcdMedium<E>, line: &str) -> Result<bool> {
-    let mut batch = Batch::new(alloc);
-    batch.add(line.as_bytes())?;
-    if medium.append(&batch).is_err() {
-        return Ok(false);
-    }
-    Ok(medium.sync().is_ok())
+// Takes over the journal with this name, and prints what was found.
+fn print_found<R>(rt: &R, members: &str, name: &str) -> Result<()>
+where
+    R: AllocGlobal + Print + Clock + Net<Stream = TcpStream> + Copy + Drop,
+{
+    let mut place = take(rt, members, name)?;
+    let found = place.read();
+    drop(place);
+    print_bytes(rt, &found)
 }
 
-/// Settles lines, and prints each once it is settled.
-fn append<R: Print + AllocGlobal, E: Engine + Drop>(
-    rt: &R,
-    medium: &mut EtcdMedium<E>,
-    mut text: Batch,
-    word: &str,
-    count: u32,
-    rewrite: bool,
-) -> Result<bool> {
-    let alloc = rt.alloc();
-    for k in 0..count {
-        let line = format!(in alloc; "{word} {k}")?;
-        if !settle(alloc, medium, line.as_str())? {
-            return Ok(false);
-        }
-        println!(rt; "told {line}")?;
-        text.add(line.as_str().as_bytes())?;
-        if rewrite && k % 16 == 15 && medium.replace(&text).is_err() {
-            return Ok(false);
-        }
-    }
-    Ok(true)
+// Prints these bytes.
+fn print_bytes<R: Print>(rt: &R, bytes: &[u8]) -> Result<()> {
+    io::writer(rt).write_all(bytes)?;
+    Ok(())
+}
+
+// Does what is asked for.
+fn carry_out<R>(rt: &R, asked: Asked<'_>) -> Result<()>
+where
+    R: AllocGlobal + Print + Clock + Net<Stream = TcpStream> + Copy + Drop,
+{
+    let Asked {
+        members,
+        name,
+        order,
+    } = asked;
+    let (word, count, rewrites) = match order {
+        Order::Append { word, count } => (word, count, false),
+        Order::Rewrite { word, count } => (word, count, true),
+        Order::Read => return print_found(rt, members, name),
+    };
+    let lines = Lines {
+        word,
+        count,
+        rewrites,
+    };
+    append(rt, members, name, lines)
 }
 
 fn run<R>(rt: &R) -> Result<()>
 where
     R: AllocGlobal + Print + Env + Clock + Net<Stream = TcpStream> + Copy + Drop,
 {
-    let alloc = rt.alloc();
-    let words: Vec<String> = std::env::args(rt)?.collect(alloc)?;
-    let (Some(order), Some(members), Some(name)) = (words.get(1), words.get(2), words.get(3)) else {
-        bail!("words are missing");
-    };
-    let mut place = match EtcdPlace::take(rt, members.as_str(), name.as_str()) {
-        Ok(place) => place,
-        Err(fault) => bail!("taking: {fault:?}"),
-    };
-    let found = place.read();
-    if order.as_str() == "read" {
-        io::writer(rt).write_all(&found)?;
-        return Ok(());
+    let words: Vec<String> = std::env::args(rt)?.collect(rt.alloc())?;
+    match read_words(&words) {
+        Ok(asked) => carry_out(rt, asked),
+        Err(error) => Err(error),
     }
-    let (Some(word), Some(count)) = (words.get(4), words.get(5)) else {
-        bail!("words are missing");
-    };
-    let count = count.as_str().parse::<u32>().context("the count")?;
-    let standing = Arc::new(alloc, Standing::new())?;
-    let theirs = Arc::try_clone(&standing)?;
-    let text = Batch::from(found);
-    let mut medium = match place.begin(&text, theirs) {
-        Ok(medium) => medium,
-        Err(fault) => bail!("beginning: {fault:?}"),
-    };
-    let rewrite = order.as_str() == "rewrite";
-    if append(rt, &mut medium, text, word.as_str(), count, rewrite)? {
-        println!(rt; "done")?;
-    } else if standing.is_taken_over() {
-        println!(rt; "journal taken over")?;
-    } else {
-        println!(rt; "journal failed")?;
-    }
-    Ok(())
 }
 
 fn main(rt: HostRuntime) -> Result<()> {
