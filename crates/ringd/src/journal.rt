@@ -1,5 +1,5 @@
 //! The journal: taking up that of a file, opening a table over it, and printing it.
-ghost use Rattle.std.specs.Prelude.{◌≡◌, ℕ, List, IfErr, IfOk, MatchResult, length, map};
+ghost use Rattle.std.specs.Prelude.{◌≡◌, ℕ, List, IfErr, IfOk, MatchResult, None, length, map};
 ghost use Rattle.ring_lines.specs.Ends.{Wrote, WroteFront};
 ghost use Rattle.ring_listing.specs.Listing.{Lists};
 ghost use Rattle.ring_recovery.specs.Charters.{running_charters};
@@ -43,11 +43,27 @@ where
     if path.is_empty() {
         return Err(ProgramFault::Journal(JournalFault::Unreadable));
     }
-    let alloc = rt.alloc();
     let place = Place::take(rt, path).map_err(told_of_place)?;
-    let found = place.read(rt).map_err(told_of_place)?;
-    let resumed = recovered(alloc, found)?;
-    begin(rt, place, resumed)
+    match recovered_at(rt, &place) {
+        Ok(resumed) => begin(rt, place, resumed),
+        Err(fault) => {
+            drop(place);
+            Err(fault)
+        }
+    }
+}
+
+// Returns the table that the bytes at a place give, compacted.
+fn recovered_at<R>(rt: &R, place: &Place) -> Result<Recovered, ProgramFault>
+where
+    R: Files<File = File> + AllocGlobal,
+    ensures ok { IfOk result (λ resumed. (found : List ℕ) × Resumes found resumed) }
+    ensures fault { IfErr result IsOfJournal }
+{
+    match place.read(rt) {
+        Ok(found) => recovered(rt.alloc(), found),
+        Err(fault) => Err(told_of_place(fault)),
+    }
 }
 
 // Begins the file of a resumed table anew, and opens the table over it.
@@ -63,11 +79,42 @@ where
         × (begun.life ≡ resumed.life)) }
     ensures fault { IfErr result IsOfJournal }
 {
-    let alloc = rt.alloc();
-    let ready = prepare(alloc, &resumed, shared(alloc, Alarm::new())?)?;
-    match place.begin(rt, resumed.text()) {
-        Ok(medium) => Ok(open_over(rt, resumed, medium, ready)),
-        Err(fault) => Err(told_of_place(fault)),
+    match begin_file(rt, place, &resumed) {
+        Ok((medium, ready)) => Ok(open_over(rt, resumed, medium, ready)),
+        Err(fault) => {
+            drop(resumed);
+            Err(fault)
+        }
+    }
+}
+
+// Begins the file of a resumed table anew. Returns its medium, and what else the table needs to be
+// opened over it.
+fn begin_file<R>(
+    rt: &R,
+    place: Place,
+    resumed: &Recovered,
+) -> Result<(FileMedium<R>, Ready), ProgramFault>
+where
+    R: Files<File = File> + Replaces + AllocGlobal + Copy + Drop,
+    ensures text { IfOk result (λ begun. begun.0
+        ≡ record { text = resumed.now.text; kept = length resumed.now.text; other = None }) }
+    ensures running { IfOk result (λ begun. map (λ charter. charter.value) begun.1.charters.items
+        ≡ running_charters resumed.now.book) }
+    ensures fault { IfErr result IsOfJournal }
+{
+    match prepare_alarmed(rt.alloc(), resumed) {
+        Ok(ready) => match place.begin(rt, resumed.text()) {
+            Ok(medium) => Ok((medium, ready)),
+            Err(fault) => {
+                drop(ready);
+                Err(told_of_place(fault))
+            }
+        },
+        Err(fault) => {
+            drop(place);
+            Err(fault)
+        }
     }
 }
 
@@ -106,6 +153,16 @@ pub struct Ready {
     handles: Handles,
 }
 
+// Returns what a resumed table needs to be opened, with an alarm of its own.
+fn prepare_alarmed(alloc: Global, resumed: &Recovered) -> Result<Ready, ProgramFault>
+    ensures ok { IfOk result (λ ready. map (λ charter. charter.value) ready.charters.items
+        ≡ running_charters resumed.now.book) }
+    ensures fault { IfErr result (λ fault. fault ≡ ProgramFault.NoMemory) }
+{
+    let alarm = shared(alloc, Alarm::new())?;
+    prepare(alloc, resumed, alarm)
+}
+
 /// Returns what a resumed table needs to be opened. The alarm is rung if its journal fails.
 pub fn prepare(alloc: Global, resumed: &Recovered, alarm: Arc<Alarm>) -> Result<Ready, ProgramFault>
     ensures ok { IfOk result (λ ready. map (λ charter. charter.value) ready.charters.items
@@ -115,8 +172,13 @@ pub fn prepare(alloc: Global, resumed: &Recovered, alarm: Arc<Alarm>) -> Result<
     let Ok(charters) = resumed.charters(alloc) else {
         return Err(ProgramFault::NoMemory);
     };
-    let handles = make_handles(alloc, alarm, resumed.text().len())?;
-    Ok(Ready { charters, handles })
+    match make_handles(alloc, alarm, resumed.text().len()) {
+        Ok(handles) => Ok(Ready { charters, handles }),
+        Err(fault) => {
+            drop(charters);
+            Err(fault)
+        }
+    }
 }
 
 // What threads share beside a table.
@@ -171,6 +233,7 @@ pub fn another<T: Drop>(one: &Arc<T>) -> Result<Arc<T>, ProgramFault>
 pub(crate) fn recovered(alloc: Global, found: Vec<u8>) -> Result<Recovered, ProgramFault>
     ensures ok { IfOk result (Resumes found.items) }
     ensures err { IfErr result (IsToldOf found.items) }
+    ensures fault { IfErr result IsOfJournal }
 {
     match resume(alloc, found) {
         Ok(resumed) => Ok(resumed),
@@ -190,13 +253,22 @@ where
         (λ _. (found text : List ℕ) × Lists found text × Wrote O.write_gives out.old text out.new)
         (λ fault. ListedAt O.write_gives out.old fault out.new) }
 {
-    let found = match at {
-        JournalAt::File(path) => look(rt, path)?,
-        JournalAt::Etcd { members, name } => replicated::look(rt, members, name)?,
-    };
+    let found = look_at(rt, at)?;
     match list_journal(rt.alloc(), found) {
         Ok(text) => tell_bytes(out, &text),
         Err(fault) => Err(told_of_recovery(fault)),
+    }
+}
+
+// Returns the bytes of a journal, and leaves it as it is.
+fn look_at<R>(rt: &R, at: JournalAt<'_>) -> Result<Vec<u8>, ProgramFault>
+where
+    R: Files + Net<Stream = TcpStream> + Clock + AllocGlobal + Copy + Drop,
+    ensures { IfErr result IsOfJournal }
+{
+    match at {
+        JournalAt::File(path) => look(rt, path),
+        JournalAt::Etcd { members, name } => replicated::look(rt, members, name),
     }
 }
 
@@ -217,14 +289,36 @@ fn tell_bytes<O: Outlet>(out: &mut O, text: &[u8]) -> Result<(), ProgramFault>
 fn look<R: Files + AllocGlobal>(rt: &R, path: &str) -> Result<Vec<u8>, ProgramFault>
     ensures { IfErr result IsOfJournal }
 {
-    let about = fs::symlink_metadata(rt, path).map_err(unreadable)?;
-    if !about.is_file() {
-        return Err(ProgramFault::Journal(JournalFault::NotAFile));
+    check_file(rt, path)?;
+    match fs::open(rt, path) {
+        Ok(file) => read_all(rt.alloc(), file),
+        Err(error) => Err(unreadable(error)),
     }
-    let mut file = fs::open(rt, path).map_err(unreadable)?;
-    let mut found = Vec::new(rt.alloc());
-    file.read_to_end(&mut found).map_err(unreadable)?;
-    Ok(found)
+}
+
+// Fails unless there is a file at the path. A folder, a link, a pipe or a device is none.
+fn check_file<R: Files>(rt: &R, path: &str) -> Result<(), ProgramFault>
+    ensures { IfErr result IsOfJournal }
+{
+    match fs::symlink_metadata(rt, path) {
+        Ok(about) if about.is_file() => Ok(()),
+        Ok(_) => Err(ProgramFault::Journal(JournalFault::NotAFile)),
+        Err(error) => Err(unreadable(error)),
+    }
+}
+
+// Returns all bytes that a reader has left.
+fn read_all<F: Read + Drop>(alloc: Global, mut reader: F) -> Result<Vec<u8>, ProgramFault>
+    ensures { IfErr result IsOfJournal }
+{
+    let mut found = Vec::new(alloc);
+    match reader.read_to_end(&mut found) {
+        Ok(_) => Ok(found),
+        Err(error) => {
+            drop(found);
+            Err(unreadable(error))
+        }
+    }
 }
 
 // Returns the program's fault for a file that could not be read.
@@ -253,7 +347,8 @@ fn told_of_place(fault: PlaceFault) -> ProgramFault
 
 // Returns the program's fault for bytes that give no table.
 fn told_of_recovery(fault: RecoverFault) -> ProgramFault
-    ensures { result ≡ recovery_told_as fault }
+    ensures told { result ≡ recovery_told_as fault }
+    ensures of_journal { IsOfJournal result }
 {
     match fault {
         RecoverFault::Bad { at } => ProgramFault::Journal(JournalFault::Bad { at }),

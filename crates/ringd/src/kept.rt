@@ -165,6 +165,13 @@ where
         (λ _. Wrote O.write_gives out.old first.now out.new)
         (λ fault. KeptAt O.write_gives out.old first.now fault out.new) }
 {
-    let (listener, others) = listen_all(rt, config.port, places, sockets)?;
-    resume_loop(rt, listener, others, config, limits, resumed, first, out)
+    match listen_all(rt, config.port, places, sockets) {
+        Ok((listener, others)) => {
+            resume_loop(rt, listener, others, config, limits, resumed, first, out)
+        }
+        Err(fault) => {
+            drop(resumed);
+            Err(fault)
+        }
+    }
 }

@@ -69,11 +69,38 @@ where
         + Net<Stream = TcpStream, Listener = TcpListener>,
     ensures { IfErr result IsOfListening }
 {
-    let mode = places.mode;
-    let listener = listen(rt, place_or(places.sessions, port), mode, sockets)?;
-    let campaigns = listen_if(rt, places.campaigns, mode, sockets)?;
-    let web = listen_for_web(rt, places.web, mode, sockets)?;
-    Ok((listener, Others { campaigns, web }))
+    let place = place_or(places.sessions, port);
+    let listener = listen(rt, place, places.mode, sockets)?;
+    match listen_others(rt, places, sockets) {
+        Ok(others) => Ok((listener, others)),
+        Err(fault) => {
+            drop(listener);
+            Err(fault)
+        }
+    }
+}
+
+// Listens for campaigns and HTTP, if there are places for them.
+fn listen_others<R>(
+    rt: &R,
+    places: Places<'_>,
+    sockets: &mut Sockets,
+) -> Result<Others<Listener>, ProgramFault>
+where
+    R: Files<File = File>
+        + RandomSource
+        + AllocGlobal
+        + Net<Stream = TcpStream, Listener = TcpListener>,
+    ensures { IfErr result IsOfListening }
+{
+    let campaigns = listen_if(rt, places.campaigns, places.mode, sockets)?;
+    match listen_for_web(rt, places.web, places.mode, sockets) {
+        Ok(web) => Ok(Others { campaigns, web }),
+        Err(fault) => {
+            drop(campaigns);
+            Err(fault)
+        }
+    }
 }
 
 /// Returns the place for sessions: the socket at this path if there is one, otherwise this port.
@@ -103,7 +130,10 @@ where
     match listen_if(rt, place, mode, sockets)? {
         Some(listener) => match RandomState::new(rt) {
             Ok(keys) => Ok(Some(Web { listener, keys })),
-            Err(_) => Err(ProgramFault::Listen),
+            Err(_) => {
+                drop(listener);
+                Err(ProgramFault::Listen)
+            }
         },
         None => Ok(None),
     }

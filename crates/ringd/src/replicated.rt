@@ -1,14 +1,17 @@
 //! The journal in etcd: standing by, taking it over, and printing it.
-ghost use Rattle.std.specs.Prelude.{◌≡◌, ℕ, IfErr, IfOk};
-ghost use Rattle.ring_etcd.specs.Readings.{IsFound};
-ghost use Rattle.ringd.specs.Journal.{IsOfJournal, IsOfTaking, IsTakenOver, IsTakenUp};
+ghost use Rattle.std.specs.Prelude.{◌≡◌, ℕ, IfErr, IfOk, None, length, map};
+ghost use Rattle.ring_etcd.specs.Readings.{IsFound, IsTaken, Place};
+ghost use Rattle.ring_recovery.specs.Charters.{running_charters};
+ghost use Rattle.ring_recovery.specs.Compacted.{Resumes};
+ghost use Rattle.ringd.specs.Journal.{IsOfJournal, IsOfTaking, IsTakenOver};
 ghost use Rattle.ringd.specs.private.Journal.{etcd_told_as};
 
-use crate::journal::{another, open_over, prepare, recovered, shared};
+use crate::journal::{Ready, another, open_over, prepare, recovered, shared};
 use ring_accept::{JournalFault, ProgramFault};
 use ring_etcd::{Etcd, EtcdFault, EtcdMedium, EtcdPlace, Lease, Standing};
-use ring_recovery::{Alarm, Ending};
+use ring_recovery::{Alarm, Ending, Recovered};
 use ring_server::{Metered, Resumed};
+use std::alloc::Global;
 use std::net::{Net, TcpListener, TcpStream};
 use std::sync::{Arc, Wait};
 use std::thread;
@@ -52,35 +55,176 @@ where
         IsTakenOver name.now resumed.table resumed.life) }
     ensures fault { IfErr result IsOfTaking }
 {
-    let lease = claimed(rt, members, name)?;
-    let alloc = rt.alloc();
-    let alarm = shared(alloc, Alarm::new())?;
-    let theirs = another(standing)?;
-    keep_lease(rt, lease, another(standing)?, another(&alarm)?)?;
-    let place = EtcdPlace::take(rt, members, name).map_err(told_of_etcd)?;
-    begin_over(rt, place, alarm, theirs)
+    let signals = hold_lease(rt, members, name, standing)?;
+    match recovered_over(rt, members, name) {
+        Ok((place, resumed)) => begin_over(rt, place, resumed, signals),
+        Err(fault) => {
+            drop(signals);
+            Err(fault)
+        }
+    }
 }
 
-// Recovers the table of a journal that was taken over, begins that anew, and opens the table over
-// it.
+// Takes over a journal. Returns its place, and the table that its bytes give, compacted.
+fn recovered_over<R>(
+    rt: &R,
+    members: &str,
+    name: &str,
+) -> Result<(EtcdPlace<R>, Recovered), ProgramFault>
+where
+    R: Net<Stream = TcpStream> + Clock + AllocGlobal + Copy + Drop,
+    ensures ok { IfOk result (λ over. (place : Place) × IsTaken name.now place
+        × Resumes place.bytes over.1) }
+    ensures fault { IfErr result IsOfJournal }
+{
+    match EtcdPlace::take(rt, members, name) {
+        Ok(place) => recovered_at(rt.alloc(), place),
+        Err(fault) => Err(told_of_etcd(fault)),
+    }
+}
+
+// Returns a place that was taken, and the table that its bytes give, compacted.
+fn recovered_at<R>(
+    alloc: Global,
+    mut place: EtcdPlace<R>,
+) -> Result<(EtcdPlace<R>, Recovered), ProgramFault>
+where
+    R: Net<Stream = TcpStream> + Clock + AllocGlobal + Copy + Drop,
+    ensures ok { IfOk result (λ over. Resumes place.bytes over.1) }
+    ensures fault { IfErr result IsOfJournal }
+{
+    match recovered(alloc, place.read()) {
+        Ok(resumed) => Ok((place, resumed)),
+        Err(fault) => {
+            drop(place);
+            Err(fault)
+        }
+    }
+}
+
+// Begins the journal of a resumed table anew, and opens the table over it.
 fn begin_over<R>(
     rt: &R,
-    mut place: EtcdPlace<R>,
-    alarm: Arc<Alarm>,
-    standing: Arc<Standing>,
+    place: EtcdPlace<R>,
+    resumed: Recovered,
+    signals: Signals,
 ) -> Result<Resumed<Metered<EtcdMedium<Etcd<R>>, R>>, ProgramFault>
 where
     R: Net<Stream = TcpStream> + Clock + AllocGlobal + Copy + Drop,
-    ensures ok { IfOk result (λ resumed. IsTakenUp place.bytes resumed.table resumed.life) }
+    ensures ok { IfOk result (λ begun.
+        (begun.table.book ≡ resumed.book) × (begun.table.history ≡ resumed.history)
+        × (begun.life ≡ resumed.life)) }
     ensures fault { IfErr result IsOfJournal }
 {
-    let alloc = rt.alloc();
-    let resumed = recovered(alloc, place.read())?;
-    let ready = prepare(alloc, &resumed, alarm)?;
-    match place.begin(resumed.text(), standing) {
-        Ok(medium) => Ok(open_over(rt, resumed, medium, ready)),
-        Err(fault) => Err(told_of_etcd(fault)),
+    match begin_text(rt.alloc(), place, &resumed, signals) {
+        Ok((medium, ready)) => Ok(open_over(rt, resumed, medium, ready)),
+        Err(fault) => {
+            drop(resumed);
+            Err(fault)
+        }
     }
+}
+
+// Begins the journal of a resumed table anew. Returns its medium, and what else the table needs to
+// be opened over it.
+fn begin_text<R>(
+    alloc: Global,
+    place: EtcdPlace<R>,
+    resumed: &Recovered,
+    signals: Signals,
+) -> Result<(EtcdMedium<Etcd<R>>, Ready), ProgramFault>
+where
+    R: Net<Stream = TcpStream> + Clock + AllocGlobal + Copy + Drop,
+    ensures text { IfOk result (λ begun. begun.0
+        ≡ record { text = resumed.now.text; kept = length resumed.now.text; other = None }) }
+    ensures running { IfOk result (λ begun. map (λ charter. charter.value) begun.1.charters.items
+        ≡ running_charters resumed.now.book) }
+    ensures fault { IfErr result IsOfJournal }
+{
+    let Signals { alarm, standing } = signals;
+    match prepare(alloc, resumed, alarm) {
+        Ok(ready) => match place.begin(resumed.text(), standing) {
+            Ok(medium) => Ok((medium, ready)),
+            Err(fault) => {
+                drop(ready);
+                Err(told_of_etcd(fault))
+            }
+        },
+        Err(fault) => {
+            drop(place);
+            drop(standing);
+            Err(fault)
+        }
+    }
+}
+
+// What the thread that renews a lease shares with the journal.
+#[derive(Drop)]
+struct Signals {
+    // the alarm of the table, which that thread rings
+    alarm: Arc<Alarm>,
+    // where it notes that another process has taken the journal over
+    standing: Arc<Standing>,
+}
+
+impl Signals {
+    // Returns another handle of each.
+    fn another(&self) -> Result<Signals, ProgramFault>
+        ensures { IfErr result (λ fault. fault ≡ ProgramFault.NoMemory) }
+    {
+        Ok(Signals {
+            alarm: another(&self.alarm)?,
+            standing: another(&self.standing)?,
+        })
+    }
+}
+
+// Claims the lease of a journal, and starts the thread that renews it. Returns what that thread
+// shares with the journal.
+fn hold_lease<R>(
+    rt: &R,
+    members: &str,
+    name: &str,
+    standing: &Arc<Standing>,
+) -> Result<Signals, ProgramFault>
+where
+    R: Net<Stream = TcpStream, Listener = TcpListener>
+        + Eprint
+        + Clock
+        + AllocGlobal
+        + Threads
+        + Wait
+        + Copy
+        + Send
+        + Sync
+        + Drop
+        + 'static,
+    ensures { IfErr result IsOfTaking }
+{
+    let lease = claimed(rt, members, name)?;
+    match make_signals(rt.alloc(), standing) {
+        Ok((ours, theirs)) => {
+            keep_lease(rt, lease, theirs)?;
+            Ok(ours)
+        }
+        Err(fault) => {
+            drop(lease);
+            Err(fault)
+        }
+    }
+}
+
+// Returns a new alarm and this standing, once for the journal and once for the thread that renews
+// its lease.
+fn make_signals(alloc: Global, standing: &Arc<Standing>) -> Result<(Signals, Signals), ProgramFault>
+    ensures { IfErr result (λ fault. fault ≡ ProgramFault.NoMemory) }
+{
+    let ours = Signals {
+        alarm: shared(alloc, Alarm::new())?,
+        standing: another(standing)?,
+    };
+    let theirs = ours.another()?;
+    Ok((ours, theirs))
 }
 
 // Waits for the lease of a journal, and returns it once this process has claimed it.
@@ -109,12 +253,7 @@ where
 }
 
 // Starts the thread that renews a lease.
-fn keep_lease<R>(
-    rt: &R,
-    lease: Lease<R>,
-    standing: Arc<Standing>,
-    bell: Arc<Alarm>,
-) -> Result<(), ProgramFault>
+fn keep_lease<R>(rt: &R, lease: Lease<R>, signals: Signals) -> Result<(), ProgramFault>
 where
     R: Net<Stream = TcpStream, Listener = TcpListener>
         + Clock
@@ -129,7 +268,8 @@ where
     ensures { IfErr result (λ fault. fault ≡ ProgramFault.Thread) }
 {
     let theirs = *rt;
-    match thread::spawn(rt, move || renew(&theirs, lease, &standing, &bell)) {
+    let Signals { alarm, standing } = signals;
+    match thread::spawn(rt, move || renew(&theirs, lease, &standing, &alarm)) {
         Ok(_thread) => Ok(()),
         Err(refused) => {
             drop(refused);

@@ -160,17 +160,19 @@ fn check_free<R: Files + Net>(rt: &R, path: &str) -> Result<(), ProgramFault>
         return Err(ProgramFault::Listen);
     }
     match fs::symlink_metadata(rt, path) {
-        Err(error) if error.kind() == ErrorKind::NotFound => return Ok(()),
-        Err(error) => return Err(fault_of(error)),
-        Ok(about) if !about.file_type().is_socket() => {
-            return Err(ProgramFault::Socket(SocketFault::NotASocket));
-        }
-        Ok(_) => {}
+        Ok(about) if about.file_type().is_socket() => check_unused(rt, path),
+        Ok(_) => Err(ProgramFault::Socket(SocketFault::NotASocket)),
+        Err(error) => allow(ErrorKind::NotFound, error),
     }
+}
+
+// Fails unless no process listens on the socket at the path.
+fn check_unused<R: Net>(rt: &R, path: &str) -> Result<(), ProgramFault>
+    ensures { IfErr result IsOfListening }
+{
     match UnixStream::connect(rt, path) {
-        Err(error) if error.kind() == ErrorKind::ConnectionRefused => Ok(()),
-        Err(error) => Err(fault_of(error)),
         Ok(_) => Err(IN_USE),
+        Err(error) => allow(ErrorKind::ConnectionRefused, error),
     }
 }
 
@@ -251,6 +253,17 @@ fn remove_socket<R: Files>(rt: &R, path: &str) {
         && about.file_type().is_socket()
     {
         let _ = fs::remove_file(rt, path);
+    }
+}
+
+// Fails with the fault of a system call that failed, unless its error is of this kind.
+fn allow(kind: ErrorKind, error: io::Error) -> Result<(), ProgramFault>
+    ensures { IfErr result IsOfListening }
+{
+    if error.kind() == kind {
+        Ok(())
+    } else {
+        Err(fault_of(error))
     }
 }
 

@@ -12,5 +12,5 @@ pub resume_loop-requires-sync-D : goal.resume_loop-requires-sync-D
 resume_loop-requires-sync-D g c κs within =
     let sync = param_sync 2 _ (metered_sync _ _ g.D.Medium c.type_bounds.sync-D c.type_bounds.sync-R) in record { shared = sync.shared }
 
-pub returns : goal.returns
-returns g c = all_kept _ _ c.args.first.now _ c.resume_loop.result c.resume_loop.ensures
+pub returns-in-Ok : goal.returns-in-Ok
+returns-in-Ok g c = all_kept _ _ c.args.first.now _ c.resume_loop.result c.resume_loop.ensures
