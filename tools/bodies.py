@@ -16,6 +16,17 @@ from verdicts import PASSED, REFUSED, UNCLEAR, UNJUDGED, Said, failed_answers, j
 # How much is printed of a reason.
 SHOWN = 400
 
+# The proof of a function that is left out. The prover prints the goal at a hole, which takes half a second for a statement.
+# So the hole is of any type.
+UNPROVED = """use {module}.{{statement}}
+
+unproved : {{A : Type 2}} → A
+unproved = ?
+
+pub {name}_spec : {{M : Type 1}} → statement M
+{name}_spec {{M = m}} = unproved {{A = statement m}}
+"""
+
 
 class Bodies:
     """A crate's wrong bodies and controls, the functions that they change, a folder for the checks and their lanes.
@@ -71,8 +82,7 @@ class Bodies:
                 (at / name).unlink(missing_ok=True)
             shutil.rmtree(copy.folder / "proofs" / it.closures(), ignore_errors=True)
             module = f"Rattle.{self.name}.proofs.{it.path.replace('::', '.')}.Statement"
-            (at / "Proof.antt").write_text(f"use {module}.{{statement}}\n\npub {it.name()}_spec : {{M : Type 1}}"
-                                           f" → statement M\n{it.name()}_spec = ?\n", encoding="utf-8")
+            (at / "Proof.antt").write_text(UNPROVED.format(module=module, name=it.name()), encoding="utf-8")
 
     def checked(self, pack, is_changed=True, failed=(), are_refused=()):
         """Checks a copy with all edits of a pack, or as it stands, with a search in the place of those answers of an edit
