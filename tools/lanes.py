@@ -12,7 +12,7 @@ from crates import built_by_rt
 from heard import Heard
 
 MEMORY = 3_000_000_000  # what one check may take
-PAUSE = 1
+PAUSE = 5  # seconds between two looks: a thread for each crate looks
 
 
 class Gate:
