@@ -1,5 +1,5 @@
 -- A first line that spells no join is refused.
-use Rattle.std.proofs.Common.{inl, inr, refl}
+use Rattle.std.proofs.Common.{inl, inr, refl, rules}
 use Rattle.ring_campaign.proofs.Told.{given_either}
 use Rattle.ring_campaign.proofs.opening.begin.Goals as goal
 
@@ -14,3 +14,6 @@ returns-in-NoJoin-clause-campaigns g c =
       read = asked.2;
       answered = inr (asked.1, rw (← c.spell.ensures, ← c.deref.ensures.value) (given_either _ _ _ _ c.put.result c.put.ensures.ok c.put.ensures.err));
     }))
+
+pub returns-clause-campaigns : goal.returns-clause-campaigns
+returns-clause-campaigns g c = search rules

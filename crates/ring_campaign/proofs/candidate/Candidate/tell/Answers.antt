@@ -1,5 +1,5 @@
 -- A reply that differs from the last is written.
-use Rattle.std.proofs.Common.{sym, true, false, true≢false}
+use Rattle.std.proofs.Common.{sym, true, false, true≢false, rules}
 use Rattle.ring_lines.proofs.Writing.{where_err, where_ok}
 use Rattle.ring_campaign.proofs.Told.{tells_one}
 use Rattle.ring_campaign.proofs.candidate.Candidate.tell.Goals as goal
@@ -9,3 +9,6 @@ returns-clause-ok g c = where_ok c.put-put.result c.put-put.ensures.ok (λ wrote
 
 pub returns-clause-err : goal.returns-clause-err
 returns-clause-err g c = where_err c.put-put.result c.put-put.ensures.err (λ front. tells_one _ _ _ _ _ false (λ same. true≢false (sym (c.if-is_same.ensures.1 same))) front)
+
+pub put-put-requires : goal.put-put-requires
+put-put-requires g c = search rules
