@@ -1,5 +1,5 @@
 -- The changes of the groups so far, and of the next one.
-use Rattle.std.proofs.Common.{◌≤◌, [], length, arith, subst, sym}
+use Rattle.std.proofs.Common.{◌≤◌, [], length, arith, subst, sym, rules}
 use Rattle.ring_lives.specs.Replays.{Replays}
 use Rattle.ring_compaction.specs.BookChanges.{book_changes}
 use Rattle.ring_compaction.specs.Bound.{most_changes}
@@ -28,3 +28,6 @@ returns-clause-bound g c =
     let past : length c.args.book.now ≤ c.loop-place.place = omega (arith, c.loop-place-test.false, c.len-place-end.ensures.value) in
     let all = groups_added c.args.book.now c.loop-place.place c.loop-place.changes.items (book_changes c.args.book.now) past c.loop-place.invariant in
     subst (λ changes. length changes ≤ most_changes c.args.book.now) (sym all) (few_changes g.E.RingElection.winner c.args.book.now c.len-place-end.ensures.kept)
+
+pub loop-place-init : goal.loop-place-init
+loop-place-init g c = search rules
