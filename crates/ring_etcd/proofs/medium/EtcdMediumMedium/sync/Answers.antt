@@ -1,4 +1,4 @@
-use Rattle.std.proofs.Common.{ap}
+use Rattle.std.proofs.Common.{ap, rules}
 use Rattle.ring_etcd.proofs.Held.{put_all, put_len}
 use Rattle.ring_etcd.proofs.medium.EtcdMediumMedium.sync.Goals as goal
 
@@ -9,3 +9,6 @@ returns-in-Ok-clause-text g c =
 pub returns-in-Ok-clause-kept : goal.returns-in-Ok-clause-kept
 returns-in-Ok-clause-kept g c =
     put_len _ _ _ _ c.in-Ok.ensures.ok (ap (λ v. v.text) c.self.view_is)
+
+pub returns-in-Err-NoMemory-clause-text : goal.returns-in-Err-NoMemory-clause-text
+returns-in-Err-NoMemory-clause-text g c = search rules
