@@ -1,5 +1,5 @@
 -- All terms were pushed.
-use Rattle.std.proofs.Common.{◌∙◌, ◌++◌, List, ap, append-nil, arith, map, sym}
+use Rattle.std.proofs.Common.{◌∙◌, ◌++◌, List, ap, append-nil, arith, map, sym, rules}
 use Rattle.std.proofs.lemmas.List.{drop_all}
 use Rattle.serde_json.specs.Data.{Data, array}
 use Rattle.serde_json.specs.View.{items_of, view}
@@ -16,3 +16,6 @@ returns c =
     view-Array c.loop-leader.list
     ∙ ap (λ (values : List Data). array (items_of values))
     (sym (append-nil pushed) ∙ sym none ∙ c.loop-leader.invariant.built)
+
+pub loop-leader-init : goal.loop-leader-init
+loop-leader-init c = search rules

@@ -1,0 +1,5 @@
+use Rattle.std.proofs.Common.{rules}
+use Rattle.ring_http.proofs.figures.count_of.Goals as goal
+
+pub returns : goal.returns
+returns c = search rules
