@@ -1,6 +1,6 @@
 -- Until the new text is in its place, a restart finds the lines from before. After that it finds
 -- all lines of the new text.
-use Rattle.std.proofs.Common.{length, refl, ap, ◌∙◌, sym}
+use Rattle.std.proofs.Common.{length, refl, ap, ◌∙◌, sym, rules}
 use Rattle.ring_journal.proofs.Settling.{crash_finds, finds_all, near_same, new_journal}
 use Rattle.ring_journal.proofs.journal.Journal.replace.Goals as goal
 
@@ -30,3 +30,9 @@ returns-in-Err-Failed-clause-any_moment g c = record {
 
 pub invariant_of-self : goal.invariant_of-self
 invariant_of-self g c = rw (c.if-self.false, c.in-Ok.ensures) (new_journal _ _ c.clear.ensures.bytes c.requires refl)
+
+pub returns-in-Err-Failed-clause-failed : goal.returns-in-Err-Failed-clause-failed
+returns-in-Err-Failed-clause-failed g c = search rules
+
+pub returns-in-Ok-clause-lines : goal.returns-in-Ok-clause-lines
+returns-in-Ok-clause-lines g c = search rules

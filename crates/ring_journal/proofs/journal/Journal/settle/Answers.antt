@@ -1,5 +1,6 @@
 -- At each exit the same lines are written or pending, so a restart finds the first of them.
-use Rattle.std.proofs.Common.{◌++◌, length, refl, ap, ◌∙◌, sym, append-nil}
+use Rattle.std.proofs.lemmas.Grind.{common_steps}
+use Rattle.std.proofs.Common.{◌++◌, length, refl, ap, ◌∙◌, sym, append-nil, arith}
 use Rattle.ring_journal.proofs.Settling.{crash_finds, near_batch, near_same, settled_journal}
 use Rattle.ring_journal.proofs.journal.Journal.settle.Goals as goal
 
@@ -37,3 +38,6 @@ returns-in-Err-clause-any_moment g c =
     let j = rw c.if-self.false at c.self.invariant in
     let text = c.in-Err.ensures.text ∙ c.in-Ok.ensures.text in
     rw (← c.self.view_is) (λ m from to found find. crash_finds _ _ _ c.self.invariant _ c.clear-in-Ok.new.self.bytes (ap (λ r. (g.D.Medium.moment c.sync.new.self).text ++ r) c.clear-in-Ok.ensures.bytes ∙ append-nil _ ∙ text) (near_batch _ _ j _ text) m from to found find)
+
+pub invariant_of-self-in-Err : goal.invariant_of-self-in-Err
+invariant_of-self-in-Err g c = grind (arith, common_steps)
