@@ -1,5 +1,5 @@
 //! Serves clients until the process ends, `sessions` at a time.
-ghost use Rattle.std.specs.Prelude.{◌≡◌, All, IfErr, MatchResult};
+ghost use Rattle.std.specs.Prelude.{◌≡◌, ◌≤◌, ◌^◌, All, IfErr, MatchResult};
 ghost use Rattle.ring_lines.specs.Ends.{Wrote};
 ghost use Rattle.ring_server.specs.Running.{FirstOrNone};
 
@@ -7,7 +7,7 @@ use crate::counting::Heeded;
 use crate::crowd::{Others, gather};
 use crate::hosting::CampaignHandler;
 use crate::sessions;
-use crate::sessions::{Front, Seat, Service, SessionHandler};
+use crate::sessions::{Front, Seat, SessionHandler};
 use crate::viewing::Viewer;
 use crate::watching::Watch;
 use ring_accept::{
@@ -68,49 +68,73 @@ where
         (λ fault. FirstOrNone O.write_gives out.old listening.now fault out.new) }
 {
     let alloc = rt.alloc();
+    let table: Forgetful = Recorded::new(alloc, Unkept::new(alloc));
+    run_over(rt, table, listener, others, config, limits, listening, out)
+}
+
+// Makes the service over a table without groups, and serves. It is for any table, as no proof spells
+// out the table's type then.
+fn run_over<R, L, T, O>(
+    rt: &R,
+    table: T,
+    listener: L,
+    others: Others<L>,
+    config: &Config,
+    limits: Limits,
+    listening: &str,
+    out: &mut O,
+) -> Result<(), ProgramFault>
+where
+    R: Threads
+        + Wait
+        + AllocGlobal
+        + Eprint
+        + Clock
+        + Files<File = File>
+        + Copy
+        + Send
+        + Sync
+        + Drop
+        + 'static,
+    L: OpenListener<Stream = TcpStream> + Send + Drop,
+    T: Tabled<Any> + Send + Sync + Drop + 'static,
+    O: Outlet,
+    requires { T.most ≤ 2 ^ 64 }
+    ensures { MatchResult result
+        (λ _. Wrote O.write_gives out.old listening.now out.new)
+        (λ fault. FirstOrNone O.write_gives out.old listening.now fault out.new) }
+{
+    let alloc = rt.alloc();
     let watch = watch_of(rt, alloc, limits, &others)?.shared(alloc)?;
     let seats = others.seats_for(limits.sessions);
-    let table = Recorded::new(alloc, Unkept::new(alloc));
     let (service, seats) = sessions::open_watched(rt, config, seats, table, &watch)?;
+    let front = sessions::front(&service);
     let begun = begin(
-        rt,
-        front_of(&service),
-        &watch,
-        listener,
-        others,
-        listening,
-        seats,
-        limits,
-        out,
+        rt, front, &watch, listener, others, listening, seats, limits, out,
     );
     let _ = sessions::close(rt, service);
     begun
 }
 
-// Returns the front, which the sessions of the service share.
-fn front_of(service: &Service<Forgetful>) -> &Front<Forgetful>
-    ensures { result.now ≡ service.now }
-{
-    service.front()
-}
-
 // Prints that it listens, and lets the threads serve.
-fn begin<R, L, O>(
+fn begin<R, L, T, O>(
     rt: &R,
-    front: &Front<Forgetful>,
+    front: &Front<T>,
     watch: &Watch,
     listener: L,
     others: Others<L>,
     listening: &str,
-    seats: Vec<Seat<Forgetful>>,
+    seats: Vec<Seat<T>>,
     limits: Limits,
     out: &mut O,
 ) -> Result<(), ProgramFault>
 where
     R: Threads + Wait + AllocGlobal + Eprint + Clock + Sync,
     L: OpenListener<Stream = TcpStream> + Send + Drop,
+    T: Tabled<Any> + Send + Sync + Drop + 'static,
     O: Outlet,
-    requires { All (λ seat. seat.lock ≡ front.now.id) seats.items }
+    requires seats { All (λ seat. seat.lock ≡ front.now.id) seats.items }
+    requires base { T.most ≤ 2 ^ 64 }
     ensures { MatchResult result
         (λ _. Wrote O.write_gives out.old listening.now out.new)
         (λ fault. FirstOrNone O.write_gives out.old listening.now fault out.new) }
