@@ -63,6 +63,10 @@ def searched(text, failed, opened=()):
             gone += lines
         else:
             kept += searching(lines, lemmas) if name in failed else lines
-    if not re.search(r"^use .*Common\.\{(.*, )?rules[,}]", text, re.M):
-        kept.insert(0, f"use {COMMON}.{{rules}}")
-    return "\n".join([*kept, *answering(opened, gone, lemmas)])
+    return with_rules("\n".join([*kept, *answering(opened, gone, lemmas)]))
+
+
+def with_rules(text):
+    """The text of a file of answers that imports the common rules, as a search needs."""
+    has_rules = re.search(r"^use .*Common\.\{(.*, )?rules[,}]", text, re.M)
+    return text if has_rules else f"use {COMMON}.{{rules}}\n{text}"

@@ -8,10 +8,11 @@ import shutil
 from answers import searched
 from crates import TOP
 from edits import BadEdit, check
+from goals import goals_of
 from lanes import Lanes
 from sources import functions_of
 from twins import PROOF_FILES, Copy, may_go_together
-from verdicts import PASSED, REFUSED, UNCLEAR, UNJUDGED, Said, failed_answers, judged, judged_again, refusals
+from verdicts import PASSED, REFUSED, UNCLEAR, UNJUDGED, Said, failed_answers, judged, judged_again, refusals, shows_false
 
 # How much is printed of a reason.
 SHOWN = 400
@@ -33,9 +34,10 @@ class Bodies:
 
     Edits are tried in one check of a copy of the crate, each in a function or a twin of its own. It proves the changed
     functions alone: every other function has no body there, and a hole in the place of its proof, so its callers take its
-    contract as it is. What is not judged in company is tried alone. If nothing failed except answers by hand that may fit no more, one more check
-    has a search in their place. An edit that changes other lines than those of bodies is tried alone, and in a check of
-    its whole crate if it changes no body."""
+    contract as it is. Of a changed function only the goal is asked that its edit names, if it names one. What is not judged
+    in company is tried alone, with all goals. If nothing failed except answers by hand that may fit no more, one more check
+    has a search in their place. An edit that changes other lines than those of bodies is tried alone, and in a check of its
+    whole crate if it changes no body."""
 
     def __init__(self, name, edits, room, lanes=None):
         self.name, self.edits, self.room, self.lanes = name, edits, room / name, lanes or Lanes()
@@ -44,6 +46,11 @@ class Bodies:
         for edit in edits:
             self.targets[edit] = self.changed_by(edit)
         self.checks = 0
+
+    @functools.cached_property
+    def goals(self):
+        """The goals of each function that an edit changes."""
+        return goals_of(self.lanes.library(self.name), {it for its in self.targets.values() for it in its})
 
     def changed_by(self, edit):
         """The functions whose bodies an edit changes. If it changes other lines too, it is tried alone."""
@@ -84,17 +91,21 @@ class Bodies:
             module = f"Rattle.{self.name}.proofs.{it.path.replace('::', '.')}.Statement"
             (at / "Proof.antt").write_text(UNPROVED.format(module=module, name=it.name()), encoding="utf-8")
 
-    def checked(self, pack, is_changed=True, failed=(), are_refused=()):
+    def checked(self, pack, is_changed=True, failed=(), known=()):
         """Checks a copy with all edits of a pack, or as it stands, with a search in the place of those answers of an edit
-        that failed: what was said, and the copy. Of edits that are to be refused nothing else is found out. A check that
-        was killed is done a second time."""
+        that failed: what was said, and the copy. Of edits whose verdict is known nothing else is found out, and nothing of
+        other goals than those that they name. A check that was killed is done a second time."""
         for _ in range(2):
             self.checks += 1
-            copy = Copy(self.name, self.room / f"{self.checks}-with-{len(pack)}", pack, self.targets, is_changed)
-            for it in are_refused:
-                copy.keep_from_offers(it)
+            folder = self.room / f"{self.checks}-with-{len(pack)}"
+            copy = Copy(self.name, folder, pack, self.targets, is_changed, known)
+            for it in known:
+                if copy.goals[it]:
+                    copy.keep_to_goal(it, self.goals[self.targets[it][0]])
+                if it.wanted == REFUSED:
+                    copy.keep_from_offers(it)
             with self.lanes.lane(len(self.edits)):
-                said = Said(*self.checked_now(copy, pack, failed))
+                said = Said(*self.checked_now(copy, pack, failed), copy.aside)
             if said.status >= 0:
                 break
         return said, copy
@@ -115,9 +126,9 @@ class Bodies:
 
     def tried(self, pack, is_last=False):
         """What became of each edit of a pack: its verdict, and what to say. What is not judged is tried a last time, alone."""
-        are_refused = [it for it in pack if it.wanted == REFUSED and not is_last]
+        known = [it for it in pack if it.wanted != UNJUDGED and not is_last]
         try:
-            said, copy = self.checked(pack, are_refused=are_refused)
+            said, copy = self.checked(pack, known=known)
         except (BadEdit, OSError) as why:
             return self.apart(pack, {it: f"it can't be applied: {why}" if len(pack) == 1 else "" for it in pack})
         if said.stop:
@@ -126,10 +137,10 @@ class Bodies:
         found = {it: judge(it, said, copy) for it in pack}
         unclear = [it for it in pack if found[it][0] == UNCLEAR]
         if unclear:
-            found.update(zip(unclear, self.tried_again(unclear, said, copy, found)))
-        known = {it: [REFUSED] if it in are_refused else [REFUSED, PASSED] for it in pack}
-        left = [it for it in pack if elsewhere or it not in unclear and found[it][0] not in known[it]]
-        if left and (len(pack) > 1 or are_refused):
+            found.update(zip(unclear, self.tried_again(unclear, said, copy, found, known)))
+        ends = {it: [REFUSED] if it in known and it.wanted == REFUSED else [REFUSED, PASSED] for it in pack}
+        left = [it for it in pack if elsewhere or it not in unclear and found[it][0] not in ends[it]]
+        if left and (len(pack) > 1 or known):
             found.update({it: self.tried([it], is_last=True)[0] for it in left})
         elif elsewhere:
             found = {it: (UNJUDGED, f"something else is refused: {elsewhere}") for it in pack}
@@ -143,18 +154,18 @@ class Bodies:
         found = {edit: it for few in packs for edit, it in zip(few, self.tried(few))}
         return [found.get(it, (UNJUDGED, why[it])) for it in pack]
 
-    def tried_again(self, unclear, before, copy, found):
+    def tried_again(self, unclear, before, copy, found, known):
         """What became of these edits in a check with a search in the place of each answer that failed in the check before."""
         failed = [(edit, at, names) for edit in unclear for at, it in enumerate(copy.targets[edit])
                   if (names := failed_answers(before, it))[0]]
-        said, again = self.checked(unclear, failed=failed)
+        said, again = self.checked(unclear, failed=failed, known=[it for it in unclear if it in known])
         if said.stop:
             return [(UNJUDGED, f"with a search in the place of an answer, {said.stop}") for _ in unclear]
         return [judge(it, said, again, functools.partial(judged_again, before=found[it][1])) for it in unclear]
 
     def stays(self, pack):
         """The verdict on each edit of a pack in a check without the edits, where nothing may be refused."""
-        said, copy = self.checked(pack, is_changed=False)
+        said, copy = self.checked(pack, is_changed=False, known=pack)
         if said.stop:
             return [(UNJUDGED, said.stop) for _ in pack]
         return [judge(it, said, copy) for it in pack]
@@ -182,11 +193,15 @@ def judge(edit, said, copy, judged_by=judged):
     that names its goal must be refused there."""
     found = [judged_by(said, it, copy.text_of) for it in of_edit(edit, copy)]
     verdict, why = next(it for kind in (REFUSED, UNCLEAR, UNJUDGED, PASSED) for it in found if it[0] == kind)
-    goal = copy.goals.get(edit)
+    goal = copy.goals[edit]
     if verdict != REFUSED or not goal:
         return verdict, why
     named = [it for it in refusals(said, copy.targets[edit][0], copy.text_of) if f": {goal}: " in it]
-    return (REFUSED, named[0]) if named else (UNJUDGED, f"it is refused at another goal than {goal}: {why}")
+    if not named:
+        return UNJUDGED, f"it is refused at another goal than {goal}: {why}"
+    if edit in copy.answered and not any(map(shows_false, named)):
+        return UNJUDGED, f"nothing says that its goal is false: {named[0]}"
+    return REFUSED, named[0]
 
 
 def without_bodies(path, functions):

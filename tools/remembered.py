@@ -16,7 +16,7 @@ from programs import files_of, planned, sums_of
 
 EDITS = ("wrong", "controls", "laws")
 # The modules by which edits are applied, checked and judged.
-JUDGES = ("answers", "bodies", "crates", "edits", "laws", "sources", "twins", "verdicts")
+JUDGES = ("answers", "bodies", "crates", "edits", "goals", "laws", "sources", "twins", "verdicts")
 
 
 def folder():

@@ -39,11 +39,13 @@ LIMIT = re.compile(r"antt ran out of (?:stack|the (?:steps|memory))|(?:outgrew t
 # What only follows from another error.
 DEPENDS = r"\d+ declarations? that depend"
 FOLLOWS = re.compile(DEPENDS + r"|(?:was|is) not admitted")
-SEARCH = re.compile(r"`(?:search|grind|omega)`: ")
+SEARCH = re.compile(r"`(?:search|grind|omega)`(?:: | stopped at its own limit| builds no proof here)")
 BREAKS = re.compile(r"values at which this goal is false|the goal fails")
 ALL_TRIED = re.compile(r"Every way was tried")
 # That the values do not keep all equations that the search knows.
 UNSURE = re.compile(r"these may not break the goal")
+# That a search stopped at its own limit. Values that it names do not break the goal by all facts.
+MAY_HOLD = re.compile(r"so the goal may hold")
 # That an answer is for no goal any more.
 GONE = re.compile(r"Goals` has no `[^`]+` that can be named from here|no name that rattle asks for")
 # That the text of a wrong algorithm can't be read.
@@ -85,8 +87,9 @@ class Said:
     """What a check said: its errors, the goals that the search left open, how the proof of each function ended, and why no
     function was judged, if so."""
 
-    def __init__(self, status, text):
+    def __init__(self, status, text, aside=()):
         self.status, self.errors, self.goals, self.ends, self.faults, self.untried = status, [], [], {}, [], ""
+        self.aside = aside
         lines = text.rstrip("\n").split("\n")
         is_error = False
         for line in lines:
@@ -102,10 +105,10 @@ class Said:
     def take(self, line):
         """Takes one line."""
         if at := ERROR.fullmatch(line):
-            self.errors += [Error(*at.groups())] if at[5] != NO_GOAL else []
+            self.errors += [Error(*at.groups())] if at[5] != NO_GOAL and (at[1], at[5]) not in self.aside else []
         elif at := OPEN.match(line):
             self.goals.append(Error(*at.groups()[:3], None, at[5], at[4]))
-        elif at := UNASKED.match(line):
+        elif (at := UNASKED.match(line)) and (at[1], at[4]) not in self.aside:
             self.errors.append(Error(*at.groups()[:3], None, at[4], at[5]))
             self.errors[-1].is_unasked = True
         elif at := END.fullmatch(line):
@@ -212,6 +215,12 @@ def judged(said, function, text_of):
 def is_sure(said):
     """Whether what a search said shows that its goal is false: values break it, or it tried every way."""
     return bool(BREAKS.search(said) and not UNSURE.search(said) or ALL_TRIED.search(said))
+
+
+def shows_false(said):
+    """Whether what was said of an edit's own answer shows that its goal is false: a search that stopped at its own limit
+    shows that only if every way was tried."""
+    return is_sure(said) and bool(ALL_TRIED.search(said) or not MAY_HOLD.search(said))
 
 
 def judged_again(said, function, text_of, before):
