@@ -44,13 +44,17 @@ def answered_by(text):
     return [name for name, lines in blocks_of(text) if lines[0] == f"pub {name} : goal.{name}"]
 
 
+def place_of(goal):
+    """The place of which a goal is one clause, or an empty text."""
+    return goal.rpartition("-clause-")[0]
+
+
 def set_aside(text, goal, goals):
     """The text of a file of answers in which each other goal than this one has a hole for its answer: each of these, and
-    each that was answered. Where an answer was for all clauses at once, the hole is. And the names of those goals."""
-    answered = [it for it in answered_by(text) if it != goal]
-    whole = {goal, *answered}
-    aside = [it for it in goals if it not in whole and not ((at := RETURNS.fullmatch(it)) and at[2] and at[1] in whole)]
-    aside = list(dict.fromkeys([*answered, *aside]))
+    each that was answered. All clauses of another place have one hole. And the names of what has a hole."""
+    own, answered = place_of(goal), [it for it in answered_by(text) if it != goal]
+    others = [it for it in [*answered, *goals] if it not in (goal, own) and place_of(it) != goal]
+    aside = list(dict.fromkeys(it if place_of(it) in ("", own) else place_of(it) for it in others))
     kept = [line for name, lines in blocks_of(text) if name not in answered for line in lines]
     holes = [line for it in aside for line in (f"pub {it} : goal.{it}", f"{it} = unproved", "")]
     return "\n".join([*kept, "", UNPROVED, *holes]), aside
