@@ -12,8 +12,6 @@ from answers import blocks_of, searched, with_rules
 
 # The hole is of any type, since the prover prints the goal at a hole, and takes its time for that.
 UNPROVED = "unproved {ℓ} : {A : Type ℓ} → A\nunproved = ?\n"
-# The answer of an edit that is a search, in place of an answer by hand.
-IN_PLACE = "search"
 RETURNS = re.compile(r"(returns\S*?)(?:-clause-(\w+))?")
 
 
@@ -57,12 +55,12 @@ def set_aside(text, goal, goals):
     aside = list(dict.fromkeys(it if place_of(it) in ("", own) else place_of(it) for it in others))
     kept = [line for name, lines in blocks_of(text) if name not in answered for line in lines]
     holes = [line for it in aside for line in (f"pub {it} : goal.{it}", f"{it} = unproved", "")]
-    return "\n".join([*kept, "", UNPROVED, *holes]), aside
+    return "\n".join([*kept, "", UNPROVED, *holes] if holes else kept), aside
 
 
 def answered(text, goal, answer):
     """The text of a file of answers in which a goal has this answer; or a search over the lemmas of the one that it has."""
-    if answer == IN_PLACE:
+    if answer == "search":
         return searched(text, {goal: False})
     kept = [line for name, lines in blocks_of(text) if name != goal for line in lines]
     return with_rules("\n".join([*kept, "", f"pub {goal} : goal.{goal}", f"{goal} {answer}", ""]))

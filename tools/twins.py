@@ -21,7 +21,7 @@ import re
 
 from answers import WORD, blocks_of
 from crates import copy_of
-from goals import IN_PLACE, RETURNS, answered, set_aside
+from goals import RETURNS, answered, answered_by, set_aside
 from sources import FN, functions_of
 from verdicts import NO_GOAL
 
@@ -161,13 +161,14 @@ class Copy:
 
     def keep_to_goal(self, edit, goals):
         """Sets aside all goals but the one that an edit names, where these are those of the first function that it changes.
-        That goal gets the answer that the edit has for it. If the true body is to be checked, it gets none in place of an
-        answer by hand, and none if the body has no such goal."""
+        That goal gets the answer that the edit has for it. If the true body is to be checked, an answer by hand stays, and a
+        goal that this body does not have gets none."""
         function, goal, twin = self.targets[edit][0], self.goals[edit], self.twins.get(edit)
-        asked = [it for it in [*goals, *edit.words.get("aside", "").split()] if not twin or twin.may_ask(it)]
+        others = edit.words.get("aside", "").split() if self.is_changed else []
+        asked = [it for it in [*goals, *others] if not twin or twin.may_ask(it)]
         text, aside = set_aside(self.answers_of(function), goal, asked)
         answer = edit.words.get("answer", "")
-        if answer and (self.is_changed or goal in goals and answer != IN_PLACE):
+        if answer and (self.is_changed or goal in goals and goal not in answered_by(text)):
             text = answered(text, goal, answer)
             self.answered.add(edit)
         file = f"proofs/{function.folder()}/Answers.antt"
