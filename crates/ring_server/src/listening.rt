@@ -1,5 +1,5 @@
 //! Serves a given number of clients, each in a thread of its own.
-ghost use Rattle.std.specs.Prelude.{◌≡◌, ◌++◌, All, MatchResult, vec_len};
+ghost use Rattle.std.specs.Prelude.{◌≡◌, ◌≤◌, ◌++◌, ◌^◌, All, MatchResult, vec_len};
 ghost use Rattle.ring_lines.specs.Ends.{Wrote};
 ghost use Rattle.ring_accept.specs.Telling.{closed_line};
 ghost use Rattle.ring_server.specs.Listening.{BothAt};
@@ -9,9 +9,10 @@ use crate::sessions;
 use crate::sessions::{Front, Seat, limited_handlers};
 use crate::watching::Watch;
 use ring_accept::{ProgramFault, accept_all, say_closed, tell};
+use ring_any::Any;
 use ring_config::Config;
 use ring_lines::Outlet;
-use ring_table::Table;
+use ring_table::{Table, Tabled};
 use std::net::{OpenListener, TcpStream};
 use std::sync::Wait;
 use std::thread::Threads;
@@ -47,10 +48,36 @@ where
         (λ fault.
         BothAt O.write_gives out.old listening.now (closed_line connections) fault out.new) }
 {
+    let table = Table::new(rt.alloc());
+    accept_over(rt, table, listener, config, connections, listening, out)
+}
+
+// Accepts as `accept_loop` does, over a table without groups. It is for any table, as no proof spells
+// out the table's type then.
+fn accept_over<R, L, T, O>(
+    rt: &R,
+    table: T,
+    listener: L,
+    config: &Config,
+    connections: u32,
+    listening: &str,
+    out: &mut O,
+) -> Result<(), ProgramFault>
+where
+    R: Threads + Wait + Clock + AllocGlobal + Copy + Send + Sync + Drop + 'static,
+    L: OpenListener<Stream = TcpStream> + Drop,
+    T: Tabled<Any> + Send + Sync + Drop + 'static,
+    O: Outlet,
+    requires { T.most ≤ 2 ^ 64 }
+    ensures { MatchResult result
+        (λ _. Wrote O.write_gives out.old
+        (listening.now ++ closed_line connections) out.new)
+        (λ fault.
+        BothAt O.write_gives out.old listening.now (closed_line connections) fault out.new) }
+{
     let alloc = rt.alloc();
     let closed = say_closed(alloc, connections)?;
     let watch = Watch::new(alloc, connections)?.shared(alloc)?;
-    let table = Table::new(alloc);
     let (service, seats) = sessions::open_watched(rt, config, connections, table, &watch)?;
     let served = serve_all(
         rt,
@@ -70,20 +97,22 @@ where
 
 // Prints that it listens, and serves all connections. Returns how many there were: one for each
 // seat.
-fn serve_all<R, L, O>(
+fn serve_all<R, L, T, O>(
     rt: &R,
-    front: &Front,
+    front: &Front<T>,
     watch: &Watch,
     listener: L,
     listening: &str,
-    seats: Vec<Seat>,
+    seats: Vec<Seat<T>>,
     out: &mut O,
 ) -> Result<usize, ProgramFault>
 where
     R: Threads + Wait + Clock + AllocGlobal + Sync,
     L: OpenListener<Stream = TcpStream> + Drop,
+    T: Tabled<Any> + Send + Sync + Drop,
     O: Outlet,
-    requires { All (λ seat. seat.lock ≡ front.now.id) seats.items }
+    requires seats { All (λ seat. seat.lock ≡ front.now.id) seats.items }
+    requires base { T.most ≤ 2 ^ 64 }
     ensures { MatchResult result
         (λ accepted. (accepted ≡ vec_len seats) × Wrote O.write_gives out.old listening.now out.new)
         (λ fault. FirstAt O.write_gives out.old listening.now fault out.new) }

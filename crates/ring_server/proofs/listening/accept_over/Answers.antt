@@ -1,7 +1,7 @@
 use Rattle.std.proofs.Common.{◌≡◌, ◌∙◌}
 use Rattle.ring_accept.specs.Telling.{closed_line}
 use Rattle.ring_server.proofs.Telling.{both_at, both_told}
-use Rattle.ring_server.proofs.listening.accept_loop.Goals as goal
+use Rattle.ring_server.proofs.listening.accept_over.Goals as goal
 
 pub returns-in-Ok : goal.returns-in-Ok
 returns-in-Ok g c =
