@@ -17,31 +17,31 @@ from sweep import Bad, ROOT
 from table import Sweep
 
 # Sessions over a front, some of which fail, and two threads at one table.
-SHARED = ("session_rows::", "thread_rows::")
+SHARED = ("table::session_rows::", "table::thread_rows::")
 # A service that is refused memory. If that is a thread's own memory, the fault is that no thread could be started, and
 # the test stops at an assertion.
-STARVED = ("starved_rows::",)
+STARVED = ("table::starved_rows::",)
+# Worked cases of a node, of a worker and of a table.
+WORKED = (
+    "elections::node_rows::", "elections::note_rows::", "elections::schedules::",
+    "elections::workers::starved_worker::", "table::closing_rows::", "table::table_rows::",
+)
 # Tests that ask once more, by crate and by the beginnings of their names: for each growth they have to pass.
 ASK_AGAIN = {
-    "test_lines_tests": ("",),
-    "test_journal_tests": ("faults::", "lives::a_full_", "lives::a_table_", "lives::the_"),
-    "test_nodes_tests": (
-        "node_rows::", "note_rows::", "scan_rows::", "schedules::", "settle_rows::", "work_rows::",
-        "pictures::", "winners::", "workers::starved_worker::", "world_rows::",
+    "test_cases_tests": (
+        "elections::pictures::", "elections::scan_rows::", "elections::settle_rows::", "elections::winners::",
+        "elections::work_rows::", "elections::world_rows::", "journal::faults::", "journal::lives::a_full_",
+        "journal::lives::a_table_", "journal::lives::the_", "lines::", *WORKED, *SHARED,
     ),
-    "test_table_tests": ("closing_rows::", "table_rows::", *SHARED),
 }
 # Tests that start threads, and end whichever growth is refused.
 THREADED = {
+    "test_cases_tests": SHARED + STARVED,
     "test_server_tests": ("listening::a_failed_", "running::a_run_says_", "running::a_spent_guest_"),
-    "test_table_tests": SHARED + STARVED,
 }
 # Tests in which each growth is refused, without a gap: worked cases of a mux, a node, a book, a table, a service and
 # a worker.
-WHOLE = {
-    "test_nodes_tests": ("node_rows::", "note_rows::", "schedules::", "workers::starved_worker::"),
-    "test_table_tests": ("closing_rows::", "starved_rows::", "table_rows::"),
-}
+WHOLE = {"test_cases_tests": WORKED + STARVED}
 # What the test program says where a test ends by an error, and where it stops at an assertion.
 ENDED, STOPPED = b"the test failed: its result gives status 1\n", b"\ntest stopped at "
 SECONDS = 30

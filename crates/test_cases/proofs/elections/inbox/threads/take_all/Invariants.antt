@@ -1,0 +1,5 @@
+use Rattle.std.proofs.Common.{◌≡◌}
+use Rattle.test_cases.proofs.elections.inbox.threads.take_all.Given as goal
+
+abbrev pub invariant-loop : goal.invariant-loop
+invariant-loop g l = l.receiver.inbox ≡ l.fn.receiver.inbox

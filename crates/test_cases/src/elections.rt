@@ -1,0 +1,26 @@
+//! Worked test cases of elections, each with the values that it must come to. A module has one
+//! subject: identities, rings, elections, Peterson's rounds, winners, pictures of elections, the
+//! words of the algorithms, a node, a world, its scans, its worked schedules, the settlement of
+//! nodes, reports, the work that rings take, inboxes, and workers. An election without nodes runs on
+//! a `Course`, whose messages are taken one by one, whatever the algorithm.
+
+mod course;
+mod election_rows;
+mod identity_rows;
+mod inbox;
+mod node_rows;
+mod nodes;
+mod note_rows;
+mod pictures;
+mod reading_rows;
+mod rings;
+mod roster_rows;
+mod round_rows;
+mod scan_rows;
+mod schedules;
+mod settle_rows;
+mod winners;
+mod work_rows;
+mod workers;
+mod world_rows;
+mod worlds;

@@ -1,0 +1,122 @@
+//! Two worked schedules on 3, 1, 2: what is in flight after each delivery.
+
+use crate::elections::worlds::{begun, deliver};
+use crate::equal::equal;
+use ring_any::{Any, AnyMsg};
+use ring_election::RingElection;
+use ring_id::{NodeId, Side};
+use ring_node::{Node, Packet};
+use ring_world::{Passage, World};
+use std::alloc::Global;
+use std::process::Abort;
+
+/// An election whose messages have digits.
+trait Digits: RingElection {
+    /// The digit of a message that goes one way, and 9 for another message or identity.
+    fn digit(message: Self::Msg) -> u32;
+}
+
+impl Digits for Any {
+    fn digit(message: AnyMsg) -> u32 {
+        match message {
+            AnyMsg::LeLann(id) | AnyMsg::Chang(id) | AnyMsg::Peterson(id) => match id.get() {
+                number @ 1..=3 => number,
+                _ => 9,
+            },
+            AnyMsg::Out { .. } | AnyMsg::Back { .. } => 9,
+        }
+    }
+}
+
+/// The digits of what a sender has sent to the right and its receiver has not taken, the first
+/// packet first; 4 is the announcement.
+fn between<E: Digits>(sender: &Node<E>, receiver: &Node<E>) -> u32 {
+    let mut digits = 0u32;
+    for place in receiver.taken(Side::Left)..sender.sent(Side::Right) {
+        let digit = match sender.packet(Side::Right, place) {
+            Some(Packet::Algo(message)) => E::digit(message),
+            Some(Packet::Leader(_)) => 4,
+            None => 9,
+        };
+        digits = digits.saturating_mul(10).saturating_add(digit);
+    }
+    digits
+}
+
+/// The digits of what is in flight into each of three positions from its left.
+fn in_flight<E: Digits>(rt: &impl Abort, world: &World<E>) -> [u32; 3] {
+    let [first, second, third] = world.nodes() else {
+        panic!(rt; "not three nodes");
+    };
+    [
+        between(third, first),
+        between(first, second),
+        between(second, third),
+    ]
+}
+
+/// A delivery whose receiver learns no leader.
+const MOVED: Passage = Passage::Moved(None);
+
+/// A delivery from the left: the position, the outcome, and the digits of what is in flight after
+/// it.
+type Leg = (usize, Passage, [u32; 3]);
+
+/// The legs on 3, 1, 2, one after another. Nothing is in flight then. Returns how many legs are on
+/// the link on which a drain would deliver next.
+fn goes<E: Digits>(rt: &impl Abort, alloc: Global, kind: E, legs: &[Leg]) -> usize {
+    let mut world = begun(rt, alloc, kind, &[3, 1, 2]);
+    equal(rt, "in flight", in_flight(rt, &world), [2, 3, 1]);
+    let mut first = 0usize;
+    for (position, wanted, links) in legs {
+        let is_ready = world.ready() == Some((*position, Side::Left));
+        first = first.saturating_add(is_ready as usize);
+        let done = deliver(rt, &mut world, *position, Side::Left);
+        let found = (done, in_flight(rt, &world));
+        equal(rt, "a delivery, and in flight", found, (*wanted, *links));
+    }
+    equal(rt, "the ready link", world.ready(), None);
+    drop(world);
+    first
+}
+
+#[test]
+fn the_worked_schedule(rt: HostRuntime) {
+    let legs: [Leg; 9] = [
+        (1, MOVED, [2, 0, 13]),
+        (2, MOVED, [2, 0, 3]),
+        (2, MOVED, [23, 0, 0]),
+        (0, MOVED, [3, 0, 0]),
+        (0, Passage::Moved(NodeId::new(3)), [0, 4, 0]),
+        (1, Passage::Moved(NodeId::new(3)), [0, 0, 4]),
+        (2, Passage::Moved(NodeId::new(3)), [4, 0, 0]),
+        (0, MOVED, [0, 0, 0]),
+        (0, Passage::Idle, [0, 0, 0]),
+    ];
+    // the first three are on other links, and the last finds nothing in flight
+    let first = goes(&rt, rt.alloc(), Any::Chang, &legs);
+    equal(&rt, "legs of a drain", first, 5);
+}
+
+#[test]
+fn the_worked_order_of_a_drain(rt: HostRuntime) {
+    let legs: [Leg; 15] = [
+        (0, MOVED, [0, 32, 1]),
+        (1, MOVED, [0, 2, 13]),
+        (1, MOVED, [0, 0, 133]),
+        (2, MOVED, [1, 0, 33]),
+        (0, MOVED, [0, 0, 33]),
+        (2, MOVED, [0, 0, 3]),
+        (2, MOVED, [3, 0, 0]),
+        (0, MOVED, [0, 3, 0]),
+        (1, Passage::Moved(NodeId::new(1)), [0, 0, 34]),
+        (2, MOVED, [3, 0, 4]),
+        (0, MOVED, [0, 3, 4]),
+        (1, MOVED, [0, 0, 4]),
+        (2, Passage::Moved(NodeId::new(1)), [4, 0, 0]),
+        (0, Passage::Moved(NodeId::new(1)), [0, 4, 0]),
+        (1, MOVED, [0, 0, 0]),
+    ];
+    let first = goes(&rt, rt.alloc(), Any::Peterson, &legs);
+    equal(&rt, "legs of a drain", first, 15);
+}

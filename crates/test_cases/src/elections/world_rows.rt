@@ -1,0 +1,132 @@
+//! A world of the election of Chang and Roberts on 3, 1, 2 by its calls alone, and a link that is
+//! cut. More deliveries and cuts are in `tests/rows`.
+
+use crate::elections::rings::identity;
+use crate::elections::worlds::{begun, counts, cut, deliver, drained, pass, passages};
+use crate::equal::equal;
+use ring_chang::Chang;
+use ring_election::RingElection;
+use ring_id::{NodeId, Refusal, Side};
+use ring_world::{Passage, PassagesEnd, World};
+use std::alloc::Global;
+use std::process::Abort;
+
+/// A call of a world, and what it comes to.
+#[derive(Clone, Copy)]
+enum Step {
+    /// A delivery on the link into this position from a side.
+    Deliver(usize, Side, Passage),
+    /// A passage there.
+    Pass(usize, Side, Passage),
+    /// At most this number of passages on the ready links: this many are made, and end so.
+    Passages(u32, u32, PassagesEnd),
+    /// A cut of the link into this position from a side, which is cut then if the answer is `Ok`.
+    Cut(usize, Side, Result<(), Refusal>),
+    /// A drain of at most this number of deliveries makes this many.
+    Drain(u32, u32),
+    /// This many packets are in flight or stuck, and this many were delivered.
+    Counts(u128, u128),
+    /// This link is the first with something in flight, if there is one.
+    Ready(Option<(usize, Side)>),
+}
+
+/// A call comes to what its step says.
+fn goes<E: RingElection>(rt: &impl Abort, world: &mut World<E>, step: &Step) {
+    match step {
+        Step::Deliver(position, side, wanted) => {
+            let done = deliver(rt, world, *position, *side);
+            equal(rt, "a delivery", done, *wanted);
+        }
+        Step::Pass(position, side, wanted) => {
+            equal(rt, "a passage", pass(rt, world, *position, *side), *wanted);
+        }
+        Step::Passages(most, made, end) => {
+            equal(rt, "passages", passages(world, *most), (*made, *end));
+        }
+        Step::Cut(position, side, answer) => {
+            let done = cut(rt, world, *position, *side);
+            equal(rt, "a cut", done, (*answer, answer.is_ok()));
+        }
+        Step::Drain(most, made) => equal(rt, "deliveries", drained(rt, world, *most), *made),
+        Step::Counts(pending, delivered) => {
+            equal(rt, "counts", counts(world), (*pending, *delivered));
+        }
+        Step::Ready(link) => equal(rt, "the ready link", world.ready(), *link),
+    }
+}
+
+/// The steps on 3, 1, 2, one after another, come to what they say.
+fn all_go<E: RingElection>(rt: &impl Abort, alloc: Global, algorithm: E, steps: &[Step]) {
+    let mut world = begun(rt, alloc, algorithm, &[3, 1, 2]);
+    for step in steps {
+        goes(rt, &mut world, step);
+    }
+    drop(world);
+}
+
+#[test]
+fn a_link_gives_one_packet_and_is_idle_then(rt: HostRuntime) {
+    let steps = [
+        Step::Counts(3, 0),
+        Step::Ready(Some((0, Side::Left))),
+        Step::Deliver(0, Side::Left, Passage::Moved(None)),
+        Step::Deliver(0, Side::Left, Passage::Idle),
+        Step::Deliver(2, Side::Right, Passage::Refused(Refusal::OneWay)),
+        Step::Counts(2, 1),
+        Step::Drain(6, 6),
+        Step::Counts(1, 7),
+        Step::Drain(100, 1),
+        Step::Counts(0, 8),
+        Step::Ready(None),
+    ];
+    all_go(&rt, rt.alloc(), Chang, &steps);
+}
+
+#[test]
+fn a_passage_tells_the_leader_alone(rt: HostRuntime) {
+    let steps = [
+        Step::Pass(0, Side::Left, Passage::Moved(None)),
+        Step::Pass(0, Side::Left, Passage::Idle),
+        Step::Pass(2, Side::Right, Passage::Refused(Refusal::OneWay)),
+        Step::Pass(1, Side::Left, Passage::Moved(None)),
+        Step::Pass(2, Side::Left, Passage::Moved(None)),
+        Step::Pass(2, Side::Left, Passage::Moved(None)),
+        Step::Pass(0, Side::Left, Passage::Moved(NodeId::new(3))),
+        Step::Pass(1, Side::Left, Passage::Moved(NodeId::new(3))),
+        Step::Counts(1, 6),
+    ];
+    all_go(&rt, rt.alloc(), Chang, &steps);
+}
+
+#[test]
+fn passages_end_where_a_leader_is_told(rt: HostRuntime) {
+    let leader = identity(&rt, 3);
+    let steps = [
+        Step::Passages(4, 4, PassagesEnd::Made),
+        Step::Passages(100, 1, PassagesEnd::Told(0, leader)),
+        Step::Passages(100, 1, PassagesEnd::Told(1, leader)),
+        Step::Passages(100, 1, PassagesEnd::Told(2, leader)),
+        Step::Passages(100, 1, PassagesEnd::Quiet),
+        Step::Counts(0, 8),
+    ];
+    all_go(&rt, rt.alloc(), Chang, &steps);
+}
+
+#[test]
+fn a_cut_link_keeps_what_stands_there(rt: HostRuntime) {
+    let steps = [
+        Step::Cut(1, Side::Right, Err(Refusal::OneWay)),
+        Step::Cut(2, Side::Left, Ok(())),
+        Step::Cut(2, Side::Left, Ok(())),
+        Step::Deliver(2, Side::Left, Passage::Idle),
+        Step::Counts(3, 0),
+        Step::Drain(100, 2),
+        Step::Counts(2, 2),
+        Step::Ready(None),
+        Step::Cut(1, Side::Right, Err(Refusal::OneWay)),
+        Step::Cut(2, Side::Left, Ok(())),
+        Step::Cut(2, Side::Left, Ok(())),
+        Step::Counts(2, 2),
+    ];
+    all_go(&rt, rt.alloc(), Chang, &steps);
+}

@@ -1,0 +1,150 @@
+//! Worlds of the test cases, and calls of them. If an allocation fails, the call is made once more.
+ghost use Rattle.std.specs.Prelude.{◌<◌, length};
+
+use crate::drain;
+use crate::elections::rings::charter;
+use crate::equal::equal;
+use crate::memory::TWICE;
+use ring_election::RingElection;
+use ring_id::{NoMemory, Refusal, Side};
+use ring_node::Charter;
+use ring_world::{Delivery, Passage, PassagesEnd, World};
+use std::alloc::Global;
+use std::process::Abort;
+use std::sync::Arc;
+
+/// The world of a charter, in which nothing was delivered.
+pub fn begun_on<E: RingElection>(
+    rt: &impl Abort,
+    alloc: Global,
+    charter: &Arc<Charter<E>>,
+) -> World<E> {
+    match World::begin(alloc, Arc::try_clone(charter).expect(rt, "no copy")) {
+        Ok(world) => world,
+        Err(NoMemory) => {
+            let copy = Arc::try_clone(charter).expect(rt, "no copy");
+            World::begin(alloc, copy).expect(rt, TWICE)
+        }
+    }
+}
+
+/// The world of a first term on the ring of these numbers.
+pub fn begun<E: RingElection>(
+    rt: &impl Abort,
+    alloc: Global,
+    algorithm: E,
+    numbers: &[u32],
+) -> World<E> {
+    begun_on(rt, alloc, &charter(rt, alloc, 1, algorithm, numbers))
+}
+
+/// How many packets a world has in flight or stuck, and how many it has delivered.
+pub fn counts<E: RingElection>(world: &World<E>) -> (u128, u128) {
+    (world.pending(), world.delivered())
+}
+
+/// Stops the test if a world has no such position.
+fn assert_has<E: RingElection>(rt: &impl Abort, world: &World<E>, position: usize)
+    ensures { position < length world.now.charter.roster }
+{
+    assert!(rt; position < world.charter().roster().len());
+}
+
+/// Delivers on the link into this position from a side. A refusal changes nothing.
+fn deliver_once<E: RingElection>(
+    rt: &impl Abort,
+    world: &mut World<E>,
+    position: usize,
+    side: Side,
+) -> Delivery<E> {
+    assert_has(rt, world, position);
+    let before = counts(world);
+    let delivery = world.deliver(position, side);
+    if matches!(delivery, Delivery::Refused(_)) {
+        equal(rt, "counts", counts(world), before);
+    }
+    delivery
+}
+
+/// Delivers on the link into this position from a side.
+pub fn delivery<E: RingElection>(
+    rt: &impl Abort,
+    world: &mut World<E>,
+    position: usize,
+    side: Side,
+) -> Delivery<E> {
+    match deliver_once(rt, world, position, side) {
+        Delivery::Refused(Refusal::NoMemory) => deliver_once(rt, world, position, side),
+        delivery => delivery,
+    }
+}
+
+/// What a delivery on the link into this position from a side comes to, as a passage there would.
+pub fn deliver<E: RingElection>(
+    rt: &impl Abort,
+    world: &mut World<E>,
+    position: usize,
+    side: Side,
+) -> Passage {
+    match delivery(rt, world, position, side) {
+        Delivery::Moved(None) => Passage::Moved(None),
+        Delivery::Moved(Some(report)) => Passage::Moved(Some(report.leader())),
+        Delivery::Idle => Passage::Idle,
+        Delivery::Refused(refusal) => Passage::Refused(refusal),
+    }
+}
+
+/// Passes on the link into this position from a side.
+pub fn pass<E: RingElection>(
+    rt: &impl Abort,
+    world: &mut World<E>,
+    position: usize,
+    side: Side,
+) -> Passage {
+    assert_has(rt, world, position);
+    match world.pass(position, side) {
+        Passage::Refused(Refusal::NoMemory) => {
+            assert_has(rt, world, position);
+            world.pass(position, side)
+        }
+        passage => passage,
+    }
+}
+
+/// Passes on ready links, at most `most` times. Returns how many passages were made, and their end.
+pub fn passages<E: RingElection>(world: &mut World<E>, most: u32) -> (u32, PassagesEnd) {
+    let first = world.pass_ready(most);
+    match first.end {
+        PassagesEnd::Starved => {
+            let rest = world.pass_ready(most.saturating_sub(first.done));
+            (first.done.saturating_add(rest.done), rest.end)
+        }
+        end => (first.done, end),
+    }
+}
+
+/// Drains a world, and returns the number of deliveries.
+pub fn drained<E: RingElection>(rt: &impl Abort, world: &mut World<E>, most: u32) -> u32 {
+    let before = world.delivered();
+    if let Ok(done) = drain(world, most) {
+        return done;
+    }
+    let made = u32::try_from(world.delivered().saturating_sub(before));
+    let made = made.expect(rt, "more deliveries than were asked for");
+    let rest = drain(world, most.saturating_sub(made)).expect(rt, TWICE);
+    made.saturating_add(rest)
+}
+
+/// Cuts the link into this position from a side. Returns the answer, and whether the link is cut
+/// then.
+pub fn cut<E: RingElection>(
+    rt: &impl Abort,
+    world: &mut World<E>,
+    position: usize,
+    side: Side,
+) -> (Result<(), Refusal>, bool) {
+    assert_has(rt, world, position);
+    let done = world.cut(position, side);
+    assert_has(rt, world, position);
+    (done, world.is_cut(position, side))
+}
