@@ -24,8 +24,9 @@ from serving import Differs, same, short
 SOON = 3
 # How long a start may look for members of etcd, in seconds.
 VERY_LONG = 240
-# How many members join and leave in a long journal, and how often a lease is renewed at least, in seconds.
-LONG_JOURNAL, RENEWED = 1500, 1.3
+# How many members join and leave in a long journal. A lease is renewed so many times at least while it is taken over, and
+# once in so many seconds.
+LONG_JOURNAL, RENEWALS, RENEWED = 1500, 3, 1.3
 RING = (Identity(0, 3), Identity(9, 1), Identity(0, 2))
 CHECKS, check = listed()
 
@@ -244,9 +245,10 @@ def the_lease_is_renewed_meanwhile(room):
     listened = run.wait_until_it_listens()
     moments = [*list(seen.values())[1:], listened]
     longest = max((later - earlier for earlier, later in zip(moments, moments[1:])), default=0)
-    if longest > RENEWED:
-        raise Differs(f"in {listened - run.began:.1f} seconds the lease was not renewed for {longest:.1f} seconds")
-    return f"{len(seen) - 1} renewals in {listened - run.began:.1f} s"
+    renewals, seconds = len(moments) - 2, listened - run.began
+    if renewals < RENEWALS or longest > RENEWED * room.within / SOON:
+        raise Differs(f"in {seconds:.1f} s the lease was renewed {renewals} times, and once not for {longest:.1f} s")
+    return f"{renewals} renewals in {seconds:.1f} s, at most {longest:.1f} s apart"
 
 
 CHANGES = [b"create a chang", b"join a 3", b"join a 1", b"start a"]

@@ -86,9 +86,9 @@ class Trials:
         """A run that another one takes over says so, and what it told is there."""
         name = f"{self.title}-taken-{order}"
         with self.begin(order, name, "first", 100000) as first:
-            time.sleep(1.0)
+            out = first.stdout.readline()
             status, text, error = self.run("append", name, "second", 20)
-            out = first.communicate(timeout=PATIENCE)[0]
+            out += first.communicate(timeout=PATIENCE)[0]
         if status or not text.endswith("done\n"):
             raise Differs(f"the second one: {text[-80:]!r}, {error.strip()}")
         if not out.endswith("journal taken over\n"):
