@@ -1,6 +1,7 @@
 """Commands that are carried out once more, in the order of their places. Every reply must be the same again."""
 
 from identity import identity_of, numbers_of
+from model import winner
 from serving import Differs
 
 # The first words of the replies that are seen at least once.
@@ -8,9 +9,10 @@ GRANTED = {"ok", "term", "leader", "members", "terms", "groups"}
 
 
 class Group:
-    """A group as the commands leave it: its members in their order, and its terms."""
+    """A group as the commands leave it: its algorithm, its members in their order, and its terms."""
 
-    def __init__(self):
+    def __init__(self, kind):
+        self.kind = kind
         self.members = []
         self.rings = []
         self.leaders = []
@@ -25,9 +27,9 @@ class Group:
             return "no not-in-term"
         if reply == f"undecided {term}" and (term, member) not in self.told:
             return reply
-        self.leaders[-1] = max(ring)
+        self.leaders[-1] = winner(self.kind, ring)
         self.told.add((term, member))
-        return f"leader {term} {max(ring)}"
+        return f"leader {term} {self.leaders[-1]}"
 
     def terms(self, reply):
         """Checks the leaders of all terms: one that was named stays, and one may have been named since."""
@@ -35,9 +37,9 @@ class Group:
         if len(words) != len(self.rings) + 1:
             return None
         for number, word in enumerate(words[1:], 1):
-            named = f"{number}:{max(self.rings[number - 1])}"
-            if word == named:
-                self.leaders[number - 1] = max(self.rings[number - 1])
+            leader = winner(self.kind, self.rings[number - 1])
+            if word == f"{number}:{leader}":
+                self.leaders[number - 1] = leader
             elif word != f"{number}:-" or self.leaders[number - 1]:
                 return None
         return reply
@@ -57,7 +59,7 @@ class Model:
         if words[0] == "create":
             if words[1] in self.groups:
                 return "no exists"
-            self.groups[words[1]] = Group()
+            self.groups[words[1]] = Group(words[2])
             return "ok"
         group = self.groups.get(words[1])
         if group is None:
@@ -88,7 +90,7 @@ class Model:
             return "no empty"
         if len(group.rings) == 1000:
             return "no term-limit"
-        group.rings.append(list(group.members))
+        group.rings.append(tuple(group.members))
         group.leaders.append(None)
         return f"term {len(group.rings)}"
 

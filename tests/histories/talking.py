@@ -8,8 +8,8 @@ from histories.commands import WEIGHTS
 from identity import Identity
 from serving import PATIENCE, Differs, connected
 
-GROUPS = ["a", "b", "c"]
-KINDS = {"a": "lelann", "b": "chang", "c": "hirschberg"}
+KINDS = {"a": "lelann", "b": "chang", "c": "hirschberg", "d": "peterson"}
+GROUPS = list(KINDS)
 MEMBERS = 6
 # How many replies each client waits for, however short its time is.
 LEAST = 300
