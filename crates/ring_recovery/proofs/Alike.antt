@@ -1,5 +1,5 @@
 -- Changes that lead to the same groups, and the same changes after each of them.
-use Rattle.std.proofs.Common.{◌≡◌, List, [], ◌∷◌, ◌++◌, Option, Some, None, refl, ap, sym, ◌∙◌, subst}
+use Rattle.std.proofs.Common.{◌≡◌, Bool, List, [], ◌∷◌, ◌++◌, Option, Some, None, refl, ap, sym, ◌∙◌, subst}
 use Rattle.ring_any.specs.Any.{any_greatest, any_two_way}
 use Rattle.ring_any.specs.declared.any.Any.{Any}
 use Rattle.ring_terms.specs.Object.{Object}
@@ -21,9 +21,9 @@ changes_of-append (entry ∷ first) second =
     onto_more (Some x) xs ys = refl
 
 -- changes, and then others
-chain : (first second : List (Change Any)) (old mid new : Object Any) → Replays any_greatest old first mid → Replays any_greatest mid second new → Replays any_greatest old (first ++ second) new
-chain [] second old mid new before after = subst (λ (m : Object Any). Replays any_greatest m second new) before after
-chain (one ∷ first) second old mid new before after = (before.0, before.1, chain first second before.0 mid new before.2 after)
+pub chain : {E : Type 0} (greatest : E → Bool) (first second : List (Change E)) (old mid new : Object E) → Replays greatest old first mid → Replays greatest mid second new → Replays greatest old (first ++ second) new
+chain {E} greatest [] second old mid new before after = subst (λ (m : Object E). Replays greatest m second new) before after
+chain greatest (one ∷ first) second old mid new before after = (before.0, before.1, chain greatest first second before.0 mid new before.2 after)
 
 -- the groups between two lists of changes
 record Parted (first second : List (Change Any)) (old new : Object Any) : Type 0 where
@@ -42,9 +42,9 @@ pub alike_more : (begun : List (Change Any)) (first rest : List (Entry Any)) →
 alike_more begun first rest alike groups = (
   λ leads. let parts = parted begun (changes_of rest) [] groups leads in
       subst (λ (changes : List (Change Any)). Replays any_greatest [] changes groups) (sym (changes_of-append first rest))
-      (chain (changes_of first) (changes_of rest) [] parts.mid groups ((alike parts.mid).0 parts.before) parts.after),
+      (chain any_greatest (changes_of first) (changes_of rest) [] parts.mid groups ((alike parts.mid).0 parts.before) parts.after),
   λ leads. let parts = parted (changes_of first) (changes_of rest) [] groups (subst (λ (changes : List (Change Any)). Replays any_greatest [] changes groups) (changes_of-append first rest) leads) in
-      chain begun (changes_of rest) [] parts.mid groups ((alike parts.mid).1 parts.before) parts.after,
+      chain any_greatest begun (changes_of rest) [] parts.mid groups ((alike parts.mid).1 parts.before) parts.after,
 )
 
 -- changes that lead to the groups of a legal history

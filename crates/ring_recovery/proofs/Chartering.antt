@@ -38,7 +38,7 @@ key_at (entry ∷ object) zero name at = (entry.1, ap (λ (n : List ℕ). Some (
 key_at (entry ∷ object) (suc i) name at = key_at object i name at
 
 -- the entry of a group that is found
-found_at : {E : Type 0} (name : List ℕ) (object : Object E) (group : GroupView E) → find name object ≡ Some group → (place : ℕ) × (slice_get object place ≡ Some (name, group))
+pub found_at : {E : Type 0} (name : List ℕ) (object : Object E) (group : GroupView E) → find name object ≡ Some group → (place : ℕ) × (slice_get object place ≡ Some (name, group))
 found_at name [] group found = absurd (none-some group found)
 found_at {E} name (entry ∷ object) group found =
     elim (bytes_eq name entry.0) as (λ b. bytes_eq name entry.0 ≡ b → cond b (Some entry.1) (find name object) ≡ Some group → (place : ℕ) × (slice_get (entry ∷ object) place ≡ Some (name, group))) [

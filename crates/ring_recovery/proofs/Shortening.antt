@@ -13,7 +13,7 @@ use Rattle.ring_change.specs.declared.change.Change.{Change}
 use Rattle.ring_change.specs.Checks.{first_check}
 use Rattle.ring_change.specs.Lines.{check_behind, marked_line}
 use Rattle.ring_change.specs.Spelling.{IsChange}
-use Rattle.ring_compaction.specs.BookChanges.{book_changes}
+use Rattle.ring_recovery.specs.BookChanges.{book_changes}
 use Rattle.ring_lives.specs.Replays.{AreExact, HaveTheirEffect}
 use Rattle.ring_recovery.specs.JournalLines.{check_of, heading, journal_lines}
 use Rattle.ring_recovery.specs.Life.{IsLife}

@@ -1,8 +1,10 @@
+pub mod BookChanges
 pub mod Charters
 pub mod Compacted
 pub mod Damage
 pub mod JournalLines
 pub mod Life
+pub mod Listing
 pub mod Places
 pub mod Recovered
 pub mod Restarts

@@ -3,7 +3,7 @@ use Rattle.std.specs.Prelude.{◌≡◌, ◌↔◌, ◌⊎◌, ◌≤◌, ℕ, L
 use Rattle.ring_any.specs.Any.{any_greatest}
 use Rattle.ring_any.specs.declared.any.Any.{Any}
 use Rattle.ring_change.specs.declared.change.Change.{Change}
-use Rattle.ring_compaction.specs.BookChanges.{book_changes}
+use Rattle.ring_recovery.specs.BookChanges.{book_changes}
 use Rattle.ring_journal.specs.Journals.{IsSame, JournalView}
 use Rattle.ring_journal.specs.Lines.{lines_in}
 use Rattle.ring_journal.specs.Moments.{Grows, MayFind, Moment}

@@ -1,4 +1,5 @@
 pub mod Invariant
+pub mod MostChanges
 pub mod Reading
 pub mod Rebuilding
 pub mod Replaying

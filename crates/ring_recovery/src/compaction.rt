@@ -3,13 +3,13 @@ ghost use Rattle.std.specs.Prelude.{◌<◌, ◌^◌, length, IfOk, OnOk};
 ghost use Rattle.ring_recovery.specs.Compacted.{KeepsBook};
 ghost use Rattle.ring_recovery.specs.private.Rebuilding.{AddsChange, IsOf};
 
+use crate::book_changes::changes_of_book;
 use crate::life::Life;
 use crate::recovered::Recovered;
 use crate::recovery::text_of;
 use crate::replay::{ReplayFault, Replayed, replay};
 use ring_any::Any;
 use ring_change::{Change, Check, spell_line};
-use ring_compaction::changes_of_book;
 use ring_id::NoMemory;
 use ring_journal::Batch;
 use ring_lives::{follows_replays, replays_exact};

@@ -15,14 +15,19 @@
 //! `recover` reads these lines, and carries out each change by the call that made it, on a table
 //! without groups. The table goes on over a new journal. It begins with the lines that were found,
 //! or with fewer lines that lead to the same groups and terms.
+//!
+//! `list_journal` lists for people the table that a restart would recover from a journal's bytes. It
+//! refuses the bytes that a restart would refuse.
 #![tactic(auto)]
 
 mod alarm;
+mod book_changes;
 mod charters;
 mod compaction;
 mod fault;
 mod heading;
 mod life;
+mod listing;
 mod places;
 mod recovered;
 mod recovery;
@@ -36,6 +41,7 @@ mod written;
 pub use alarm::{Alarm, Ending};
 pub use fault::RecoverFault;
 pub use life::Life;
+pub use listing::list_journal;
 pub use places::places_rise;
 pub use recovered::Recovered;
 pub use recovery::recover;

@@ -2,11 +2,11 @@
 ghost use Rattle.std.specs.Prelude.{IfOk, IfSome, OnOk};
 ghost use Rattle.ring_recovery.specs.private.Shortening.{AddsLine, IsShort, IsSpelled};
 
+use crate::book_changes::changes_of_book;
 use crate::life::Life;
 use crate::recovery::text_of;
 use ring_any::Any;
 use ring_change::{Change, Check, spell_line};
-use ring_compaction::changes_of_book;
 use ring_id::NoMemory;
 use ring_journal::Batch;
 use ring_terms::Book;

@@ -1,9 +1,9 @@
 //! The journal: taking up that of a file, opening a table over it, and printing it.
 ghost use Rattle.std.specs.Prelude.{◌≡◌, ℕ, List, IfErr, IfOk, MatchResult, None, length, map};
 ghost use Rattle.ring_lines.specs.Ends.{Wrote, WroteFront};
-ghost use Rattle.ring_listing.specs.Listing.{Lists};
 ghost use Rattle.ring_recovery.specs.Charters.{running_charters};
 ghost use Rattle.ring_recovery.specs.Compacted.{Resumes};
+ghost use Rattle.ring_recovery.specs.Listing.{Lists};
 ghost use Rattle.ringd.specs.Journal.{IsOfJournal, IsTakenUp, ListedAt};
 ghost use Rattle.ringd.specs.private.Journal.{IsToldOf, place_told_as, recovery_told_as};
 
@@ -13,9 +13,8 @@ use ring_any::Any;
 use ring_file::{FileMedium, Place, PlaceFault, Replaces};
 use ring_journal::Medium;
 use ring_lines::{Outlet, put};
-use ring_listing::list_journal;
 use ring_node::Charter;
-use ring_recovery::{Alarm, RecoverFault, Recovered, resume};
+use ring_recovery::{Alarm, RecoverFault, Recovered, list_journal, resume};
 use ring_server::{Meter, Metered, Resumed};
 use ring_words::JournalAt;
 use std::alloc::Global;

@@ -7,7 +7,7 @@ use Rattle.ring_change.specs.declared.change.Change.{Change}
 use Rattle.ring_change.specs.Checks.{first_check}
 use Rattle.ring_change.specs.Lines.{IsOneLine, check_behind, marked_line}
 use Rattle.ring_change.specs.Spelling.{IsChange}
-use Rattle.ring_compaction.specs.BookChanges.{book_changes}
+use Rattle.ring_recovery.specs.BookChanges.{book_changes}
 use Rattle.ring_journal.specs.Journals.{IsSame}
 use Rattle.ring_journal.specs.Lines.{whole_lines_of}
 use Rattle.ring_lives.specs.Changes.{changes_of}

@@ -1,8 +1,0 @@
-mod LastGroup
-mod Moving
-mod Telling
-mod Starting
-mod Entries
-mod Leading
-mod Bounding
-mod Adding

@@ -1,2 +1,0 @@
-pub mod BookChanges
-pub mod Bound

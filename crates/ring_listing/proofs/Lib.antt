@@ -1,3 +1,0 @@
-mod Marked
-mod Behind
-mod Ending
