@@ -1,9 +1,8 @@
 -- Lives are counted upwards, so the places of a later life are greater.
-use Rattle.std.proofs.Common.{◌≡◌, ◌<◌, ◌≤◌, ◌+◌, ◌*◌, ◌-◌, ◌^◌, ◌∙◌, ℕ, zero, suc, List, [], ◌∷◌, Some, ap, arith, refl, sym}
+use Rattle.std.proofs.Common.{◌≡◌, ◌<◌, ◌+◌, ◌^◌, ◌∙◌, ℕ, zero, suc, List, [], ◌∷◌, Some, ap, arith}
 use Rattle.std.specs.List.{slice_get}
 use Rattle.std.proofs.lemmas.Option.{none-some, same_Some}
-use Rattle.ring_recovery.specs.Life.{IsLife}
-use Rattle.ring_recovery.specs.Places.{AreLives, Continues, IsToldIn, JournalLife, PlacesRise, told_place}
+use Rattle.ring_recovery.specs.Places.{AreLives, Continues, JournalLife, PlacesRise, told_place}
 use Rattle.ring_recovery.specs.Restarts.{RestartsAfterFirst}
 
 -- a place of a life is less than each of a life with a greater number

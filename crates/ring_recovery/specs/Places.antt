@@ -1,5 +1,5 @@
 -- The lives of a journal, and the places in their replies.
-use Rattle.std.specs.Prelude.{◌≡◌, ◌<◌, ◌≤◌, ◌+◌, ◌-◌, ◌*◌, ◌^◌, ℕ, List, [], ◌∷◌, Some, slice_get}
+use Rattle.std.specs.Prelude.{◌≡◌, ◌<◌, ◌+◌, ◌^◌, ℕ, List, [], ◌∷◌, Some, slice_get}
 use Rattle.ring_any.specs.declared.any.Any.{Any}
 use Rattle.ring_table.specs.declared.entry.Entry.{Entry}
 use Rattle.ring_recovery.specs.Recovered.{RecoveredView, Recovers}
