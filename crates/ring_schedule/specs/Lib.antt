@@ -1,2 +1,4 @@
+pub mod Kinds
 pub mod Replay
+pub mod Under
 pub mod private

@@ -2,8 +2,8 @@ ghost use Rattle.std.specs.Prelude.{List, ℕ};
 ghost use Rattle.ring_schedule.specs.Replay.{RepliesTo, Replays};
 ghost use Rattle.ring_schedule.specs.private.Asking.{AsksEvent};
 
+use crate::any_traffic::AnyTraffic;
 use ring_any::Any;
-use ring_any_traffic::AnyTraffic;
 use ring_events::{Event, Reply};
 use ring_id::Refusal;
 use ring_lines::{Answerer, Intake, LineFault, Outlet, answer_lines, parse_event};

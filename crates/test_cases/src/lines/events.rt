@@ -3,9 +3,9 @@ use crate::lines::printing::lines_of;
 use crate::lines::texts::Text;
 use crate::memory::{TWICE, tells_of_memory, with_room};
 use ring_any::Any;
-use ring_any_traffic::AnyTraffic;
 use ring_grammar::parse_event;
 use ring_mux::{Event, Mux};
+use ring_schedule::AnyTraffic;
 use std::alloc::Global;
 use std::process::Abort;
 

@@ -7,10 +7,10 @@ use Rattle.ring_peterson.specs.Peterson.{peterson_table}
 use Rattle.ring_any.specs.Any.{any_table}
 use Rattle.ring_any.specs.declared.any.Any.TheVariants.{LeLann, Chang, Hirschberg, Peterson}
 use Rattle.ring_any.specs.Kinds.{chang_messages, chang_states, hirschberg_messages, hirschberg_states, lelann_messages, lelann_states, peterson_messages, peterson_states}
-use Rattle.ring_any_traffic.proofs.EachKind.{chang_kind, chang_sound, hirschberg_kind, hirschberg_sound, lelann_kind, lelann_sound, peterson_kind, peterson_sound}
-use Rattle.ring_any_traffic.proofs.Passing.{passes_under}
-use Rattle.ring_any_traffic.proofs.any_traffic.AnyTrafficTrafficAny.pass.Goals as goal
-use Rattle.ring_any_traffic.proofs.any_traffic.AnyTrafficTrafficAny.pass.Goals.{in-LeLann, in-Chang, in-Hirschberg, in-Peterson}
+use Rattle.ring_schedule.proofs.EachKind.{chang_kind, chang_sound, hirschberg_kind, hirschberg_sound, lelann_kind, lelann_sound, peterson_kind, peterson_sound}
+use Rattle.ring_schedule.proofs.Passing.{passes_under}
+use Rattle.ring_schedule.proofs.any_traffic.AnyTrafficTrafficAny.pass.Goals as goal
+use Rattle.ring_schedule.proofs.any_traffic.AnyTrafficTrafficAny.pass.Goals.{in-LeLann, in-Chang, in-Hirschberg, in-Peterson}
 
 pub returns-clause-passes : goal.returns-clause-passes
 returns-clause-passes c =

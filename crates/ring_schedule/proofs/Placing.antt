@@ -14,8 +14,8 @@ use Rattle.ring_node.specs.declared.packet.Packet.{Packet}
 use Rattle.ring_node.specs.Nodes.{Seated, known_of, member_of, receiving, sent_of, taken_of}
 use Rattle.ring_world.specs.Worlds.{Running, after_receipt, in_flight, is_cut, node_at, on_link, pending_below, pending_of, pending_on, sent_into, size_of, stuck_on, taken_at}
 use Rattle.ring_any.specs.Variants.{Variant, lift_table}
-use Rattle.ring_any_traffic.specs.Under.{charter_under, put_journal, put_packet, put_receipt, running_under}
-use Rattle.ring_any_traffic.proofs.Putting.{known_after-put, packets_after-put, taken_from-put}
+use Rattle.ring_schedule.specs.Under.{charter_under, put_journal, put_packet, put_receipt, running_under}
+use Rattle.ring_schedule.proofs.Putting.{known_after-put, packets_after-put, taken_from-put}
 
 -- the same node under a kind of the sum
 abbrev pub node_under : {E F W P : Type 0} → F → Variant W P → Seated E P → Seated F W

@@ -19,9 +19,9 @@ use Rattle.ring_world.specs.declared.passage.PassagesEnd.{PassagesEnd}
 use Rattle.ring_world.specs.declared.passage.PassagesEnd.TheVariants as ended
 use Rattle.ring_world.specs.Worlds.{Cuts, EndsPassages, HasPassed, HasPassedFirst, IsFirstLink, IsReady, IsSoundLinks, IsSoundWorld, Passes, PassesReady, PassesSilently, Running, in_flight, no_cuts, node_at, on_link, sent_into, size_of, taken_at}
 use Rattle.ring_any.specs.Variants.{Variant}
-use Rattle.ring_any_traffic.specs.Under.{charter_under, put_journal, put_packet, running_under}
-use Rattle.ring_any_traffic.proofs.Placing.{IsKindOf, after_receipt-under, in_flight-under, known_at-under, known_of-under, length-in_flight-under, node_at-under, node_under, on_link-under, sent_into-under, taken_by-under}
-use Rattle.ring_any_traffic.proofs.Putting.{fitting-put}
+use Rattle.ring_schedule.specs.Under.{charter_under, put_journal, put_packet, running_under}
+use Rattle.ring_schedule.proofs.Placing.{IsKindOf, after_receipt-under, in_flight-under, known_at-under, known_of-under, length-in_flight-under, node_at-under, node_under, on_link-under, sent_into-under, taken_by-under}
+use Rattle.ring_schedule.proofs.Putting.{fitting-put}
 
 -- nothing was received
 map-nothing : {A B : Type 0} (f : List A → List B) → f [] ≡ [] → (n : ℕ) → map f (replicate n []) ≡ replicate n []

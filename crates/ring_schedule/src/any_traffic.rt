@@ -1,6 +1,6 @@
 ghost use Rattle.std.specs.Prelude.{◌≡◌, [], IfOk, length, replicate};
 ghost use Rattle.ring_any.specs.Any.{any_fits, any_table, any_winner};
-ghost use Rattle.ring_any_traffic.specs.Under.{charter_under};
+ghost use Rattle.ring_schedule.specs.Under.{charter_under};
 ghost use Rattle.ring_world.specs.Worlds.{IsSoundWorld, no_cuts};
 
 use ring_any::{Any, AnyMsg};
@@ -40,7 +40,7 @@ impl Model for AnyTraffic {
 
     ghost Value = { Running Any AnyMsg };
 
-    ghost use Rattle.ring_any_traffic.specs.Kinds.{any_running};
+    ghost use Rattle.ring_schedule.specs.Kinds.{any_running};
 
     ghost view = { λ a. any_running a.kind };
 }

@@ -18,7 +18,7 @@ use Rattle.ring_node.specs.Ports.{all_algos}
 use Rattle.ring_any.specs.Variants.{Variant, lift_table}
 use Rattle.ring_any.specs.laws.Lifted.{option_map-some}
 use Rattle.ring_any.specs.laws.Lowered.{to_side-put_sends}
-use Rattle.ring_any_traffic.specs.Under.{put_journal, put_packet, put_receipt}
+use Rattle.ring_schedule.specs.Under.{put_journal, put_packet, put_receipt}
 
 -- what is taken from a side, where each message is exchanged for another
 taken_from-map : {A B : Type 0} (f : A → B) (side : Side) (rs : List (Side × A)) → taken_from side (map (λ (r : Side × A). (r.0, f r.1)) rs) ≡ map f (taken_from side rs)

@@ -19,9 +19,9 @@ use Rattle.ring_any.specs.declared.any.Any.TheVariants.{LeLann, Chang, Hirschber
 use Rattle.ring_any.specs.Kinds.{chang_messages, chang_states, hirschberg_messages, hirschberg_states, lelann_messages, lelann_states, peterson_messages, peterson_states}
 use Rattle.ring_any.specs.Variants.{Variant}
 use Rattle.ring_world.specs.Worlds.{IsSoundWorld, Running, no_cuts}
-use Rattle.ring_any_traffic.specs.Under.{charter_under, running_under}
-use Rattle.ring_any_traffic.proofs.Passing.{begun_under, sound_under}
-use Rattle.ring_any_traffic.proofs.Placing.{IsKindOf}
+use Rattle.ring_schedule.specs.Under.{charter_under, running_under}
+use Rattle.ring_schedule.proofs.Passing.{begun_under, sound_under}
+use Rattle.ring_schedule.proofs.Placing.{IsKindOf}
 
 -- traffic that began under the charter of an algorithm is traffic that began under its kind's
 pub begun_as : {E F WM M : Type 0} (messages : Variant WM M) (kind : F) (algorithm : E) (charter : Charter F) → charter.algorithm ≡ kind

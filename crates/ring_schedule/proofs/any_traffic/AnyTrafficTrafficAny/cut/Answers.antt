@@ -2,10 +2,10 @@
 use Rattle.std.proofs.Common.{true, false}
 use Rattle.ring_any.specs.declared.any.Any.TheVariants.{LeLann, Chang, Hirschberg, Peterson}
 use Rattle.ring_any.specs.Kinds.{chang_messages, hirschberg_messages, lelann_messages, peterson_messages}
-use Rattle.ring_any_traffic.proofs.EachKind.{chang_sound, hirschberg_sound, lelann_sound, peterson_sound}
-use Rattle.ring_any_traffic.proofs.Passing.{cuts_under}
-use Rattle.ring_any_traffic.proofs.any_traffic.AnyTrafficTrafficAny.cut.Goals as goal
-use Rattle.ring_any_traffic.proofs.any_traffic.AnyTrafficTrafficAny.cut.Goals.{in-LeLann, in-Chang, in-Hirschberg, in-Peterson}
+use Rattle.ring_schedule.proofs.EachKind.{chang_sound, hirschberg_sound, lelann_sound, peterson_sound}
+use Rattle.ring_schedule.proofs.Passing.{cuts_under}
+use Rattle.ring_schedule.proofs.any_traffic.AnyTrafficTrafficAny.cut.Goals as goal
+use Rattle.ring_schedule.proofs.any_traffic.AnyTrafficTrafficAny.cut.Goals.{in-LeLann, in-Chang, in-Hirschberg, in-Peterson}
 
 -- What a circle answers to a cut is what is said of it under its kind.
 pub returns-clause-cuts : goal.returns-clause-cuts

@@ -7,9 +7,9 @@ use Rattle.ring_peterson.specs.Peterson.{peterson_table}
 use Rattle.ring_any.specs.Any.{any_table}
 use Rattle.ring_any.specs.declared.any.Any.TheVariants.{LeLann, Chang, Hirschberg, Peterson}
 use Rattle.ring_any.specs.Kinds.{chang_messages, chang_states, hirschberg_messages, hirschberg_states, lelann_messages, lelann_states, peterson_messages, peterson_states}
-use Rattle.ring_any_traffic.proofs.EachKind.{chang_kind, hirschberg_kind, lelann_kind, peterson_kind}
-use Rattle.ring_any_traffic.proofs.Placing.{pending_of-under}
-use Rattle.ring_any_traffic.proofs.any_traffic.AnyTrafficTrafficAny.pending.Goals as goal
+use Rattle.ring_schedule.proofs.EachKind.{chang_kind, hirschberg_kind, lelann_kind, peterson_kind}
+use Rattle.ring_schedule.proofs.Placing.{pending_of-under}
+use Rattle.ring_schedule.proofs.any_traffic.AnyTrafficTrafficAny.pending.Goals as goal
 
 pub returns-in-LeLann : goal.returns-in-LeLann
 returns-in-LeLann c = rw (← c.self.view_is, c.in-LeLann.is) (c.pending.ensures ∙ sym (pending_of-under lelann_states lelann_messages (λ _. lelann_table) any_table LeLann lelann_kind c.in-LeLann.circle))

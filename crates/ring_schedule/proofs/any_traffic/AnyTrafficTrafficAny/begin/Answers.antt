@@ -2,9 +2,9 @@
 use Rattle.std.proofs.Common.{ap, sym, ◌∙◌}
 use Rattle.ring_any.specs.declared.any.Any.TheVariants.{LeLann, Chang, Hirschberg, Peterson}
 use Rattle.ring_any.specs.Kinds.{chang_messages, hirschberg_messages, lelann_messages, peterson_messages}
-use Rattle.ring_any_traffic.proofs.EachKind.{begun_as, chang_sound, hirschberg_sound, lelann_sound, peterson_sound}
-use Rattle.ring_any_traffic.proofs.any_traffic.AnyTrafficTrafficAny.begin.Goals as goal
-use Rattle.ring_any_traffic.proofs.any_traffic.AnyTrafficTrafficAny.begin.Goals.{in-LeLann+in_ok-circle_under-in-LeLann, in-Chang+in_ok-circle_under-in-Chang, in-Hirschberg+in_ok-circle_under-in-Hirschberg, in-Peterson+in_ok-circle_under-in-Peterson}
+use Rattle.ring_schedule.proofs.EachKind.{begun_as, chang_sound, hirschberg_sound, lelann_sound, peterson_sound}
+use Rattle.ring_schedule.proofs.any_traffic.AnyTrafficTrafficAny.begin.Goals as goal
+use Rattle.ring_schedule.proofs.any_traffic.AnyTrafficTrafficAny.begin.Goals.{in-LeLann+in_ok-circle_under-in-LeLann, in-Chang+in_ok-circle_under-in-Chang, in-Hirschberg+in_ok-circle_under-in-Hirschberg, in-Peterson+in_ok-circle_under-in-Peterson}
 
 pub returns-clause-started : goal.returns-clause-started
 returns-clause-started c =

@@ -4,9 +4,9 @@ use Rattle.ring_any.specs.declared.any.Any.TheVariants.{LeLann, Chang, Hirschber
 use Rattle.ring_any.specs.declared.any.AnyMsg.{AnyMsg}
 use Rattle.ring_any.specs.Kinds.{chang_messages, hirschberg_messages, lelann_messages, peterson_messages}
 use Rattle.ring_world.specs.Worlds.{Running}
-use Rattle.ring_any_traffic.specs.declared.any_traffic.Kind.{Kind}
-use Rattle.ring_any_traffic.specs.declared.any_traffic.Kind.TheVariants as circle
-use Rattle.ring_any_traffic.specs.Under.{running_under}
+use Rattle.ring_schedule.specs.declared.any_traffic.Kind.{Kind}
+use Rattle.ring_schedule.specs.declared.any_traffic.Kind.TheVariants as circle
+use Rattle.ring_schedule.specs.Under.{running_under}
 
 -- the traffic of an algorithm, under its kind
 abbrev pub any_running : Kind → Running Any AnyMsg

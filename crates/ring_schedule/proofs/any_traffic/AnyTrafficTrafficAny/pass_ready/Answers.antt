@@ -8,10 +8,10 @@ use Rattle.ring_peterson.specs.Rounds.{peterson_fits, peterson_winner}
 use Rattle.ring_any.specs.Any.{any_fits, any_table, any_winner}
 use Rattle.ring_any.specs.declared.any.Any.TheVariants.{LeLann, Chang, Hirschberg, Peterson}
 use Rattle.ring_any.specs.Kinds.{chang_messages, chang_states, hirschberg_messages, hirschberg_states, lelann_messages, lelann_states, peterson_messages, peterson_states}
-use Rattle.ring_any_traffic.proofs.EachKind.{chang_kind, chang_sound, hirschberg_kind, hirschberg_sound, lelann_kind, lelann_sound, peterson_kind, peterson_sound}
-use Rattle.ring_any_traffic.proofs.Passing.{passes_ready_under}
-use Rattle.ring_any_traffic.proofs.any_traffic.AnyTrafficTrafficAny.pass_ready.Goals as goal
-use Rattle.ring_any_traffic.proofs.any_traffic.AnyTrafficTrafficAny.pass_ready.Goals.{in-LeLann, in-Chang, in-Hirschberg, in-Peterson}
+use Rattle.ring_schedule.proofs.EachKind.{chang_kind, chang_sound, hirschberg_kind, hirschberg_sound, lelann_kind, lelann_sound, peterson_kind, peterson_sound}
+use Rattle.ring_schedule.proofs.Passing.{passes_ready_under}
+use Rattle.ring_schedule.proofs.any_traffic.AnyTrafficTrafficAny.pass_ready.Goals as goal
+use Rattle.ring_schedule.proofs.any_traffic.AnyTrafficTrafficAny.pass_ready.Goals.{in-LeLann, in-Chang, in-Hirschberg, in-Peterson}
 
 pub returns-clause-passes : goal.returns-clause-passes
 returns-clause-passes c =

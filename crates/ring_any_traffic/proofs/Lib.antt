@@ -1,4 +1,0 @@
-pub mod EachKind
-pub mod Passing
-pub mod Placing
-pub mod Putting

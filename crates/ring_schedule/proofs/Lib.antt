@@ -1,0 +1,4 @@
+mod EachKind
+mod Passing
+mod Placing
+mod Putting
