@@ -16,8 +16,8 @@
 //! without groups. The table goes on over a new journal. It begins with the lines that were found,
 //! or with fewer lines that lead to the same groups and terms.
 //!
-//! `list_journal` lists for people the table that a restart would recover from a journal's bytes. It
-//! refuses the bytes that a restart would refuse.
+//! `list_journal` returns text for people: the groups that a restart would recover from the bytes of
+//! a journal, and the end of its text. It refuses the bytes that a restart would refuse.
 #![tactic(auto)]
 
 mod alarm;

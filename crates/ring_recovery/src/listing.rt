@@ -3,8 +3,8 @@
 ghost use Rattle.std.specs.Prelude.{◌≡◌, ◌-◌, ◌++◌, length, All, IfErr, IfOk, OnOk};
 ghost use Rattle.ring_change.specs.Spelling.{IsChange};
 ghost use Rattle.ring_lives.specs.Changes.{changes_of};
-ghost use Rattle.ring_recovery.specs.Listing.{IsUsed, Lists, end_text, groups_text, life_text};
 ghost use Rattle.ring_recovery.specs.Damage.{IsFaultOf};
+ghost use Rattle.ring_recovery.specs.Listing.{IsUsed, Lists, end_text, groups_text, life_text};
 
 mod groups;
 

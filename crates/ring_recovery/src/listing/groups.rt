@@ -5,9 +5,9 @@ ghost use Rattle.ring_change.specs.Checks.{first_check};
 ghost use Rattle.ring_change.specs.Lines.{check_behind, marked_line};
 ghost use Rattle.ring_change.specs.Spelling.{IsChange};
 ghost use Rattle.ring_change.specs.declared.change.Change.{Change};
-ghost use Rattle.ring_recovery.specs.Listing.{change_text, group_text, groups_text, head_line, lines_of_group};
 ghost use Rattle.ring_lives.specs.Changes.{changes_of};
 ghost use Rattle.ring_recovery.specs.JournalLines.{marked_lines};
+ghost use Rattle.ring_recovery.specs.Listing.{change_text, group_text, groups_text, head_line, lines_of_group};
 ghost use Rattle.ring_terms.specs.Object.{find};
 
 use crate::recovered::Recovered;
