@@ -18,6 +18,7 @@ mod recorder;
 mod svg;
 mod tale;
 mod text;
+mod view;
 
 pub use anew::election;
 pub use page::Page;

@@ -1,12 +1,14 @@
 //! The world of a term, with a record of each delivery.
-ghost use Rattle.std.specs.Prelude.{◌≡◌, [], IfOk, IsTrue, length, replicate};
+ghost use Rattle.std.specs.Prelude.{◌≡◌, [], IfNone, IfOk, IsTrue, length, replicate};
 ghost use Rattle.ring_any.specs.Any.{any_table, any_winner};
 ghost use Rattle.ring_world.specs.Quiet.{AllKnow};
 ghost use Rattle.ring_world.specs.Worlds.{IsUncut, no_cuts, pending_of};
 
 use crate::label;
 use crate::tale::{Arrow, Kind, Step, Tale};
+use crate::view::{Change, View, change_link, packet_on, view_of};
 use ring_any::{Any, AnyMsg};
+use ring_election::RingElection;
 use ring_id::{GroupName, NodeId, NodeNo, Refusal, Side};
 use ring_node::{Charter, Node, Packet};
 use ring_roster::Roster;
@@ -55,29 +57,55 @@ impl Recorder {
           cut = no_cuts (length charter.value.roster);
         }) }
     {
-        let last = charter.roster().len();
         let Ok(world) = World::begin(alloc, charter) else {
             return Err(AllocError);
         };
-        match starts(alloc, world.nodes()) {
-            Ok(marks) => Ok(Recorder {
-                world,
-                last,
-                steps: Vec::new(alloc),
-                marks,
-            }),
+        let mut recorder = Recorder {
+            world,
+            last: 0,
+            steps: Vec::new(alloc),
+            marks: Vec::new(alloc),
+        };
+        match recorder.mark_starts(alloc) {
+            Ok(()) => Ok(recorder),
             Err(error) => {
-                drop(world);
+                drop(recorder);
                 Err(error)
             }
         }
+    }
+
+    // Gives columns to all members, and records the packets that were sent at the start.
+    fn mark_starts(&mut self, alloc: Global) -> Result<(), AllocError>
+        ensures { self.new ≡ self.old }
+    {
+        starts(alloc, self.world.nodes(), &mut self.marks)?;
+        self.last = self.marks.len();
+        Ok(())
+    }
+
+    // Returns the view of the world.
+    fn view(&self) -> View<'_, Any>
+        ensures group { result.group ≡ self.now.charter.group }
+        ensures term { result.term ≡ self.now.charter.term }
+        ensures algorithm { result.algorithm ≡ self.now.charter.algorithm }
+        ensures quiet { IfNone result.ready
+            (IsUncut self.now → AllKnow any_table any_winner self.now) }
+        ensures pending { result.pending ≡ pending_of any_table self.now }
+    {
+        view_of(&self.world)
+    }
+
+    // Changes the link to a position from a side.
+    fn change(&mut self, position: usize, side: Side, change: Change) -> Passage {
+        change_link(&mut self.world, position, side, change)
     }
 
     /// Returns the group of the term. Does not allocate, like the next three calls.
     pub fn group(&self) -> GroupName
         ensures { result ≡ self.now.charter.group }
     {
-        self.world.charter().group()
+        self.view().group
     }
 
     /// Leaves columns to the first `count` members alone, if the ring has more. One member has a
@@ -85,7 +113,7 @@ impl Recorder {
     pub fn show_first(&mut self, count: usize)
         ensures { self.new ≡ self.old }
     {
-        if count < self.world.charter().roster().len() {
+        if count < self.view().roster.len() {
             self.last = count.saturating_sub(1);
         }
     }
@@ -94,14 +122,14 @@ impl Recorder {
     pub fn is_quiet(&self) -> bool
         ensures { IsTrue result → IsUncut self.now → AllKnow any_table any_winner self.now }
     {
-        self.world.ready().is_none()
+        self.view().ready.is_none()
     }
 
     /// Returns how many packets are in flight or stuck.
     pub fn pending(&self) -> u128
         ensures { result ≡ pending_of any_table self.now }
     {
-        self.world.pending()
+        self.view().pending
     }
 
     /// Makes one delivery to a member from a side, if a packet is in flight there. Fails only if an
@@ -112,7 +140,7 @@ impl Recorder {
         node: NodeNo,
         side: Side,
     ) -> Result<(), AllocError> {
-        match self.world.charter().roster().position(node) {
+        match self.view().roster.position(node) {
             Some(position) => self.deliver(alloc, position, side),
             None => Ok(()),
         }
@@ -120,11 +148,8 @@ impl Recorder {
 
     /// Cuts the link to a member from a side, if it is a link of the algorithm. Does not allocate.
     pub fn cut(&mut self, node: NodeNo, side: Side) {
-        let roster = self.world.charter().roster();
-        if let Some(position) = roster.position(node)
-            && position < roster.len()
-        {
-            let _ = self.world.cut(position, side);
+        if let Some(position) = self.view().roster.position(node) {
+            self.change(position, side, Change::Cut);
         }
     }
 
@@ -132,7 +157,7 @@ impl Recorder {
     /// before the first delivery to a member without a column. Fails only if an allocation fails.
     pub fn drain(&mut self, alloc: Global, count: u32) -> Result<(), AllocError> {
         for _ in 0..count {
-            match self.world.ready() {
+            match self.view().ready {
                 Some((position, side)) if position <= self.last => {
                     self.deliver(alloc, position, side)?;
                 }
@@ -144,13 +169,10 @@ impl Recorder {
 
     // Makes one delivery to a position from a side, if a packet is in flight there.
     fn deliver(&mut self, alloc: Global, position: usize, side: Side) -> Result<(), AllocError> {
-        if position >= self.world.charter().roster().len() {
-            return Ok(());
-        }
         let Some(arrow) = self.front(alloc, position, side, 0)? else {
             return Ok(());
         };
-        match self.world.pass(position, side) {
+        match self.change(position, side, Change::Pass) {
             Passage::Moved(learned) => self.add(Step {
                 arrow,
                 position,
@@ -177,28 +199,21 @@ impl Recorder {
         side: Side,
         before: usize,
     ) -> Result<Option<Arrow>, AllocError> {
-        let roster = self.world.charter().roster();
-        let Some(receiver) = self.world.nodes().get(position) else {
-            return Ok(None);
-        };
-        if position >= roster.len() {
-            return Ok(None);
-        }
-        let from = roster.neighbour(position, side);
-        let place = receiver.taken(side).saturating_add(before);
-        let Some(packet) = self.packet(from, side.other(), place) else {
+        let roster = self.view().roster;
+        let Some((from, place, packet)) = packet_on(
+            self.world.nodes(),
+            roster,
+            position,
+            side,
+            before,
+        ) else {
             return Ok(None);
         };
         let sent = self.sent_at(from, side.other(), place);
         Ok(Some(arrow(alloc, roster.len(), position, side, packet, sent)?))
     }
 
-    // Returns packet number `place` that a position sent to a side.
-    fn packet(&self, position: usize, side: Side, place: usize) -> Option<Packet<AnyMsg>> {
-        self.world.nodes().get(position)?.packet(side, place)
-    }
-
-    // Returns the delivery at which it was sent.
+    // Returns the delivery at which packet number `place` from a position to a side was sent.
     fn sent_at(&self, position: usize, side: Side, place: usize) -> u64 {
         let Some(marks) = self.marks.get(position) else {
             return 0;
@@ -231,16 +246,16 @@ impl Recorder {
         ensures same { self.new ≡ self.old }
     {
         let flying = self.flying(alloc)?;
-        let charter = self.world.charter();
-        let ring = members(alloc, charter.roster())?;
+        let view = self.view();
+        let ring = members(alloc, view.roster)?;
         Ok(Tale {
-            group: charter.group(),
-            term: charter.term().get(),
-            algorithm: charter.algorithm(),
+            group: view.group,
+            term: view.term,
+            algorithm: view.algorithm,
             ring,
             last: self.last,
+            pending: u64::try_from(view.pending).unwrap_or(u64::MAX),
             steps: mem::replace(&mut self.steps, Vec::new(alloc)),
-            pending: u64::try_from(self.world.pending()).unwrap_or(u64::MAX),
             flying,
             remarks: Vec::new(alloc),
         })
@@ -250,7 +265,7 @@ impl Recorder {
     // the order of their receivers.
     fn flying(&self, alloc: Global) -> Result<Vec<Arrow>, AllocError> {
         let mut flying = Vec::new(alloc);
-        for position in 0..self.world.nodes().len() {
+        for position in 0..self.marks.len() {
             self.fly(alloc, position, Side::Left, &mut flying)?;
             self.fly(alloc, position, Side::Right, &mut flying)?;
         }
@@ -314,28 +329,26 @@ fn arrow(
     })
 }
 
-// Returns the marks of each node at the start.
-fn starts(alloc: Global, nodes: &[Node<Any>]) -> Result<Vec<Marks>, AllocError> {
-    let mut starts = Vec::new(alloc);
+// Adds the marks of each node at the start: all its packets were sent at the start.
+fn starts<E: RingElection>(
+    alloc: Global,
+    nodes: &[Node<E>],
+    marks: &mut Vec<Marks>,
+) -> Result<(), AllocError> {
     for node in nodes {
-        starts.push(at_start(alloc, node)?)?;
+        let mut start = Marks {
+            left: Vec::new(alloc),
+            right: Vec::new(alloc),
+        };
+        start.fill(node, 0)?;
+        marks.push(start)?;
     }
-    Ok(starts)
-}
-
-// Returns the marks of a node at the start: all its packets were sent at the start.
-fn at_start(alloc: Global, node: &Node<Any>) -> Result<Marks, AllocError> {
-    let mut marks = Marks {
-        left: Vec::new(alloc),
-        right: Vec::new(alloc),
-    };
-    marks.fill(node, 0)?;
-    Ok(marks)
+    Ok(())
 }
 
 impl Marks {
     // Adds this mark for each packet of a node that has no mark yet.
-    fn fill(&mut self, node: &Node<Any>, mark: u64) -> Result<(), AllocError> {
+    fn fill<E: RingElection>(&mut self, node: &Node<E>, mark: u64) -> Result<(), AllocError> {
         fill(&mut self.left, node.sent(Side::Left), mark)?;
         fill(&mut self.right, node.sent(Side::Right), mark)
     }
