@@ -132,6 +132,7 @@ fn view<'a, R: Wait + Clock, T: Tabled<Any> + Drop, I: Read, O: Write>(
     let mut site = site;
     let mut connection = Connection::new(site.alloc, keys, Config::default());
     let _ = serve(&mut connection, &mut site, reader, writer);
+    drop(connection);
     let Site { seated, .. } = site;
     seated
 }
