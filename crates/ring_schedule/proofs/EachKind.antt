@@ -1,7 +1,6 @@
 -- Each kind of the sum is its algorithm: what the algorithm's traffic keeps is kept under its kind.
-use Rattle.std.specs.Prelude.{◌≡◌, ℕ, List, [], length, replicate, refl}
+use Rattle.std.specs.Prelude.{◌≡◌, ℕ, [], length, replicate, refl}
 use Rattle.std.proofs.Common.{◌∙◌, ap, sym}
-use Rattle.ring_id.specs.declared.side.Side.{Side}
 use Rattle.ring_roster.specs.Ring.{greatest_of}
 use Rattle.ring_node.specs.declared.charter.Charter.{Charter}
 use Rattle.ring_chang.specs.Chang.{chang_fits, chang_table}

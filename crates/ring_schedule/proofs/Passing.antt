@@ -1,23 +1,21 @@
 -- What the calls of one algorithm's traffic answer, they answer under its kind of the sum.
-use Rattle.std.specs.Prelude.{◌≡◌, ◌*◌, ◌<◌, ℕ, zero, suc, Bool, nat_lt, List, [], ◌∷◌, ◌++◌, length, map, replicate, Option, Some, None, Result, Ok, Err, refl}
+use Rattle.std.specs.Prelude.{◌≡◌, ℕ, zero, suc, Bool, List, [], ◌∷◌, ◌++◌, length, map, replicate, Option, Some, None, Result, Ok, Err, refl}
 use Rattle.std.proofs.Common.{◌∙◌, ap, ap₂, subst, sym}
 use Rattle.std.proofs.lemmas.List.{length-map, map-append}
 use Rattle.ring_id.specs.declared.refusal.Refusal.{Refusal}
-use Rattle.ring_id.specs.Refusals.{IsRefusal}
 use Rattle.ring_id.specs.declared.side.Side.{Side}
 use Rattle.ring_election.specs.Families.{Fitting}
 use Rattle.ring_election.specs.Tables.{Table}
 use Rattle.ring_node.specs.declared.charter.Charter.{Charter}
 use Rattle.ring_node.specs.declared.packet.Packet.{Packet}
 use Rattle.ring_node.specs.Journals.{news}
-use Rattle.ring_node.specs.Links.{link_refusal}
-use Rattle.ring_node.specs.Nodes.{IsFaithful, known_of}
+use Rattle.ring_node.specs.Nodes.{IsFaithful}
 use Rattle.ring_world.specs.declared.passage.Passage.{Passage}
 use Rattle.ring_world.specs.declared.passage.Passage.TheVariants.{Moved, Idle, Refused}
 use Rattle.ring_world.specs.declared.passage.Passages.{Passages}
 use Rattle.ring_world.specs.declared.passage.PassagesEnd.{PassagesEnd}
 use Rattle.ring_world.specs.declared.passage.PassagesEnd.TheVariants as ended
-use Rattle.ring_world.specs.Worlds.{Cuts, EndsPassages, HasPassed, HasPassedFirst, IsFirstLink, IsReady, IsSoundLinks, IsSoundWorld, Passes, PassesReady, PassesSilently, Running, in_flight, no_cuts, node_at, on_link, sent_into, size_of, taken_at}
+use Rattle.ring_world.specs.Worlds.{Cuts, EndsPassages, HasPassed, HasPassedFirst, IsReady, IsSoundWorld, Passes, PassesReady, PassesSilently, Running, in_flight, no_cuts, node_at, on_link, taken_at}
 use Rattle.ring_any.specs.Variants.{Variant}
 use Rattle.ring_schedule.specs.Under.{charter_under, put_journal, put_packet, running_under}
 use Rattle.ring_schedule.proofs.Placing.{IsKindOf, after_receipt-under, in_flight-under, known_at-under, known_of-under, length-in_flight-under, node_at-under, node_under, on_link-under, sent_into-under, taken_by-under}

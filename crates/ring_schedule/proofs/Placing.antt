@@ -1,7 +1,7 @@
 -- What stands on the links of a ring under a kind of the sum is what stands there under its algorithm, put
 -- into the sum.
-use Rattle.std.specs.Prelude.{◌≡◌, ◌+◌, ◌*◌, ◌<◌, ℕ, zero, suc, Bool, true, false, cond, List, [], ◌∷◌, ◌++◌, length, drop, map, replicate, slice_index_or, slice_set, refl}
-use Rattle.std.proofs.Common.{◌∙◌, ap, ap₂, sym, arith}
+use Rattle.std.specs.Prelude.{◌≡◌, ◌+◌, ℕ, zero, suc, true, false, cond, List, [], ◌∷◌, ◌++◌, length, drop, map, slice_set, refl}
+use Rattle.std.proofs.Common.{◌∙◌, ap, ap₂, sym}
 use Rattle.std.proofs.Math.ListN.{get_or-map}
 use Rattle.std.proofs.lemmas.List.{drop-map, length-map, map-append, map-set}
 use Rattle.ring_id.specs.declared.side.Side.{Side}
@@ -9,7 +9,6 @@ use Rattle.ring_id.specs.declared.side.Side.TheVariants.{Left, Right}
 use Rattle.ring_id.specs.Sides.{other}
 use Rattle.ring_roster.specs.Ring.{neighbour}
 use Rattle.ring_election.specs.Tables.{Table}
-use Rattle.ring_node.specs.declared.charter.Charter.{Charter}
 use Rattle.ring_node.specs.declared.packet.Packet.{Packet}
 use Rattle.ring_node.specs.Nodes.{Seated, known_of, member_of, receiving, sent_of, taken_of}
 use Rattle.ring_world.specs.Worlds.{Running, after_receipt, in_flight, is_cut, node_at, on_link, pending_below, pending_of, pending_on, sent_into, size_of, stuck_on, taken_at}

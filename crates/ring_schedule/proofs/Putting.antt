@@ -1,6 +1,6 @@
 -- A node of the sum whose receipts are those of one algorithm, put into the sum, knows what the node of that
 -- algorithm knows, and has sent what that has sent, put into the sum.
-use Rattle.std.specs.Prelude.{◌≡◌, ℕ, Bool, true, false, cond, List, [], ◌∷◌, ◌++◌, length, map, Option, Some, None, option_map, slice_get, refl}
+use Rattle.std.specs.Prelude.{◌≡◌, ℕ, true, false, cond, List, [], ◌∷◌, ◌++◌, length, map, Option, Some, None, option_map, slice_get, refl}
 use Rattle.std.proofs.Common.{◌∙◌, ap, ap₂, sym}
 use Rattle.std.proofs.lemmas.List.{map-append}
 use Rattle.std.proofs.lemmas.Option.{slice_get-map}
@@ -18,7 +18,7 @@ use Rattle.ring_node.specs.Ports.{all_algos}
 use Rattle.ring_any.specs.Variants.{Variant, lift_table}
 use Rattle.ring_any.specs.laws.Lifted.{option_map-some}
 use Rattle.ring_any.specs.laws.Lowered.{to_side-put_sends}
-use Rattle.ring_schedule.specs.Under.{put_journal, put_packet, put_receipt}
+use Rattle.ring_schedule.specs.Under.{put_journal, put_packet}
 
 -- what is taken from a side, where each message is exchanged for another
 taken_from-map : {A B : Type 0} (f : A → B) (side : Side) (rs : List (Side × A)) → taken_from side (map (λ (r : Side × A). (r.0, f r.1)) rs) ≡ map f (taken_from side rs)
