@@ -9,10 +9,11 @@ import time
 
 import etcd_members
 from checking import listed
-from etcd.gateway import Gateway
+from etcd.gateway import Gateway, coded
 from etcd.judging import judge, told_by
 from etcd.log import whole_text
 from etcd.runs import FAILED, LONG, STANDS_BY, TAKEN_OVER, Run, see_end
+from etcd_standin import Keys, Standin
 from histories.commands import KINDS
 from identity import Identity
 from journals.changes import history_of, line_of, text_of_changes
@@ -24,9 +25,10 @@ from serving import Differs, same, short
 SOON = 3
 # How long a start may look for members of etcd, in seconds.
 VERY_LONG = 240
-# How many members join and leave in a long journal. A lease is renewed so many times at least while it is taken over, and
-# once in so many seconds.
-LONG_JOURNAL, RENEWALS, RENEWED = 1500, 3, 1.3
+# How many members join and leave in a long journal, and how many seconds one range of its keys takes.
+LONG_JOURNAL, PAGE = 3000, 0.1
+# How often the lease is renewed at least while that journal is taken over, and in how many seconds once.
+RENEWALS, RENEWED = 3, 1.3
 RING = (Identity(0, 3), Identity(9, 1), Identity(0, 2))
 CHECKS, check = listed()
 
@@ -221,31 +223,50 @@ def a_service_without_members_ends(room):
             members.end()
 
 
-def long_journal(room):
-    """Puts a long journal into etcd: members join and leave, with an entry for each two changes."""
+class SlowKeys(Keys):
+    """Keys that are read slowly: each range of them takes some time. `claimed` has the moments when the lease was put."""
+
+    def __init__(self, name):
+        super().__init__()
+        self.top, self.claimed = f"ring/{name}/", []
+
+    def ask(self, path, asked):
+        if "range_end" in asked:
+            time.sleep(PAGE)
+        return super().ask(path, asked)
+
+    def note(self, key, value):
+        super().note(key, value)
+        if self.events[-1][1] == self.top + "lease":
+            self.claimed.append(time.monotonic())
+
+    def begin(self, name, value):
+        """Puts a value at a key of the journal."""
+        self.ask("/v3/kv/put", {"key": coded(self.top + name), "value": coded(value)})
+
+
+def long_journal(keys):
+    """Puts a long journal into these keys: members join and leave, with an entry for each two changes."""
     changes = [b"create a chang"]
     for member in range(1, LONG_JOURNAL + 1):
         changes += [b"join a %d" % member, b"leave a %d" % member]
-    lines, top = text_of_changes(changes).splitlines(True), f"ring/{room.name}/t/{5:020}"
-    room.gateway.put(f"{top}/p/{0:020}", b"".join(lines[:2]))
+    lines, top = text_of_changes(changes).splitlines(True), f"t/{5:020}"
+    keys.begin(f"{top}/p/{0:020}", b"".join(lines[:2]))
     for number, at in enumerate(range(2, len(lines), 2), 1):
-        room.gateway.put(f"{top}/e/{number:020}", b"b" + b"".join(lines[at:at + 2]))
-    room.gateway.put(f"ring/{room.name}/base", b"ringd 1 5 1")
+        keys.begin(f"{top}/e/{number:020}", b"b" + b"".join(lines[at:at + 2]))
+    keys.begin("base", b"ringd 1 5 1")
 
 
 @check
 def the_lease_is_renewed_meanwhile(room):
     """While a process takes over a long journal, it renews its lease: otherwise a standby would take it over from it."""
-    long_journal(room)
-    run, seen = room.run(), {}
-    while not run.listens() and not run.has_ended():
-        lease = room.gateway.revision(f"ring/{room.name}/lease")
-        seen.setdefault(lease, time.monotonic())
-        time.sleep(0.02)
+    keys = SlowKeys(room.name)
+    long_journal(keys)
+    run = room.run(members=Standin(keys).place())
     listened = run.wait_until_it_listens()
-    moments = [*list(seen.values())[1:], listened]
-    longest = max((later - earlier for earlier, later in zip(moments, moments[1:])), default=0)
+    moments = [*(it for it in keys.claimed if it < listened), listened]
     renewals, seconds = len(moments) - 2, listened - run.began
+    longest = max((later - earlier for earlier, later in zip(moments, moments[1:])), default=seconds)
     if renewals < RENEWALS or longest > RENEWED * room.within / SOON:
         raise Differs(f"in {seconds:.1f} s the lease was renewed {renewals} times, and once not for {longest:.1f} s")
     return f"{renewals} renewals in {seconds:.1f} s, at most {longest:.1f} s apart"
