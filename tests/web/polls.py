@@ -8,6 +8,8 @@ from sums import sum_of
 from web.asking import Web
 
 QUIET = 1
+# For how many seconds the looks of a poll are counted.
+LOOKS = 0.2
 
 
 def timed(web, path):
@@ -39,11 +41,26 @@ def check_quiet(port):
     web.close()
 
 
+def asked_since(web, seconds):
+    """How many places there are between two questions about a group with this pause. Each question of anyone has one."""
+    first = web.told("/v1/groups/a")["place"]
+    time.sleep(seconds)
+    return web.told("/v1/groups/a")["place"] - first
+
+
+def await_looks(web, own):
+    """Waits until a poll looks at its group, which it does many times a second. Without it there are so many places."""
+    until = time.monotonic() + PATIENCE
+    while asked_since(web, LOOKS) <= own:
+        if time.monotonic() > until:
+            raise Differs("a poll does not look at its group")
+
+
 def check_news(port, sessions, number):
     """A poll hears of a member that joins and of one that leaves. Returns how late it heard, in seconds."""
-    late = []
+    late, other = [], Web(port)
     for line, is_there in ((b"join a %d/3\n", True), (b"leave a %d\n", False)):
-        heard = []
+        heard, own = [], asked_since(other, 0)
 
         def poll():
             web = Web(port)
@@ -54,8 +71,8 @@ def check_news(port, sessions, number):
 
         ready, thread = threading.Event(), threading.Thread(target=poll)
         thread.start()
-        ready.wait(PATIENCE)
-        time.sleep(0.2)
+        same("whether a client of a poll is answered", ready.wait(PATIENCE), True)
+        await_looks(other, own)
         client = Client(sessions)
         same("a change", client.ask(line % number), b"ok\n")
         changed = time.monotonic()
@@ -64,4 +81,5 @@ def check_news(port, sessions, number):
             raise Differs(f"a poll did not hear of {line % number}")
         client.close()
         late.append(heard[0][1] - changed)
+    other.close()
     return max(late)
