@@ -1,5 +1,6 @@
 """The picture of an election, /v1/groups/GROUP/election.svg."""
 
+import re
 import xml.etree.ElementTree
 
 from serving import Differs, same
@@ -28,9 +29,8 @@ def look_at(root, leader):
     """A picture has the leader and says what order it shows. No part of it is one that the policy refuses."""
     same("the root of a picture", root.tag, f"{SVG}svg")
     text = " ".join(" ".join(it.itertext()) for it in root.iter())
-    for word in (str(leader), "drain"):
-        if word not in text:
-            raise Differs(f"a picture does not say {word}: {text[:200]}")
+    if not re.search(rf"\bleader {leader}(/[0-9]+)?, known to [1-9]", text) or "drain" not in text:
+        raise Differs(f"a picture does not say that {leader} leads in the order of a drain: {text[:200]}")
     for it in root.iter():
         bad = [name for name in it.attrib if name == "style" or name.startswith("on") or name.endswith("href")]
         if it.tag in (f"{SVG}style", f"{SVG}script", f"{SVG}image") or bad:
