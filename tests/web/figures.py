@@ -32,9 +32,9 @@ def check_figures(service):
     resident, seen = web.samples()["process_resident_memory_bytes"], used(service.run.pid)[2]
     if abs(resident - seen) > APART:
         raise Differs(f"resident memory: {resident}, and not {seen}")
-    if service.has_journal:
-        check_journal(service, web, client)
     client.close()
+    if service.has_journal:
+        check_journal(service, web)
     web.close()
 
 
@@ -74,10 +74,11 @@ def check_clients(service, web):
         expect_clients(web, port, others)
 
 
-def check_journal(service, web, client):
-    """A change is synced and makes the journal longer. A question does not."""
-    before = web.samples()
-    client.ask(b"members a\n")
+def check_journal(service, web):
+    """A change is synced and makes the journal longer. A question does not. An earlier session may have been let go as
+    silent, so these are those of a new one."""
+    client, before = Client(service.port), web.samples()
+    same("a reply", client.ask(b"members a\n")[:8], b"members ")
     same("the journal after a question", *[[it[name] for name in metrics.JOURNAL] for it in (web.samples(), before)])
     same("join and leave", client.ask(b"join empty 7\n") + client.ask(b"leave empty 7\n"), b"ok\nok\n")
     after = web.samples()
@@ -85,3 +86,4 @@ def check_journal(service, web, client):
         if after[name] <= before[name]:
             raise Differs(f"{name} is {after[name]} after two changes, and was {before[name]}")
     same("the bytes of the journal", after["ringd_journal_bytes"], len(service.journal.read_bytes().rstrip(b"\0")))
+    client.close()
