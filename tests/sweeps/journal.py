@@ -14,11 +14,11 @@ import itertools
 import subprocess
 import zlib
 
-from server import Client, Lost, serving
+from server import PATIENCE, Client, Lost, serving
 from sweep import Bad, NO_MEMORY
 from table import Sweep, or_none, sweep_all
 
-# How long a run in which a call went wrong has to end by itself before it is ended from outside.
+# How long a run in which a call went wrong, and which may go on, has to end by itself before it is ended from outside.
 MOMENT = 0.2
 # The calls, and how each goes wrong: a word, and an error by its number.
 FAILING = [("fail", errno.EIO), ("fail", errno.ENOSPC)]
@@ -161,14 +161,15 @@ def expect_states(shown, lines, told, sent):
 
 def expect_end(server, call, how):
     """The program has ended as it has to, or it is there. If a call went wrong it may be about to end by itself, and
-    gets a moment for that."""
+    gets a moment for that. If it must end, it gets the time that a busy machine needs."""
+    must_end = how == "fail" and call in OF_JOURNAL
     if server.told():
         with contextlib.suppress(subprocess.TimeoutExpired):
-            server.run.wait(timeout=MOMENT)
+            server.run.wait(timeout=PATIENCE if must_end else MOMENT)
     was_there, out, error = server.is_ended_by_us()
     status = server.run.returncode
     if was_there and not error:
-        if server.told() and how == "fail" and call in OF_JOURNAL:
+        if server.told() and must_end:
             raise Bad("it goes on")
         return
     if how in ("exit", "done", "half"):
