@@ -23,6 +23,8 @@ APART = ["unshare", "--mount", "--pid", "--fork", "--kill-child", "--ipc", "--ut
 # What a room needs at least.
 PROBE = "mount --make-rprivate / && mount -t tmpfs tmpfs /mnt"
 TRIES = 3
+# How many seconds systemd may take to begin. A check without it shows less, so a busy machine gets the time that it needs.
+LONG = 120
 # Where a room shows what was written there.
 CHANGES = "/run/changes"
 NEW_NETWORK, SET_FLAGS, UP = 0x40000000, 0x8914, 1
@@ -198,7 +200,7 @@ def remove_groups(made):
 
 def first_child(pid):
     """The first child of a process, once it has one."""
-    end = time.monotonic() + PATIENCE
+    end = time.monotonic() + LONG
     while time.monotonic() < end:
         with contextlib.suppress(OSError):
             if children := pathlib.Path(f"/proc/{pid}/task/{pid}/children").read_text().split():
@@ -229,7 +231,7 @@ def systemd():
 
 def await_systemd(run, within):
     """Waits until systemd has reached its target."""
-    end = time.monotonic() + PATIENCE
+    end = time.monotonic() + LONG
     words = [*within, "systemctl", "is-active", "--quiet", "basic.target"]
     while subprocess.run(words, capture_output=True, check=False).returncode:
         if run.poll() is not None:
