@@ -2,11 +2,10 @@
 
 import contextlib
 import errno
+import fcntl
 import os
 import pathlib
-import signal
 import socket
-import subprocess
 import time
 
 from serving import PATIENCE, Client, first_line, same
@@ -51,16 +50,15 @@ def check_living(trial):
 
 
 def check_held(trial, path):
-    """A room on which a process has a lock."""
+    """A room on which a process, which is this one, has a lock."""
     room = pathlib.Path(f"{path}.new")
     room.mkdir(mode=0o700)
-    holder = subprocess.Popen(["flock", str(room), "sleep", "60"], start_new_session=True)
+    held = os.open(room, os.O_RDONLY)
     try:
-        time.sleep(0.3)
+        fcntl.flock(held, fcntl.LOCK_EX | fcntl.LOCK_NB)
         trial.refused(IN_USE, "run", "--socket", path)
     finally:
-        os.killpg(holder.pid, signal.SIGKILL)
-        holder.wait()
+        os.close(held)
     room.rmdir()
 
 
