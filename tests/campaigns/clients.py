@@ -8,9 +8,13 @@ import time
 
 from serving import Client, Differs, same
 
+# What a client tells of itself, and not of a line that it was told.
+SIGN = b"sign"
+
 
 def campaign(port, group, number, tell):
-    """Campaigns in this process until it is killed, and tells each line with its time."""
+    """Campaigns in this process until it is killed, and tells each line with its time. Of each sign of life it tells the
+    time before it."""
     ways = {signal.SIGUSR1: "close", signal.SIGUSR2: "reset", signal.SIGHUP: "half"}
     asked = []
     for one in ways:
@@ -22,8 +26,9 @@ def campaign(port, group, number, tell):
         try:
             line = client.line()
         except TimeoutError:
+            at, line = time.monotonic_ns(), None
             client.send(b"\n")
-            line = None
+            os.write(tell, b"%d %s\n" % (at, SIGN))
         if line is not None:
             os.write(tell, b"%d %s" % (time.monotonic_ns(), line or b"end\n"))
             if not line:
@@ -46,11 +51,11 @@ def end(client, way):
 
 
 class Member:
-    """A client in a process of its own."""
+    """A client in a process of its own. `signed` is when it gave a sign of life last, as far as that was read."""
 
     def __init__(self, port, group, number):
         self.group, self.number, self.lines, self.rest = group, number, [], b""
-        self.began = time.monotonic()
+        self.began = self.signed = time.monotonic()
         self.source, tell = os.pipe()
         self.pid = os.fork()
         if self.pid == 0:
@@ -66,8 +71,9 @@ class Member:
         """Reads what was told, and whether more may come. The new lines with their times are the answer."""
         more = os.read(self.source, 65536)
         whole, _, self.rest = (self.rest + more).rpartition(b"\n")
-        new = [line.split(b" ", 1) for line in whole.split(b"\n") if line]
-        new = [(int(at) / 1e9, line.decode()) for at, line in new]
+        told = [line.split(b" ", 1) for line in whole.split(b"\n") if line]
+        self.signed = max([self.signed, *(int(at) / 1e9 for at, line in told if line == SIGN)])
+        new = [(int(at) / 1e9, line.decode()) for at, line in told if line != SIGN]
         self.lines += new
         return new, bool(more)
 

@@ -25,11 +25,12 @@ def check_idle(port, doors, idle):
     """A client that is silent is let go after a while, and one that sends is not."""
     same("reply", Client(port).told(b"create still chang\n"), b"ok\n")
     silent, alive = Client(doors), Client(doors)
+    # before the last line of the silent client
+    began = time.monotonic()
     silent.send(b"join still 2\n")
     same("reply", silent.line(), b"ok\n")
     alive.send(b"join still 1\n")
     same("reply", alive.line(), b"ok\n")
-    began = time.monotonic()
     alive.socket.settimeout(0.1)
     told, at = b"", None
     while time.monotonic() < began + idle + PATIENCE and at is None:
@@ -38,7 +39,7 @@ def check_idle(port, doors, idle):
             told = alive.line()
             if told.startswith(b"leader") and told.endswith(b" 1\n"):
                 at = time.monotonic() - began
-    if at is None or at < idle - 0.2:
+    if at is None or at < idle - 0.1:
         raise Differs(f"a silent leader was followed after {at} s, and not after {idle} s: {told}")
     same("members", Client(port).told(b"members still\n"), b"members 1\n")
     alive.close()
