@@ -110,6 +110,8 @@ def troubled(trials, members):
             going.kill()
             told += told_in(going.communicate()[0])
         holds(trials.found("troubled"), told, "troubled")
+    if not told:
+        raise Differs(f"troubled: no line was told in {lives} lives")
     print(f"etcd, members killed and stopped: {len(told)} lines told in {lives} lives", flush=True)
 
 

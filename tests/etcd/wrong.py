@@ -39,6 +39,8 @@ def answered(program, kind, count):
             raise Differs(f"{kind}: {TRIES} processes told nothing, the last one ended by {short(texts)}")
     for it in them:
         it.shutdown()
+    if not told:
+        raise Differs(f"{kind}: no process told anything, so nothing was compared")
     line = judge("wrong", list(keys.events), told)
     return f"{wrong} answers {kind!r}: {line}, ended by {sorted(set(ends)) or 'nothing'}"
 

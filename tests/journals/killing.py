@@ -158,5 +158,7 @@ def kill_often(program, dice, lives, seconds):
             chain.end()
         replies, leaders = replies + chain.replies, leaders + len(chain.leaders)
         shortened, rewritten = shortened + chain.shortened, rewritten + chain.rewritten
+    if not replies or not leaders:
+        raise Differs(f"in {count} lives there were {replies} replies, and {leaders} leaders were named")
     return (f"{count} lives were killed under {CLIENTS} clients, {shortened} starts shortened the journal and it was rewritten {rewritten} times:"
             f" {replies} replies, {leaders} leaders")
