@@ -6,6 +6,9 @@ import time
 
 from serving import same
 
+# For how many seconds nothing changes in a process at rest.
+REST = 1
+
 
 def figure_of(pid, name):
     """A figure of a process, of those that are given in kilobytes, in bytes."""
@@ -24,10 +27,10 @@ def used(pid):
 
 
 def at_rest(pid):
-    """What a process uses, once the number of its threads and descriptors has been the same for half a second. The
-    program closes a connection some time after its client."""
+    """What a process uses, once the number of its threads and descriptors has been the same for a second. The program
+    closes a connection some time after its client, and later on a busy machine."""
     seen, since = used(pid), time.monotonic()
-    while time.monotonic() < since + 0.5:
+    while time.monotonic() < since + REST:
         time.sleep(0.02)
         now = used(pid)
         if now[:2] != seen[:2]:
