@@ -12,6 +12,8 @@ from ports import HOST, free_port
 
 # What docs/SCALING.md advises for members that are near each other: another leader comes sooner.
 NEAR = ("--pre-vote", "--heartbeat-interval", "50", "--election-timeout", "500")
+# How many seconds the members may take to begin on a busy machine.
+BEGIN = 120
 
 
 class Members:
@@ -60,7 +62,7 @@ class Members:
         for each in them:
             self.runs[each].send_signal(signal.SIGCONT)
 
-    def wait(self, seconds=30):
+    def wait(self, seconds=BEGIN):
         """Waits until a majority answers."""
         end = time.monotonic() + seconds
         while time.monotonic() < end:

@@ -60,8 +60,9 @@ class Program:
 
 
 def is_refused(port):
-    """Whether nobody listens, or nobody does within a second."""
-    for _ in range(20):
+    """Whether nobody listens, or comes to do so no longer."""
+    until = time.monotonic() + PATIENCE
+    while time.monotonic() < until:
         try:
             Client(port).reset()
         except ConnectionError:

@@ -69,11 +69,10 @@ def run_has_a_65th_client_wait(program):
 @check
 def run_ends_a_silent_session(program):
     with program.listening("run", "--sessions", "1", "--idle", "1") as (_, port):
-        silent = Client(port)
+        silent, began = Client(port), time.monotonic()
         same("reply", silent.ask(b"create a chang\n"), b"ok\n")
-        began = time.monotonic()
         same("reply", silent.line(), b"")
-        if not 0.5 < time.monotonic() - began < 5:
+        if not 0.9 < time.monotonic() - began < 5:
             raise Differs("a silent session wasn't ended after its second")
         silent.close()
         same("replies", Client(port).told(b"groups\n"), b"groups a\n")

@@ -44,7 +44,8 @@ THREADED = {
 WHOLE = {"test_cases_tests": WORKED + STARVED}
 # What the test program says where a test ends by an error, and where it stops at an assertion.
 ENDED, STOPPED = b"the test failed: its result gives status 1\n", b"\ntest stopped at "
-SECONDS = 30
+# After how many seconds a test hangs, on a busy machine too.
+SECONDS = 120
 TEST = re.compile(r"^\s*#\[test\]", re.M)
 
 
