@@ -31,8 +31,8 @@ HOWS = {"open": [*FAILING, *ENDING], "statx": [*FAILING[:1], *ENDING], "flock": 
         "read": [*FAILING[:1], ("exit", 0), ("byte", 0), ("interrupt", 0)], "spawn": [("fail", 0)]}
 # The calls on the files of the journal alone: no program goes on after one that fails.
 OF_JOURNAL = ("statx", "flock", "unlink", "rename", "fsync", "fdatasync", "pwrite")
-# The status of a process that ends at a call.
-ENDED = 86
+# The ways in which a process ends at a call, and its status then.
+ENDS_AT_CALL, ENDED = ("exit", "done", "half"), 86
 # The changes in the journal before the program starts, those after them that a start spares, and the torn end.
 BEFORE = (b"create a chang", b"join a 1", b"start a", b"know a 1 1 1")
 SPARED = (b"join a 9998", b"leave a 9998") * 40
@@ -162,7 +162,7 @@ def expect_states(shown, lines, told, sent):
 def expect_end(server, call, how):
     """The program has ended as it has to, or it is there. If a call went wrong it may be about to end by itself, and
     gets a moment for that. If it must end, it gets the time that a busy machine needs."""
-    must_end = how == "fail" and call in OF_JOURNAL
+    must_end = how in ENDS_AT_CALL or (how == "fail" and call in OF_JOURNAL)
     if server.told():
         with contextlib.suppress(subprocess.TimeoutExpired):
             server.run.wait(timeout=PATIENCE if must_end else MOMENT)
@@ -172,7 +172,7 @@ def expect_end(server, call, how):
         if server.told() and must_end:
             raise Bad("it goes on")
         return
-    if how in ("exit", "done", "half"):
+    if how in ENDS_AT_CALL:
         well = status == ENDED and not error
     else:
         well = status == 1 and error in FAULTS[call] and how in ("fail", "interrupt")
