@@ -1,10 +1,11 @@
 """Checks of a journal's file, one by one: its text, its torn end, its copies and what is next to it."""
 
 import subprocess
+import time
 
 from checking import listed
 from journals.changes import History, first_line, lines_after_first, text_of_changes, whole_text
-from journals.lives import AHEAD, Life, asked, client_of, listing, living, say, until
+from journals.lives import AHEAD, LONG, Life, asked, client_of, listing, living, say, until
 from serving import PATIENCE, Differs, ended, same
 
 CHECKS, check = listed()
@@ -47,9 +48,10 @@ def a_term_of_a_ring_of_256_has_a_line_for_each_member(program, file):
     with living(program, file) as life:
         say(life, b"create a chang\n" + members + b"start a\n", b"ok\n" * 257 + b"term 1\n")
         with client_of(life) as client:
-            replies = ["undecided 1"]
-            while "undecided 1" in replies:
+            replies, patience = ["undecided 1"], time.monotonic() + LONG
+            while "undecided 1" in replies and time.monotonic() < patience:
                 replies = asked(client, [("a", ("who", member)) for member in range(4294967040, 4294967296)])
+        same("replies", {*replies}, {"leader 1 4294967295/65535"})
     history = History()
     history.read(whole_text(file.read_bytes()))
     same("changes", history.count, 1 + 256 + 1 + 256)

@@ -2,6 +2,7 @@
 
 import subprocess
 import threading
+import time
 
 from identity import identity_of
 from serving import HOST, PATIENCE, Client, Differs, same
@@ -139,6 +140,14 @@ class Load:
         for it in self.changers:
             if it.fault and not value:
                 raise Differs(f"under load: {it.fault}")
+
+    def await_groups(self, web):
+        """Waits until the groups are there."""
+        until = time.monotonic() + PATIENCE
+        while lacking := {it.decode() for it in self.groups} - set(web.told("/v1/groups")["groups"]):
+            if time.monotonic() > until:
+                raise Differs(f"under load: without {sorted(lacking)}: {[it.fault for it in self.changers if it.fault]}")
+            time.sleep(0.01)
 
     def changes(self):
         """How many changes were made so far."""
