@@ -5,7 +5,7 @@ import pathlib
 import statistics
 import time
 
-from page.scripts import PALE, WIDER
+from page.scripts import LOOKS_SO, PALE, WIDER
 from serving import PATIENCE, Differs, same
 
 LOOKS = [(1280, 900, "light"), (1280, 900, "dark"), (380, 800, "light"), (380, 800, "dark")]
@@ -34,6 +34,7 @@ class Look:
         """Looks at the page in all sizes and schemes, checks it, and keeps pictures if they are wanted."""
         for width, height, scheme in LOOKS:
             self.window.look(width, height, scheme)
+            self.window.until(f"{width} pixels, {scheme}", LOOKS_SO, width, scheme, within=PATIENCE)
             self.window.run("document.activeElement.blur()")
             time.sleep(0.3)
             wide, *names = self.window.run(WIDER)

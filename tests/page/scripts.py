@@ -14,6 +14,9 @@ WIDER = """const is_wide = (it) => it.checkVisibility() && it.getBoundingClientR
     const all = [...document.body.querySelectorAll('*')].filter((it) => is_wide(it) && !it.closest('.skip, #picture'));
     return [document.documentElement.scrollWidth, ...all.map((it) => it.tagName)]"""
 
+# Whether the page has this width, and is light or dark.
+LOOKS_SO = """return innerWidth === arguments[0]
+    && matchMedia(`(prefers-color-scheme: ${arguments[1]})`).matches"""
 HIDDEN = "return document.getElementById(arguments[0]).hidden"
 ELECTION = "document.getElementById('election').open = arguments[0]"
 # A picture is there, and says of which term it is.
