@@ -90,8 +90,9 @@ def reply_before_its_sync(life, events):
 
 
 def sync_left_out(life, events):
-    sync, _ = with_reply(life, events)
-    return without(events, (sync.begin, sync.end)), sync.begin
+    sync, (begin, _) = with_reply(life, events)
+    # the moments about the reply: other clients may be sent many before it, if the sync takes long
+    return without(events, (sync.begin, sync.end)), begin - 3
 
 
 def rename_before_the_sync_of_the_new_file(life, events, which=0):
