@@ -112,7 +112,7 @@ def the_first_that_listens_is_asked(ringctl):
                 addresses = ",".join([*before, service.address, other.address])
                 ringctl.says(b"groups\n", "--address", addresses, "groups")
                 service.had(b"groups\n")
-        same("what the other was asked", other.asked, b"")
+        other.had_nothing()
     with Fake(b"members\n") as service:
         ringctl.says(b"", "--address", f"{nobody},{service.address}", "watch", "a", "--for", "0")
         service.had(b"members a\n")
@@ -129,7 +129,7 @@ def if_none_listens_there_is_no_service(ringctl):
         ringctl.fails(3, NO_SERVICE, "--address", ",".join(nobody), *words)
     with Fake(b"") as service, Fake(b"groups\n") as other:
         ringctl.fails(3, NO_SERVICE, "--address", f"{service.address},{other.address}", "groups")
-        same("what the other was asked", other.asked, b"")
+        other.had_nothing()
 
 
 @check
@@ -140,7 +140,7 @@ def a_path_may_have_commas(ringctl):
         ringctl.says(b"groups\n", "--address", f"unix:{path}", "groups")
         service.had(b"groups\n")
         ringctl.fails(3, NO_SERVICE, "--address", f"unix:{path},,{other.address}", "groups")
-        same("what the other was asked", other.asked, b"")
+        other.had_nothing()
 
 
 @check

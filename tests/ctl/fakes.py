@@ -8,7 +8,7 @@ import threading
 import time
 
 from checking import same_text
-from serving import HOST, PATIENCE, Differs
+from serving import HOST, PATIENCE, Differs, same
 
 # The defaults of ringctl.
 USUAL_PORT, USUAL_CAMPAIGNS = 7400, 7401
@@ -69,6 +69,12 @@ class Fake:
         """Waits for the client's end, and compares all that it asked with these."""
         self.has_ended.wait(PATIENCE)
         same_text("what the service was asked", self.asked, lines)
+
+    def had_nothing(self):
+        """Sees that no client has asked anything. One more client comes last, so all others were read to their end."""
+        with socket.create_connection((HOST, self.port), PATIENCE) as last:
+            same("whether the last client is answered", last.recv(1) != b"", True)
+        same_text("what the service was asked", self.asked, b"")
 
 
 class Pieces(Fake):
