@@ -30,7 +30,9 @@ module _ (base most session : ℕ) (mine : List (Entry Any)) (last : ℕ) (respo
   shown Metrics (inr lack) = lack.lacks.adds
   shown (Group name) (inl group) = adds_more session mine group.mid now group.earlier group.pictured.adds
   shown (Group name) (inr lack) = lack.lacks.adds
-  shown (Election name) drawn = adds_none session mine now drawn.same
+  shown (Election name) (inl none) = adds_none session mine now none.same
+  shown (Election name) (inr (inl picture)) = adds_one session mine now (Call session (command.Terms name) (reply.Terms picture.leaders)) refl picture.gained
+  shown (Election name) (inr (inr lack)) = lack.lacks.adds
 
   -- the last place that was told
   shown_rises : (resource : Resource) → Shows base most session mine last response now later resource → last ≤ later
@@ -45,7 +47,9 @@ module _ (base most session : ℕ) (mine : List (Entry Any)) (last : ℕ) (respo
   shown_rises Metrics (inr lack) = lack.rises
   shown_rises (Group name) (inl group) = omega (arith, group.placed.1)
   shown_rises (Group name) (inr lack) = lack.rises
-  shown_rises (Election name) drawn = omega (arith, drawn.still)
+  shown_rises (Election name) (inl none) = omega (arith, none.still)
+  shown_rises (Election name) (inr (inl picture)) = omega (arith, picture.placed.1)
+  shown_rises (Election name) (inr (inr lack)) = lack.rises
 
   -- what is answered
   answered : (route : Route) → Answers base most session route mine last response now later → AddsQuestions session mine now

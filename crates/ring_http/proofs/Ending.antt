@@ -1,5 +1,5 @@
 -- What a response says in the end.
-use Rattle.std.proofs.Common.{◌≡◌, ◌∙◌, ℕ, List, [], ◌++◌, Result, Ok, Err, OnErr, OnOk, Some, ap, codes, inl, inr, subst}
+use Rattle.std.proofs.Common.{◌≡◌, ◌∙◌, ℕ, List, [], ◌++◌, Result, Ok, Err, OnErr, OnOk, Some, ap, codes, inl, inr, refl, subst}
 use Rattle.http_server.specs.Response.{IsResponse}
 use Rattle.http_server.specs.declared.response.Response.{Response}
 use Rattle.serde_json.specs.Data.{Data}
@@ -20,6 +20,12 @@ pub says_put : {T E : Type 0} (put : Result T E) (had code : ℕ) (sent kind bod
 says_put (Ok value) had code sent kind body text old new begun status same grown ended failed =
     says_as had code sent kind body text new (status ∙ begun.status) same (grown ∙ ap (λ (l : List ℕ). l ++ text) begun.body) ended
 says_put (Err fault) had code sent kind body text old new begun status same grown ended failed = inr failed
+
+-- a text was put whose bytes are not said, and its type was added, or an allocation failed
+pub says_any : {T E : Type 0} (put : Result T E) (had : ℕ) (sent kind body : List ℕ) (new : Response) → had ≡ 200 → sent ≡ kind
+    → OnOk put (Says had sent body new) → OnErr put (IsResponse 503 policy_fields [] new) → Says 200 kind body new
+says_any (Ok value) had sent kind body new status same ended failed = says_as had 200 sent kind body body new status same refl ended
+says_any (Err fault) had sent kind body new status same ended failed = inr failed
 
 -- a text that reads back as its value was sent, or none
 says_json : (value : Data) (new : Response) → read (line_of value) ≡ Some value → Says 200 (codes "application/json") (line_of value) new → SaysJson value new

@@ -1,5 +1,5 @@
 -- What is answered to a request: the response, as a function of what the seat was answered.
-use Rattle.std.specs.Prelude.{◌≡◌, ◌≤◌, ◌⊎◌, ℕ, List, [], ◌∷◌, ◌++◌, Some, codes}
+use Rattle.std.specs.Prelude.{◌≡◌, ◌≤◌, ◌⊎◌, ℕ, List, [], ◌∷◌, ◌++◌, Option, Some, codes}
 use Rattle.http1.specs.Fields.{Header}
 use Rattle.http_server.specs.Response.{IsResponse}
 use Rattle.http_server.specs.declared.response.Response.{Response}
@@ -102,12 +102,6 @@ pub record IsJson (value : Data) (response : Response) : Type 0 where
 abbrev pub SaysJson : Data → Response → Type 0
 SaysJson value response = IsJson value response ⊎ IsResponse 503 policy_fields [] response
 
--- a picture was drawn, or there is none
-pub record IsDrawn (response : Response) : Type 0 where
-  pub picture : List ℕ
-  pub says : Says 200 (codes "image/svg+xml") picture response
-      ⊎ Says 404 reason_kind no_picture response
-
 -- `last` is the last place that the connection had before, and `later` the last one after:
 -- the place of what a response says is `later`, which is greater than `last`.
 module _ (base most session : ℕ) (mine : List (Entry Any)) (last : ℕ) (response : Response)
@@ -147,18 +141,26 @@ module _ (base most session : ℕ) (mine : List (Entry Any)) (last : ℕ) (respo
     pub placed : IsPlaceAfter base most last later
     pub says : SaysJson (group_value later group) response
 
-  -- A constant text, and nothing was asked.
+  -- The page or a part of it, whose text is not said, and nothing was asked.
   pub record ShowsPage (kind : List ℕ) : Type 0 where
     pub same : now ≡ mine
     pub still : later ≡ last
     pub text : List ℕ
     pub is : IsResponse 200 (fields_with kind) text response
 
-  -- A picture, or that there is none, and nothing was asked.
-  pub record ShowsPicture : Type 0 where
+  -- No term was started, and nothing was asked.
+  pub record ShowsNoPicture : Type 0 where
     pub same : now ≡ mine
     pub still : later ≡ last
-    pub drawn : IsDrawn response
+    pub says : Says 404 reason_kind no_picture response
+
+  -- The terms of a group were asked for, and the response is a picture.
+  pub record ShowsPicture (name : List ℕ) : Type 0 where
+    pub leaders : List (Option ℕ)
+    pub gained : now ≡ mine ++ Call session (command.Terms name) (reply.Terms leaders) ∷ []
+    pub placed : IsPlaceAfter base most last later
+    pub picture : List ℕ
+    pub says : Says 200 (kind_in (Election name)) picture response
 
   -- what is answered for a resource
   abbrev pub Shows : Resource → Type 0
@@ -166,7 +168,7 @@ module _ (base most session : ℕ) (mine : List (Entry Any)) (last : ℕ) (respo
   Shows Metrics = ShowsAll ⊎ ShowsLack (λ lack. 503)
   Shows Groups = ShowsNames (λ place names. SaysJson (groups_value place names)) ⊎ ShowsLack (λ lack. 503)
   Shows (Group name) = ShowsGroup name ⊎ ShowsLack fault_code
-  Shows (Election name) = ShowsPicture
+  Shows (Election name) = ShowsNoPicture ⊎ ShowsPicture name ⊎ ShowsLack fault_code
   Shows resource = ShowsPage (kind_in resource)
 
 -- what is answered

@@ -17,7 +17,7 @@ pub struct Served {
 /// How a journal is.
 #[derive(Clone, Copy, Debug, PartialEq, Eq)]
 pub struct JournalFigures {
-    /// The bytes of its file.
+    /// The bytes of its text.
     pub bytes: u64,
     /// The syncs since the start.
     pub syncs: u64,
@@ -45,8 +45,9 @@ pub struct Figures {
     pub journal: Option<JournalFigures>,
 }
 
-/// What is known of a running service beside its table. It decides nothing: what is answered of
-/// members, terms and leaders is what the table answers. Its answers are tested, not proved.
+/// What is known of a running service beside its table. Of members, terms and leaders it decides
+/// nothing but a picture of an election. Each other answer about them is what the table answers.
+/// What it knows is tested, not proved.
 pub trait Beside {
     /// The numbers of the service now.
     fn figures(&self) -> Figures;

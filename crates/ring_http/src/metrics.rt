@@ -31,7 +31,7 @@ pub fn put_metrics(
     )?;
     put_single(
         b"ringd_entries_total",
-        b"Number of entries of the history.",
+        b"Place of this answer in the history.",
         b"counter",
         place as u64,
         out,

@@ -2,7 +2,7 @@
 ghost use Rattle.std.specs.Prelude.{◌≡◌, ◌≤◌, ◌+◌, ◌⊎◌, ◌^◌, [], OnErr, OnOk};
 ghost use Rattle.http.specs.Request.{head_of};
 ghost use Rattle.http_server.specs.Response.{IsBlank, IsResponse};
-ghost use Rattle.ring_http.specs.Answers.{IsDrawn, Shows, fields_with, kind_in, policy_fields};
+ghost use Rattle.ring_http.specs.Answers.{Shows, fields_with, kind_in, policy_fields};
 ghost use Rattle.ring_http.specs.Answering.{IsAnswered};
 ghost use Rattle.ring_http.specs.Asking.{AddsQuestions};
 ghost use Rattle.ring_http.specs.declared.route.Resource.TheVariants as Resource;
@@ -19,13 +19,14 @@ use crate::values::{put_group, put_names};
 use crate::waiting::{seen_of, wait_of};
 use bytes::Bytes;
 use http::{Request, StatusCode};
-use http_server::Response;
+use http_server::{Response, Rope};
 use ring_any::Any;
 use ring_chart::election;
 use ring_id::GroupName;
+use ring_node::Charter;
 use ring_table::Access;
-use std::alloc::AllocError;
-use std::sync::Wait;
+use std::alloc::{AllocError, Global};
+use std::sync::{Arc, Wait};
 use std::time::Clock;
 
 impl<A: Access<Any> + Drop, R: Wait + Clock, B: Beside> Asker<'_, A, R, B> {
@@ -133,7 +134,7 @@ impl<A: Access<Any> + Drop, R: Wait + Clock, B: Beside> Asker<'_, A, R, B> {
                 Ok(())
             }
             Resource::Election(name) => {
-                self.show_election(*name, response);
+                self.show_election(*name, seat, last, response);
                 Ok(())
             }
             _ => show_page(resource, response),
@@ -234,23 +235,67 @@ impl<A: Access<Any> + Drop, R: Wait + Clock, B: Beside> Asker<'_, A, R, B> {
         }
     }
 
-    // Shows the election of a group's last term as a picture.
-    fn show_election(&self, name: GroupName, response: &mut Response)
-        requires { IsResponse 200 policy_fields [] response.old }
-        ensures { IsDrawn response.new }
+    // Shows the election of a group's last term as a picture. Its charter is read before the group
+    // is asked about, so the start of the term is kept for good as well.
+    fn show_election(
+        &self,
+        name: GroupName,
+        seat: &mut A::Seat,
+        last: &mut usize,
+        response: &mut Response,
+    )
+        requires seat { A.has_seat self.now.access.now seat.old }
+        requires base { self.now.base + A.most ≤ 2 ^ 64 }
+        requires begun { IsResponse 200 policy_fields [] response.old }
+        ensures seat { A.has_seat self.now.access.now seat.new }
+        ensures shows { Shows self.now.base A.most self.now.session (A.mine seat.old)
+            last.old response.new (A.mine seat.new) last.new (Resource.Election name) }
+        ensures told { (seat.new ≡ seat.old) ⊎ A.is_settled seat.new }
     {
-        let Some(charter) = self.beside.charter(name) else {
-            lack_picture(response);
-            return;
-        };
-        match election(self.alloc, &charter) {
-            Ok(picture) => {
-                let done = put(picture.as_bytes(), &mut response.body);
-                end(done, kind_in(&Resource::Election(name)), response);
-            }
-            Err(fault) => end(Err(fault), kind_in(&Resource::Election(name)), response),
+        match self.beside.charter(name) {
+            Some(charter) => self.show_picture(name, &charter, seat, last, response),
+            None => lack_picture(response),
         }
     }
+
+    // Shows the election of a group with this charter as a picture.
+    fn show_picture(
+        &self,
+        name: GroupName,
+        charter: &Arc<Charter<Any>>,
+        seat: &mut A::Seat,
+        last: &mut usize,
+        response: &mut Response,
+    )
+        requires seat { A.has_seat self.now.access.now seat.old }
+        requires base { self.now.base + A.most ≤ 2 ^ 64 }
+        requires begun { IsResponse 200 policy_fields [] response.old }
+        ensures seat { A.has_seat self.now.access.now seat.new }
+        ensures shows { Shows self.now.base A.most self.now.session (A.mine seat.old)
+            last.old response.new (A.mine seat.new) last.new (Resource.Election name) }
+        ensures told { A.is_settled seat.new }
+    {
+        let asked = self.terms(seat, last, name);
+        self.access.settle(self.rt, seat);
+        match asked {
+            Ok(terms) => {
+                drop(terms);
+                let done = put_election(self.alloc, charter, &mut response.body);
+                end(done, kind_in(&Resource::Election(name)), response);
+            }
+            Err(lack) => fail(fault_code(lack), lack, response),
+        }
+    }
+}
+
+// Appends the picture of an election with this charter.
+fn put_election(
+    alloc: Global,
+    charter: &Arc<Charter<Any>>,
+    out: &mut Rope,
+) -> Result<(), AllocError> {
+    let picture = election(alloc, charter)?;
+    put(picture.as_bytes(), out)
 }
 
 // Shows the page, its script or its style.
