@@ -1,5 +1,5 @@
 //! The handlers of sessions, of campaigns and of HTTP that serve the clients of a running service.
-ghost use Rattle.std.specs.Prelude.{◌≡◌, ◌≤◌, ◌+◌, ◌^◌, All, IfErr, IfOk, None};
+ghost use Rattle.std.specs.Prelude.{◌≡◌, ◌≤◌, ◌+◌, ◌++◌, ◌^◌, All, IfErr, IfOk, None};
 ghost use Rattle.atomic_table.specs.Seated.{TableId};
 ghost use Rattle.ring_accept.specs.declared.fault.ProgramFault.TheVariants.{NoMemory};
 
@@ -101,6 +101,10 @@ pub(crate) fn gather<'a, T: Tabled<Any> + Drop, L: Drop>(
 ) -> Result<Crowd<'a, T>, ProgramFault>
     requires seats { All (λ seat. seat.lock ≡ front.now.id) seats.items }
     requires base { base + T.most ≤ 2 ^ 64 }
+    ensures sessions { IfOk result (λ crowd. All (λ handler. handler.base.number ≡ base)
+        (crowd.sessions.active.items ++ crowd.sessions.spare.items)) }
+    ensures viewers { IfOk result (λ crowd. All (λ viewer. viewer.base.number ≡ base)
+        (crowd.viewers.active.items ++ crowd.viewers.spare.items)) }
     ensures fault { IfErr result (λ fault. fault ≡ NoMemory) }
 {
     let (first, views) = match part(seats, others.web.is_some(), others.kinds()) {
@@ -127,7 +131,9 @@ pub(crate) fn gather<'a, T: Tabled<Any> + Drop, L: Drop>(
 
 // Returns the handlers, of which one in `SEATS_EACH` is active.
 fn divide<G: Drop>(handlers: Vec<G>) -> Result<Handlers<G>, ProgramFault>
-    ensures { IfErr result (λ fault. fault ≡ NoMemory) }
+    ensures whole { IfOk result (λ parts.
+        parts.active.items ++ parts.spare.items ≡ handlers.items) }
+    ensures fault { IfErr result (λ fault. fault ≡ NoMemory) }
 {
     let mut active = handlers;
     let spare = active.split_off(active.len() / SEATS_EACH as usize)?;

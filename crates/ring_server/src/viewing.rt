@@ -1,5 +1,5 @@
 //! HTTP over sockets.
-ghost use Rattle.std.specs.Prelude.{◌≡◌, ◌≤◌, ◌+◌, ◌⊎◌, ◌^◌, All, IfErr, IfOk, IfSome, OnErr, OnOk, vec_len};
+ghost use Rattle.std.specs.Prelude.{◌≡◌, ◌≤◌, ◌+◌, ◌⊎◌, ◌↔◌, ◌^◌, All, IfErr, IfOk, IfSome, IsTrue, MatchOption, OnErr, OnOk, vec_len};
 ghost use Rattle.http.specs.Request.{head_of};
 ghost use Rattle.http_server.specs.Response.{IsBlank};
 ghost use Rattle.ring_accept.specs.declared.fault.ProgramFault.TheVariants.{NoMemory};
@@ -60,6 +60,8 @@ pub fn viewers<'a, T: Tabled<Any> + Drop>(
     requires seats { All (λ seat. seat.lock ≡ front.now.id) seats.items }
     requires base { base + T.most ≤ 2 ^ 64 }
     ensures viewers { IfOk result (λ viewers. vec_len viewers ≡ vec_len seats) }
+    ensures base { IfOk result (λ viewers.
+        All (λ viewer. viewer.base.number ≡ base) viewers.items) }
     ensures fault { IfErr result (λ fault. fault ≡ NoMemory) }
 {
     let mut rest = seats;
@@ -79,7 +81,10 @@ pub fn viewers<'a, T: Tabled<Any> + Drop>(
 }
 
 impl<T: Tabled<Any> + Drop> ClientHandler for Viewer<'_, T> {
-    fn is_spent(&self) -> bool {
+    fn is_spent(&self) -> bool
+        ensures { MatchOption (option_map (λ seated. seated.seat) self.now.seated)
+            (IsTrue result) (λ seat. IsTrue result ↔ (seat.left ≡ 0)) }
+    {
         match &self.seated {
             Some(seated) => seated.seat.is_spent(),
             None => true,
