@@ -1,0 +1,43 @@
+"""An answer about a group is one moment's: no change of another client is between its parts."""
+
+import concurrent.futures
+
+from serving import Client, Differs, same
+from web.asking import Web
+
+# A ring of so many members is long on its way to a leader, so most looks come in the middle of an election.
+MEMBERS, STARTS, LOOKS = 64, 200, 20
+GROUP = "moment"
+
+
+def make_group(client):
+    """Makes the group."""
+    same("create", client.ask(f"create {GROUP} chang\n".encode()), b"ok\n")
+    for number in range(1, MEMBERS + 1):
+        same("join", client.ask(f"join {GROUP} {number}\n".encode()), b"ok\n")
+
+
+def start_all(client):
+    """Starts one term after another."""
+    for number in range(1, STARTS + 1):
+        same("start", client.ask(f"start {GROUP}\n".encode()), b"term %d\n" % number)
+
+
+def look(picture):
+    """Whoever is informed has heard of the leader of the last term, so that term has one."""
+    if picture["informed"] and picture["terms"][-1]["leader"] is None:
+        raise Differs(f"an answer is of two moments: {len(picture['informed'])} know a leader, and there is none")
+
+
+def check_moment(port, web_port):
+    """Looks at a group while its terms are started."""
+    client, web, looks = Client(port), Web(web_port), 0
+    make_group(client)
+    with concurrent.futures.ThreadPoolExecutor(1) as pool:
+        started = pool.submit(start_all, client)
+        while not started.done() or looks < LOOKS:
+            look(web.told(f"/v1/groups/{GROUP}"))
+            looks += 1
+        started.result()
+    client.close()
+    web.close()
