@@ -33,7 +33,7 @@ def slow_disk(folder):
 
 def shows_in_json(web, number):
     """Whether the JSON of the group has this term."""
-    return f'"term":{number},'.encode() in web.body(GROUP, JSON)
+    return f'"term":{number}}}'.encode() in web.body(GROUP, JSON)
 
 
 def shows_in_picture(web, number):

@@ -1,8 +1,9 @@
 """An answer about a group is one moment's: no change of another client is between its parts."""
 
 import concurrent.futures
+import time
 
-from serving import Client, Differs, same
+from serving import PATIENCE, Client, Differs, same
 from web.asking import Web
 
 # A ring of so many members is long on its way to a leader, so most looks come in the middle of an election.
@@ -18,9 +19,13 @@ def make_group(client):
 
 
 def start_all(client):
-    """Starts one term after another."""
+    """Starts one term after another, each once all have heard of the leader. The member before it hears last."""
     for number in range(1, STARTS + 1):
         same("start", client.ask(f"start {GROUP}\n".encode()), b"term %d\n" % number)
+        until = time.monotonic() + PATIENCE
+        while (told := client.ask(f"who {GROUP} {MEMBERS - 1}\n".encode())).startswith(b"undecided"):
+            if time.monotonic() > until:
+                raise Differs(f"term {number} is undecided: {told}")
 
 
 def look(picture):
