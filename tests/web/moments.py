@@ -6,7 +6,7 @@ import time
 from serving import PATIENCE, Client, Differs, same
 from web.asking import Web
 
-# A ring of so many members is long on its way to a leader, so most looks come in the middle of an election.
+# A ring of so many members is long on its way to a leader, so many looks come in the middle of an election.
 MEMBERS, STARTS, LOOKS = 64, 200, 20
 GROUP = "moment"
 
