@@ -235,7 +235,7 @@ fn socket_arg<'a>(alloc: Global) -> Arg<'a>
     ensures own { result.global ≡ false }
 {
     option_arg(alloc, "socket", "PATH").help(
-        "Listen on a Unix socket at PATH in place of the port; PATH has at most 99 bytes",
+        "Listen on a Unix socket at PATH in place of the port; PATH has at most 100 bytes",
     )
 }
 
