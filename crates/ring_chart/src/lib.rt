@@ -5,7 +5,8 @@
 //! begins the term anew and delivers in the order of a drain.
 //!
 //! Nothing here reads or writes. Every call fails only if an allocation fails. The drawing is
-//! tested: `tests/check-charts` compares it with pictures that were made by hand.
+//! tested. `tests/check-charts` compares pictures of characters with ones that were made by hand. Of
+//! an SVG it compares the size and the ends.
 #![tactic(auto)]
 
 mod anew;
