@@ -148,7 +148,7 @@ module _ (base most session : ℕ) (mine : List (Entry Any)) (last : ℕ) (respo
     pub text : List ℕ
     pub is : IsResponse 200 (fields_with kind) text response
 
-  -- No term was started, and nothing was asked.
+  -- There is no picture, and nothing was asked. Whether a term was started is not said.
   pub record ShowsNoPicture : Type 0 where
     pub same : now ≡ mine
     pub still : later ≡ last
