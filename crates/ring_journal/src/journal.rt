@@ -87,7 +87,7 @@ impl<D: Medium + Drop> Journal<D> {
         self.batch.len()
     }
 
-    /// Returns whether the disk failed in an earlier call of `settle`.
+    /// Returns whether the disk failed in an earlier call of `settle` or `replace`.
     pub fn is_broken(&self) -> bool
         ensures { result ≡ self.now.is_broken }
     {

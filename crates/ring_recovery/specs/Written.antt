@@ -40,7 +40,7 @@ pub record AreLinesOf (life : ℕ) (entries : List (Entry Any)) (lines : List (L
   pub alike : LeadToSame changes (changes_of entries)
 
 -- The lines of a file are those of a journal of the first entries in this life, and at least of the
--- first `fewest`. A restart does not refuse the file.
+-- first `fewest`. What follows them may be torn, and is not damage.
 pub record FindsEntries (life : ℕ) (entries : List (Entry Any)) (fewest : ℕ) (found : List ℕ)
     : Type 0 where
   pub counted : IsLife life

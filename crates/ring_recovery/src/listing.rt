@@ -25,7 +25,7 @@ use std::alloc::Global;
 /// The last line has the number of the journal's life, the number of changes and the byte at which
 /// their text ends. It also has the length of the torn tail after the text, which a restart drops.
 ///
-/// Refuses the bytes that `recover` refuses, for the same reason.
+/// Refuses the bytes that `recover` refuses. If they have several faults, it may name another one.
 pub fn list_journal(alloc: Global, found: Vec<u8>) -> Result<Vec<u8>, RecoverFault>
     ensures ok { IfOk result (λ text. Lists found.items text.items) }
     ensures err { IfErr result (IsFaultOf found.items) }

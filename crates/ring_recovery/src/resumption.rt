@@ -13,7 +13,7 @@ use std::alloc::Global;
 
 /// Recovers a table from the bytes of its journal's file as `recover` does, and compacts it.
 ///
-/// Refuses the bytes that `recover` refuses, for the same reason.
+/// Refuses the bytes that `recover` refuses. If they have several faults, it may name another one.
 pub fn resume(alloc: Global, found: Vec<u8>) -> Result<Recovered, RecoverFault>
     ensures ok { IfOk result (Resumes found.items) }
     ensures err { IfErr result (IsFaultOf found.items) }
