@@ -133,9 +133,10 @@ pub fn answer_lines<A: Answerer, R: Intake, W: Outlet>(
         batch.begin(asked);
         batch.read_held(answerer, &mut lines);
         batch.answer(answerer, state, alloc);
-        let Ok(()) = pass_on(batch.given(), &mut page, writer) else {
+        let given = batch.given(answerer, state);
+        let Ok(()) = pass_on(given, &mut page, writer) else {
             return Err(LineFault::Write);
         };
-        count += batch.given().len() as u64;
+        count += given.len() as u64;
     }
 }

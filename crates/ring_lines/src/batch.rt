@@ -75,8 +75,10 @@ impl<A: Answerer> Batch<A> {
         answerer.answer_all(state, alloc, &self.asked, &mut self.given);
     }
 
-    /// Returns the answers of the last batch.
-    pub(crate) fn given(&self) -> &[A::Answer]
+    /// Returns the answers of the last batch, in a state in which they may be sent. No answer
+    /// leaves the batch in another way.
+    pub(crate) fn given(&self, answerer: &A, state: &A::State) -> &[A::Answer]
+        requires told { A.may_tell answerer.now state.now }
         ensures { result.now ≡ self.now.given }
     {
         &self.given

@@ -65,7 +65,7 @@ pub returns-in_default-pass_on-clause-lines : goal.returns-in_default-pass_on-cl
 returns-in_default-pass_on-clause-lines g c =
     let p = (goal.at.returns-in_default-pass_on-clause-lines g c).After-answer in
     let o = owing g (goal.at.returns-in_default-pass_on-clause-lines g c).After-read_held in
-    fails_lines _ _ _ _ _ _ _ _ _ _ _ _ _ _ o _ _ _ (run g p) (rw (← c.given.ensures) c.in_default-pass_on.ensures.err)
+    fails_lines _ _ _ _ _ _ _ _ _ _ _ _ _ _ o _ _ _ (run g p) (rw (← c.given-given.ensures) c.in_default-pass_on.ensures.err)
 
 pub loop-found-preserved : goal.loop-found-preserved
 loop-found-preserved g c =
@@ -77,7 +77,7 @@ loop-found-preserved g c =
       holds = c.answer.ensures.kept;
       told = inr c.answer.ensures.told;
       answering =
-          rw c.given-in-loop-found.ensures
+          rw c.given-given.ensures
           (answering_passed _ _ _ _ _ _ _ _ _ _ _ _ _ _ o _ _ _ _ some (run g p)
-          (rw (← c.given.ensures) c.in-Ok-pass_on.ensures.legal) (rw (← c.given.ensures) c.in-Ok-pass_on.ensures.ok));
+          (rw (← c.given-given.ensures) c.in-Ok-pass_on.ensures.legal) (rw (← c.given-given.ensures) c.in-Ok-pass_on.ensures.ok));
     }
