@@ -13,7 +13,7 @@ from serving import HOST, Differs, ended, free_port
 
 WORDS = ["--headless=new", "--no-sandbox", "--disable-gpu", "--disable-dev-shm-usage", "--no-first-run", "--disable-sync",
          "--disable-background-networking", "--disable-component-update", "--disable-default-apps", "--hide-scrollbars"]
-TAB, ENTER = "\ue004", "\ue007"
+TAB, ENTER, SHIFT = "\ue004", "\ue007", "\ue008"
 
 
 def install():
@@ -67,7 +67,15 @@ class Browser:
 
     def press(self, *keys):
         """Presses keys, one after another."""
-        moves = [{"type": kind, "value": key} for key in keys for kind in ("keyDown", "keyUp")]
+        self.move(*[(kind, key) for key in keys for kind in ("keyDown", "keyUp")])
+
+    def press_with(self, held, key):
+        """Presses a key while another one is held."""
+        self.move(("keyDown", held), ("keyDown", key), ("keyUp", key), ("keyUp", held))
+
+    def move(self, *moves):
+        """Moves keys down and up."""
+        moves = [{"type": kind, "value": key} for kind, key in moves]
         self.call("POST", "/actions", {"actions": [{"type": "key", "id": "keys", "actions": moves}]})
 
     def tool(self, command, **words):

@@ -1,6 +1,6 @@
 """The page by keys alone."""
 
-from browser import TAB
+from browser import SHIFT, TAB
 from page.scripts import FOCUS
 from serving import Differs, same
 
@@ -16,3 +16,9 @@ def focus_on(window, wanted):
             same(f"whether the focus on {wanted} is visible", visible, True)
             return
     raise Differs(f"{MOST_TABS} times Tab did not reach {wanted}, but {name}")
+
+
+def focus_before(window, wanted):
+    """Presses Shift and Tab once, which must focus this, visibly."""
+    window.press_with(SHIFT, TAB)
+    same("the focus before the last one, and whether it is visible", window.run(FOCUS), [wanted, True])

@@ -4,6 +4,7 @@ import contextlib
 import os
 import pathlib
 import signal
+import tempfile
 import time
 
 from campaigns.clients import Member
@@ -11,7 +12,7 @@ from page.look import Look
 from page.scripts import CROWNED
 from page.service import Service
 from ports import free_port
-from serving import PATIENCE
+from serving import PATIENCE, Differs
 
 GROUP = "watched"
 # The numbers in the order in which they lead: the first that joins, and then the greatest that is left.
@@ -39,8 +40,8 @@ def join_all(window, place, last):
     return members
 
 
-def check_killed(words, window, folder):
-    """Each leader is killed. Returns how soon the page showed the next one."""
+def kill_leaders(words, window, folder):
+    """Kills one leader after another. Returns the look that saw each next one."""
     service = Service(words.program, folder, str(pathlib.Path(folder, "campaigns")))
     place = free_port()
     service.words += ["--campaign", str(place)]
@@ -54,4 +55,15 @@ def check_killed(words, window, folder):
         members = join_all(window, place, last)
         for member, number in zip(members, NUMBERS[1:]):
             look.sees(f"{number} after a kill", end(member), CROWNED, f"{number}: leads")
-        return look.judge()
+        return look
+
+
+def check_killed(words, window):
+    """The page shows each next leader soon. If one is late, all is done once more, since a machine may be busy for a
+    moment. Returns how soon each was shown."""
+    for _ in range(2):
+        with tempfile.TemporaryDirectory() as folder:
+            look = kill_leaders(words, window, folder)
+        if not look.is_late():
+            return look.times()
+    raise Differs(f"a leader was killed, and the next one was shown late, twice: {look.times()}")

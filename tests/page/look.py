@@ -5,10 +5,12 @@ import pathlib
 import statistics
 import time
 
-from page.scripts import LOOKS_SO, PALE, WIDER
+from page.scripts import GROUND, LOOKS_SO, PALE, WIDER
 from serving import PATIENCE, Differs, same
 
 LOOKS = [(1280, 900, "light"), (1280, 900, "dark"), (380, 800, "light"), (380, 800, "dark")]
+# A ground that is less light is dark: 0 is black, and 1 is white.
+DARK = 0.2
 
 
 class Look:
@@ -22,13 +24,20 @@ class Look:
         took = self.window.until(what, script, *values, within=PATIENCE, began=began)
         self.took.append((what, took))
 
+    def times(self):
+        """How soon the page showed each change."""
+        return ", ".join(f"{what} {1000 * took:.0f} ms" for what, took in self.took)
+
+    def is_late(self):
+        """Whether the page showed a change too late."""
+        return any(took > self.words.within for _, took in self.took)
+
     def judge(self):
         """Sees that the page shows changes soon enough. Returns how soon it showed each."""
-        times = ", ".join(f"{what} {1000 * took:.0f} ms" for what, took in self.took)
         median = statistics.median(took for _, took in self.took)
         if median > self.words.within:
-            raise Differs(f"the median of the times is {median:.2f} s: {times}")
-        return times
+            raise Differs(f"the median of the times is {median:.2f} s: {self.times()}")
+        return self.times()
 
     def shot(self, name):
         """Looks at the page in all sizes and schemes, checks it, and keeps pictures if they are wanted."""
@@ -40,6 +49,7 @@ class Look:
             wide, *names = self.window.run(WIDER)
             if wide > width or names:
                 raise Differs(f"{name} at {width} pixels: {wide} pixels wide, by {names}")
+            same(f"{name}, {scheme}: whether its ground is dark", self.window.run(GROUND) < DARK, scheme == "dark")
             same(f"{name} at {width} pixels, {scheme}: text without contrast", self.window.run(PALE), [])
             if self.words.shots:
                 file = pathlib.Path(self.words.shots, f"{name}-{width}-{scheme}.png")

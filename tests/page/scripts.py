@@ -5,6 +5,9 @@ SAYS = "return document.getElementById(arguments[0]).innerText.includes(argument
 IS = "return document.body.dataset.service === arguments[0]"
 RING = """return [...document.querySelectorAll('#ring .member')].map((it) =>
     [it.querySelector('title').textContent, Boolean(it.querySelector('circle.knows')), it.matches('.leading')])"""
+# Whether each line of the table of members has the time at which the member came to know the leader.
+HEARD = r"""return [...document.querySelectorAll('#members tr')].map((it) =>
+    /^\d\d:\d\d:\d\d$/.test(it.querySelector('time')?.textContent ?? ''))"""
 CROWNED = "return document.querySelector('#ring .leading title')?.textContent.startsWith(arguments[0])"
 LIST = "return document.body.dataset.view === 'list'"
 MISSING = "return !document.getElementById('missing').hidden"
@@ -34,8 +37,8 @@ LINKS = """return [...document.querySelectorAll('#others a')].filter((it) => it.
 STRANGE = "return document.querySelectorAll('#others *').length - 2 - 2 * document.querySelectorAll('#others a').length"
 AT = "return location.host === arguments[0] && document.readyState === 'complete'"
 
-# Each text whose contrast with the ground is less than 4.5 to 1.
-PALE = """
+# How light a color is, and what a text stands on.
+LIGHT = """
     const parts = (color) => color.match(/[0-9.]+/g).map(Number);
     const light = (color) => parts(color).slice(0, 3).map((it) => it / 255)
         .map((it) => it <= 0.04045 ? it / 12.92 : ((it + 0.055) / 1.055) ** 2.4)
@@ -46,12 +49,20 @@ PALE = """
             if (parts(color)[3] !== 0) return color;
         }
         return 'rgb(255, 255, 255)';
-    };
+    };"""
+GROUND = f"{LIGHT} return light(ground(document.body));"
+# Each text whose contrast with the ground is less than 4.5 to 1. In the ring, a name upon a disc stands on its color.
+PALE = LIGHT + """
+    const fill = (it) => getComputedStyle(it).fill;
+    const isNamed = (it) => it.matches('#ring text');
+    const ink = (it) => isNamed(it) ? fill(it) : getComputedStyle(it).color;
+    const below = (it) => it.matches('#ring .upon') ? fill(it.parentElement.querySelector('.knows')) : ground(it);
     const pale = [];
     for (const it of document.body.querySelectorAll('*')) {
         const own = [...it.childNodes].some((node) => node.nodeType === 3 && node.data.trim());
-        if (!own || !it.checkVisibility() || it.closest('svg') || it.closest('.skip, noscript')) continue;
-        const [one, other] = [light(getComputedStyle(it).color), light(ground(it))];
+        const isSeen = it.checkVisibility() && (isNamed(it) || !it.closest('svg')) && !it.closest('.skip, noscript');
+        if (!own || !isSeen) continue;
+        const [one, other] = [light(ink(it)), light(below(it))];
         const contrast = (Math.max(one, other) + 0.05) / (Math.min(one, other) + 0.05);
         if (contrast < 4.5) pale.push(`${it.textContent.trim()} ${contrast.toFixed(2)}`);
     }

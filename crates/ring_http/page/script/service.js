@@ -15,6 +15,7 @@ const page = {
   place: 0n, // the last place of the list
   open: "", // the group that is open
   shown: null, // the answer about it that is shown
+  heard: new Map(), // when this page saw its members come to know the leader
   drawn: "", // the group and the term whose election is drawn
   next: 0, // the group of the list that is asked for next
   stop: new AbortController(), // ends the long poll

@@ -27,10 +27,20 @@ function showKind(said) {
   write(one(\"kind\"), `Algorithm: ${KINDS[said.algorithm] ?? said.algorithm}`);
 }
 
+// Notes when this page saw members come to know the leader of the last term. Whoever knew it before has no time.
+function noteHeard(old, said) {
+  const isSame = old?.terms.length === said.terms.length;
+  if (!isSame) page.heard.clear();
+  const hears = (number) => old && !(isSame && old.informed.includes(number)) && !page.heard.has(number);
+  for (const number of said.informed.filter(hears)) page.heard.set(number, clock());
+}
+
 function memberRow(said, member) {
   const row = make(\"tr\", isLeader(said, member) ? { class: \"leads\" } : {});
-  row.append(make(\"th\", { scope: \"row\" }, String(member.number)), make(\"td\", {}, String(member.weight || \"none\")));
-  row.append(make(\"td\", { class: \"part\" }, lastTerm(said) ? partOf(said, member) : \"no term yet\"));
+  const part = make(\"td\", { class: \"part\" }, lastTerm(said) ? partOf(said, member) : \"no term yet\");
+  const heard = knows(said, member) && page.heard.get(member.number);
+  if (heard) part.append(\", heard at \", make(\"time\", {}, heard));
+  row.append(make(\"th\", { scope: \"row\" }, String(member.number)), make(\"td\", {}, String(member.weight || \"none\")), part);
   return row;
 }
 
@@ -86,6 +96,7 @@ function show(answer) {
   const sentence = words[0].toUpperCase() + words.slice(1);
   const news = page.shown ? changes(page.shown, said) : [sentence];
   if (news.length) note(news.join(\" \"));
+  noteHeard(page.shown, said);
   page.shown = said;
   write(one(\"leader\"), sentence);
   showKind(said);
