@@ -74,7 +74,7 @@ counts_text counts refusals = flat_map (refusal_sample counts) refusals
 -- the heading of the refusals
 abbrev pub refusals_heading : List ℕ
 refusals_heading = heading (codes "ringd_refusals_total")
-    (codes "Number of answers that were this refusal.") (codes "counter")
+    (codes "Number of answers of the table that were this refusal.") (codes "counter")
 
 -- how many answers were each refusal
 abbrev pub refusals_text : List ℕ → List ℕ

@@ -109,7 +109,7 @@ fn put_refusals(counts: &[u64; 14], out: &mut Rope) -> Result<(), AllocError>
 {
     put_heading(
         b"ringd_refusals_total",
-        b"Number of answers that were this refusal.",
+        b"Number of answers of the table that were this refusal.",
         b"counter",
         out,
     )?;
