@@ -36,6 +36,8 @@ CLIENTS, CANDIDATES = 16, 8
 SOON = 3.0
 # How many seconds pass between the end of a process and its restart, and between two troubles.
 RESTART, BETWEEN = 0.2, (1.0, 3.0)
+# In how many seconds there is at least one trouble.
+SPARSE = 20
 # How many lines of what happened are printed if something is wrong, and which time without a change is one of them.
 MOST_STORY, LULL = 200, 0.5
 MEMBERS = ("e0", "e1", "e2")
@@ -156,6 +158,9 @@ class Chaos:
         longest = gaps.measured(self.changed())
         for name, seconds, count in longest:
             print(f"chaos: {name}, {count} times: at most {seconds:.1f} s without service", flush=True)
+        made = sum(count for _, _, count in longest)
+        if made < self.seconds / SPARSE:
+            raise Differs(f"there were {made} troubles in {self.seconds:.0f} seconds")
         return longest
 
     def judged(self):
