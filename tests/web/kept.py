@@ -1,4 +1,5 @@
-"""What HTTP shows with a journal: a term once its start is kept, and the places of each life after those before."""
+"""What HTTP shows with a journal: a term once its start is kept, how long syncs took, and the places of each life after
+those before."""
 
 import os
 import pathlib
@@ -56,4 +57,12 @@ def check_kept(service):
             raise Differs(f"{is_shown.__name__}: term {number} is shown after {took:.2f} s, and a sync takes {LONG} s")
         same("the reply to a start", client.line(), b"term %d\n" % number)
         client.close()
+    check_time(web.samples())
     web.close()
+
+
+def check_time(samples):
+    """The metrics say how long the syncs of a slow disk took."""
+    took, count = samples["ringd_journal_sync_seconds_total"], samples["ringd_journal_syncs_total"]
+    if not count or not LONG <= took / count < LONG + PATIENCE:
+        raise Differs(f"{count} syncs took {took} s, and each takes {LONG} s")

@@ -13,6 +13,8 @@ QUIET = 1
 LOOKS = 0.2
 # After how many seconds a poll has heard of a change, half of the times.
 SOON = 0.05
+# Within how many seconds a poll without a wait is answered, the fastest of so many.
+AT_ONCE, TRIES = 1, 3
 
 
 def timed(web, path):
@@ -34,13 +36,23 @@ def check_seen(port):
 
 
 def check_quiet(port):
-    """A poll without news is answered after its wait, and at once if it has none."""
+    """A poll without news is answered after its wait, and at once if it has none. Whatever place it names, `seen` alone
+    is compared, if it is a number. A great wait counts as 60 seconds, and other text as none."""
     web = Web(port)
-    place = web.told("/v1/groups/a")["place"]
-    for wait in (0, QUIET):
-        _, took = timed(web, f"/v1/groups/a?after={place}&wait={wait}")
-        if not 0.9 * wait <= took < wait + PATIENCE:
-            raise Differs(f"a poll without news that waits {wait} s took {took:.2f} s")
+    picture = web.told("/v1/groups/a")
+    place, seen = picture["place"], sum_of(picture)
+    waits = (f"after={place}&wait={QUIET}", f"after={place}&wait={QUIET}&seen=x", f"after=x&wait={QUIET}",
+             f"after={place}&wait={QUIET}&seen={seen}", f"after=&wait={QUIET}&seen={1 << 32}")
+    for query in waits:
+        _, took = timed(web, f"/v1/groups/a?{query}")
+        if not 0.9 * QUIET <= took < QUIET + PATIENCE:
+            raise Differs(f"a poll without news took {took:.2f} s for {query}")
+    at_once = (f"after={place}&wait=0", f"after={place}", "wait=60", f"seen={seen}&wait=60", f"after={place}&wait=1s",
+               f"after={place}&wait=-1", f"after={place}&wait=", f"after={place}&wait={1 << 70}&seen={seen ^ 1}")
+    for query in at_once:
+        took = min(timed(web, f"/v1/groups/a?{query}")[1] for _ in range(TRIES))
+        if took > AT_ONCE:
+            raise Differs(f"a poll that need not wait took {took:.2f} s for {query}")
     web.close()
 
 
