@@ -1,5 +1,5 @@
-"""Calls on the journal's files that go wrong in turn in `ringd run --journal`, and growths refused in its start. In
-some runs the service rewrites the journal while it runs.
+"""Calls on the journal's files that go wrong in turn in `ringd run --journal`, and growths that are refused, in its start
+and while it serves. In some runs the service rewrites the journal while it runs.
 
 The program begins with a journal that has a torn end and that its start shortens. One client asks line by line, and
 then sends many changes at once, so that the file grows. A call fails, is interrupted or moves one byte, or the process
@@ -14,9 +14,10 @@ import itertools
 import subprocess
 import zlib
 
+from failing import REFUSED
 from server import PATIENCE, Client, Lost, serving
 from sweep import Bad, NO_MEMORY
-from table import Sweep, or_none, sweep_all
+from table import FEW, Sweep, or_none, sweep_all
 
 # How long a run in which a call went wrong, and which may go on, has to end by itself before it is ended from outside.
 MOMENT = 0.2
@@ -230,6 +231,66 @@ def lacks_memory(library, program, number, spared=()):
         return True if was_told else None
 
 
+def talk_alone(server, lines):
+    """Asks the lines one by one, as far as the session goes. A line that is refused memory is sent again. The answer is
+    how many were answered, and how many were sent."""
+    told = sent = 0
+    try:
+        client = Client(server.port)
+        for line, reply in lines:
+            sent += 1
+            while (seen := client.ask(line)) == REFUSED:
+                pass
+            expect(line, seen, reply)
+            told += 1
+        client.leave()
+    except (Lost, ConnectionError):
+        pass
+    return told, sent
+
+
+def lacks_while_serving(library, program, number, many):
+    """One run of `run` in which that growth is refused while it serves many changes, and a restart after it: whether a
+    growth was refused, or `None` if there was none."""
+    lines = list(steps(many))
+    with serving(library, program, ["run"], f"run, growth {number} of {many} changes", journal=text_of(BEFORE),
+                 growth=number) as server:
+        if not server.listens():
+            raise Bad(f"growth {number} is one of the start")
+        told, sent = talk_alone(server, lines)
+        was_there, _, error = server.is_ended_by_us()
+        was_told = server.told()
+        if not was_there or error or (told != len(lines) and not was_told):
+            raise Bad(f"{told} of {len(lines)} lines were answered, and it says {error!r}")
+        server.start_anew()
+        expect_states(shown_by(server), lines, told, sent)
+        return True if was_told else None
+
+
+def growths_of_start(library, program):
+    """How many growths the program makes over such a journal before it listens."""
+    with serving(library, program, ["run"], "run", journal=text_of(BEFORE), growth=1, times=1 << 30,
+                 how="count") as server:
+        if not server.listens():
+            raise Bad("it doesn't listen")
+        return server.told()
+
+
+def sweep_growths(pool, library, program):
+    """Growths that are refused in starts, and while the service serves and rewrites its journal."""
+    for name, spared in (("keep", ()), ("shorten", SPARED)):
+        sweep = Sweep(f"growth, starts of run that {name} a journal")
+        one = lambda n: lacks_memory(library, program, n, spared)
+        sweep_all(pool, sweep, one, itertools.count(1), is_certain=False)
+        yield sweep
+    first = growths_of_start(library, program) + 1
+    for name, many in (("keeps", MANY), ("rewrites", LONG)):
+        sweep = Sweep(f"growth, run that {name} a journal")
+        one = lambda n: lacks_while_serving(library, program, n, many)
+        sweep_all(pool, sweep, one, itertools.count(first), is_certain=False, many=FEW)
+        yield sweep
+
+
 def sweep_journal(pool, library, program):
     for call, hows in HOWS.items():
         sweep = Sweep(f"{call} calls of run with a journal")
@@ -243,8 +304,4 @@ def sweep_journal(pool, library, program):
             one = lambda n: or_none(goes_wrong(library, program, call, n, how, error, LONG))
             sweep_all(pool, sweep, one, itertools.count(1))
         yield sweep
-    for name, spared in (("keep", ()), ("shorten", SPARED)):
-        sweep = Sweep(f"growth, starts of run that {name} a journal")
-        one = lambda n: lacks_memory(library, program, n, spared)
-        sweep_all(pool, sweep, one, itertools.count(1), is_certain=False)
-        yield sweep
+    yield from sweep_growths(pool, library, program)

@@ -8,7 +8,7 @@ from web.asking import Web
 
 # A ring of so many members is long on its way to a leader, so many looks come in the middle of an election. Before each
 # start one more member joins, and a group has at most 256.
-MEMBERS, STARTS, LOOKS = 56, 200, 20
+MEMBERS, STARTS, LOOKS = 56, 100, 20
 GROUP = "moment"
 
 
