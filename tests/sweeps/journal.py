@@ -17,7 +17,7 @@ import zlib
 from failing import REFUSED
 from server import PATIENCE, Client, Lost, serving
 from sweep import Bad, NO_MEMORY
-from table import FEW, Sweep, or_none, sweep_all
+from table import FEW, THIRD, Sweep, or_none, sweep_all
 
 # How long a run in which a call went wrong, and which may go on, has to end by itself before it is ended from outside.
 MOMENT = 0.2
@@ -251,7 +251,8 @@ def talk_alone(server, lines):
 
 def lacks_while_serving(library, program, number, many):
     """One run of `run` in which that growth is refused while it serves many changes, and a restart after it: whether a
-    growth was refused, or `None` if there was none."""
+    growth was refused, or `None` if there was none. The program may end: if the growth is one of its last threads, before
+    it answers a line, and if it is one of its journal."""
     lines = list(steps(many))
     with serving(library, program, ["run"], f"run, growth {number} of {many} changes", journal=text_of(BEFORE),
                  growth=number) as server:
@@ -260,7 +261,10 @@ def lacks_while_serving(library, program, number, many):
         told, sent = talk_alone(server, lines)
         was_there, _, error = server.is_ended_by_us()
         was_told = server.told()
-        if not was_there or error or (told != len(lines) and not was_told):
+        ends = error == FAILED or (error in LACKING and not told)
+        lacked = was_told and not was_there and server.run.returncode == 1 and ends
+        serves = was_there and not error and (told == len(lines) or was_told)
+        if not serves and not lacked:
             raise Bad(f"{told} of {len(lines)} lines were answered, and it says {error!r}")
         server.start_anew()
         expect_states(shown_by(server), lines, told, sent)
@@ -284,10 +288,10 @@ def sweep_growths(pool, library, program):
         sweep_all(pool, sweep, one, itertools.count(1), is_certain=False)
         yield sweep
     first = growths_of_start(library, program) + 1
-    for name, many in (("keeps", MANY), ("rewrites", LONG)):
+    for name, many, step in (("keeps", MANY, 1), ("rewrites", LONG, THIRD)):
         sweep = Sweep(f"growth, run that {name} a journal")
         one = lambda n: lacks_while_serving(library, program, n, many)
-        sweep_all(pool, sweep, one, itertools.count(first), is_certain=False, many=FEW)
+        sweep_all(pool, sweep, one, itertools.count(first, step), is_certain=False, many=FEW)
         yield sweep
 
 
