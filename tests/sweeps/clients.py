@@ -68,9 +68,9 @@ class Clients:
         """Starts the program again, and compares what it has with what the clients were told."""
         raise NotImplementedError
 
-    def unmet(self):
-        """What no run has shown of those in which memory was refused, and one must."""
-        return []
+    def more(self, pool, library, program):
+        """Sweeps of these clients alone."""
+        return ()
 
     def goes_wrong(self, library, program, call, number, how="fail", **more):
         """One run in which that call goes wrong, and maybe others after it: whether one did, or `None` if none did."""
@@ -146,6 +146,7 @@ def sweep_clients(pool, library, program, clients, is_full):
         sweep_all(pool, sweep, one, itertools.count(1), is_certain=False, many=FEW)
     yield sweep
     yield from sweep_growths(pool, library, program, clients, is_full)
+    yield from clients.more(pool, library, program)
 
 
 def sweep_growths(pool, library, program, clients, is_full):
@@ -153,7 +154,6 @@ def sweep_growths(pool, library, program, clients, is_full):
     sweep = Sweep(f"growth, {clients.name}")
     one = lambda n: clients.goes_wrong(library, program, "growth", n)
     sweep_all(pool, sweep, one, itertools.count(1), is_certain=False)
-    sweep.bad += clients.unmet()
     yield sweep
     behind = growths_behind(clients.growths_before(library, program) + 1)
     sweep = Sweep(f"growths in a row, {clients.name}")

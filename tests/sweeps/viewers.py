@@ -24,7 +24,8 @@ FILES = {
 POLICY = b"\r\ncontent-security-policy: default-src 'self'\r\n"
 GROUP, PICTURE = "/v1/groups/a", "/v1/groups/a/election.svg"
 # The texts of a 503. It has none if an allocation fails for it.
-LACKS = (b"", b"no no-memory\n", b"no answer\n")
+LACKING = b"no no-memory\n"
+LACKS = (b"", LACKING, b"no answer\n")
 # The paths that ask the table.
 ASKING = ("/healthz", "/metrics", "/v1/groups", GROUP, PICTURE)
 # How long a leader is waited for if a worker may have starved.
@@ -94,7 +95,6 @@ class Viewer:
                     return body
                 if status != 503 or body not in LACKS:
                     raise Bad(f"{self.path} is answered {status}, {body!r}")
-                self.crowd.lacked |= {self.path} if body == LACKS[1] else set()
                 self.crowd.fail(f"{self.path} is answered {status}, {body!r}")
             self.send(self.path)
 
@@ -133,8 +133,6 @@ class Crowd(Failing):
         # an interrupted call ends a connection of HTTP as a failed one does
         self.may_fail |= how == "interrupt" and call in ("read", "write")
         self.counts_accepts, self.may_lack_file = (call, how) == ("accept", "fail"), call in ("read", "open")
-        # the paths that were refused memory
-        self.lacked = set()
 
     def facts(self):
         """What the session is told of the group, as JSON without a place."""
