@@ -12,7 +12,8 @@ from viewers import ASKING, LACKING, Crowd
 
 # A question asks for memory a second time if it is refused. A run may have some more or fewer growths than another one,
 # so it is looked for near that place, and more than once.
-TWICE, NEAR, TRIES = 2, 12, 4
+TWICE, TRIES = 2, 6
+NEAR = sorted(range(-30, 50), key=abs)
 
 
 def second_answer(library, program, path, **wrong):
@@ -37,7 +38,7 @@ def says_lack(library, program, path):
     """Some runs in which growths of a request are refused. In one of them its question is, and the answer says so."""
     for _ in range(TRIES):
         _, before = second_answer(library, program, path, growth=1, times=1 << 30, how="count")
-        for number in range(before + 1 - NEAR, before + 1 + NEAR):
+        for number in (before + 1 + it for it in NEAR):
             if second_answer(library, program, path, growth=number, times=TWICE)[0] == (503, LACKING):
                 return True
     raise Bad(f"{path} does not say that memory is lacking")
