@@ -10,7 +10,8 @@ import time
 from etcd_standin import FAULTS, Keys, Standin
 from serving import Differs
 
-PATIENCE = 120
+# A run whose request has no answer tries again for up to a minute and a half, each time anew for a rewriting.
+PATIENCE = 400
 TROUBLED = 60  # seconds of trouble among the members
 
 
