@@ -10,7 +10,7 @@ import time
 from etcd_standin import FAULTS, Keys, Standin
 from serving import Differs
 
-# A run whose request has no answer tries again for up to a minute and a half, each time anew for a rewriting.
+# A run that was taken over has been seen to end only after 47 seconds, and once after more than 120. Why is not known.
 PATIENCE = 400
 TROUBLED = 60  # seconds of trouble among the members
 
