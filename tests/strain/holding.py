@@ -1,13 +1,14 @@
 """Clients that hold places: silent, slow, unread, waiting, or asking for all that there is."""
 
 import contextlib
+import json
 import select
 import socket
 import time
 
 from serving import PATIENCE, Client, Differs, same
 from strain.floods import HALF, Worker
-from strain.others import fetch, visit
+from strain.others import asked, fetch, visit
 
 PLACES = 64
 # How many clients take no answer.
@@ -158,10 +159,13 @@ def check_polls(trial):
     """A long poll of a client that has gone holds its place until its wait is over. Of many that were sent together two do."""
     client = Client(trial.places["sessions"])
     same("a group", client.told(b"create polled chang\n"), b"ok\n")
-    poll, wait, began = b"GET /v1/groups/polled?after=1&wait=%d HTTP/1.1\r\nHost: localhost\r\n\r\n", 5, time.monotonic()
+    client, path, wait = Client(trial.places["http"]), "/v1/groups/polled", 5
+    place = json.loads(fetch(client, path))["place"]
+    client.close()
+    poll, began = asked(f"{path}?after={place}&wait={wait}"), time.monotonic()
     for _ in range(16):
         client = Client(trial.places["http"])
-        client.send(poll % wait)
+        client.send(poll)
         client.close()
     wait_served(trial, "http", 16, wait)
     wait_served(trial, "http", 0)
@@ -170,7 +174,7 @@ def check_polls(trial):
         raise Differs(f"polls of clients that had gone took {took:.2f} s, and not {wait}")
     trial.said.append(f"polls of gone clients over after {took:.1f} s")
     began, client = time.monotonic(), Client(trial.places["http"])
-    client.send(poll % wait * 10)
+    client.send(poll * 10)
     client.close()
     wait_served(trial, "http", 1, wait)
     wait_served(trial, "http", 0)

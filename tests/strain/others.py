@@ -10,7 +10,6 @@ import threading
 import time
 
 from serving import PATIENCE, Client, Differs, same
-from sums import sum_of
 
 LENGTH = re.compile(rb"\r\ncontent-length: ([0-9]+)\r\n")
 # The pause between two questions of a client, in seconds, and that between two changes.
@@ -100,11 +99,11 @@ class Polls:
         self.group, self.joins = f"{group}p", False
         self.session, self.client = Client(places["sessions"]), Client(places["http"])
         same("a group", self.session.ask(b"create %s chang\n" % self.group.encode()), b"ok\n")
-        self.seen = sum_of(json.loads(fetch(self.client, f"/v1/groups/{self.group}")))
+        self.place = json.loads(fetch(self.client, f"/v1/groups/{self.group}"))["place"]
 
     def ask(self):
         """Asks for news, makes some, and waits for the answer."""
-        path = f"/v1/groups/{self.group}?after=1&wait=60&seen={self.seen}"
+        path = f"/v1/groups/{self.group}?after={self.place}&wait=60"
         self.client.send(asked(path))
         time.sleep(CHANGE)
         self.joins = not self.joins
@@ -113,7 +112,7 @@ class Polls:
         same("a change", self.session.ask(line % self.group.encode()), b"ok\n")
         news = json.loads(answer(self.client, path))
         same("the members that a poll hears of", len(news["members"]), int(self.joins))
-        self.seen = sum_of(news)
+        self.place = news["place"]
         return began
 
 

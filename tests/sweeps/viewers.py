@@ -11,7 +11,6 @@ import time
 from failing import Failing
 from identity import identity_of
 from server import PATIENCE, Lost
-from sums import sum_of
 from sweep import Bad, ROOT
 
 PAGE = ROOT / "crates/ring_http/page"
@@ -197,7 +196,7 @@ class Crowd(Failing):
         """A change, of which a client that polls is told."""
         poller = self.poller
         before = poller.picture(poller.get(GROUP))
-        poller.send(f"{GROUP}?after={poller.place}&wait=60&seen={sum_of(before)}")
+        poller.send(f"{GROUP}?after={poller.place}&wait=60")
         self.pending = line
         reply = self.ask(line, wanted)
         if poller.picture(poller.take(200)) == before:

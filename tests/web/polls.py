@@ -5,7 +5,6 @@ import threading
 import time
 
 from serving import PATIENCE, Client, Differs, same
-from sums import sum_of
 from web.asking import Web
 
 QUIET = 1
@@ -13,8 +12,10 @@ QUIET = 1
 LOOKS = 0.2
 # After how many seconds a poll has heard of a change, half of the times.
 SOON = 0.05
-# Within how many seconds a poll without a wait is answered, the fastest of so many.
+# Within how many seconds a poll that need not wait is answered, the fastest of so many.
 AT_ONCE, TRIES = 1, 3
+# How many answers about groups the service remembers.
+REMEMBERED = 1024
 
 
 def timed(web, path):
@@ -23,37 +24,53 @@ def timed(web, path):
     return web.told(path), time.monotonic() - begun
 
 
-def check_seen(port):
-    """A poll that says what its client has seen hears at once if the group says something else, and else waits."""
-    web = Web(port)
-    picture = web.told("/v1/groups/a")
-    for seen, wait, least in ((sum_of(picture), QUIET, 0.9 * QUIET), (sum_of(picture) ^ 1, 60, 0)):
-        again, took = timed(web, f"/v1/groups/a?after={picture['place']}&wait={wait}&seen={seen}")
-        same("the sum of the same group", sum_of(again), sum_of(picture))
-        if not least <= took < least + PATIENCE:
-            raise Differs(f"a poll that had seen {seen} took {took:.2f} s")
-    web.close()
-
-
 def check_quiet(port):
-    """A poll without news is answered after its wait, and at once if it has none. Whatever place it names, `seen` alone
-    is compared, if it is a number. A great wait counts as 60 seconds, and other text as none."""
+    """A poll without news is answered after its wait, and no poll waits for more than 60 seconds."""
     web = Web(port)
-    picture = web.told("/v1/groups/a")
-    place, seen = picture["place"], sum_of(picture)
-    waits = (f"after={place}&wait={QUIET}", f"after={place}&wait={QUIET}&seen=x", f"after=x&wait={QUIET}",
-             f"after={place}&wait={QUIET}&seen={seen}", f"after=&wait={QUIET}&seen={1 << 32}")
-    for query in waits:
-        _, took = timed(web, f"/v1/groups/a?{query}")
+    for _ in range(TRIES):
+        place = web.told("/v1/groups/a")["place"]
+        _, took = timed(web, f"/v1/groups/a?wait={QUIET}&after={place}")
         if not 0.9 * QUIET <= took < QUIET + PATIENCE:
-            raise Differs(f"a poll without news took {took:.2f} s for {query}")
-    at_once = (f"after={place}&wait=0", f"after={place}", "wait=60", f"seen={seen}&wait=60", f"after={place}&wait=1s",
-               f"after={place}&wait=-1", f"after={place}&wait=", f"after={place}&wait={1 << 70}&seen={seen ^ 1}")
-    for query in at_once:
-        took = min(timed(web, f"/v1/groups/a?{query}")[1] for _ in range(TRIES))
-        if took > AT_ONCE:
-            raise Differs(f"a poll that need not wait took {took:.2f} s for {query}")
+            raise Differs(f"a poll without news took {took:.2f} s")
     web.close()
+
+
+def answered_at_once(web, query, what):
+    """The answer to a poll that need not wait."""
+    found = [timed(web, f"/v1/groups/a?{query}") for _ in range(TRIES)]
+    if min(took for _, took in found) > AT_ONCE:
+        raise Differs(f"a poll took {found} for {query}, {what}")
+    return found[-1][0]
+
+
+def check_at_once(port):
+    """A poll is answered at once if it has no wait, or if no answer about its group that is remembered has its place."""
+    web = Web(port)
+    place, other = web.told("/v1/groups/a")["place"], web.told("/v1/groups/b")["place"]
+    for query in ("wait=0", "", "wait=1s", "wait=-1", "wait="):
+        answered_at_once(web, f"after={place}&{query}", "without a wait")
+    names = web.told("/v1/groups")["place"]
+    for after in ("", "after=", "after=x", "after=0", f"after={place}x", f"after={1 << 40}", f"after={1 << 70}",
+                  f"after={place - 1}", f"after={other}", f"after={names}"):
+        answered_at_once(web, f"{after}&wait=60", "after no answer about the group")
+    for _ in range(REMEMBERED):
+        web.told("/v1/groups/b")
+    answered_at_once(web, f"after={place}&wait=60", "after an answer that is forgotten")
+    web.close()
+
+
+def check_missed(port, sessions):
+    """A poll hears at once of a change since the answer of its place, whatever was answered meanwhile."""
+    web, other, client = Web(port), Web(port), Client(sessions)
+    place = web.told("/v1/groups/a")["place"]
+    for line, count in ((b"join a 99\n", 1), (b"leave a 99\n", 0)):
+        same("a change", client.ask(line), b"ok\n")
+        other.told("/v1/groups/a")
+        news = answered_at_once(web, f"after={place}&wait=60", f"after {line}")
+        same("how often a member is there", [it["number"] for it in news["members"]].count(99), count)
+        place = news["place"]
+    for it in (web, other, client):
+        it.close()
 
 
 def asked_since(web, seconds):

@@ -23,7 +23,7 @@ OWN = (400, 413, 414, 431, 501)
 MAY_BE = {100, 200, 404, 405, 421, *OWN}
 # Requests that are changed by chance.
 SEEDS = (GOOD, b"HEAD / HTTP/1.1\r\n" + HOST_FIELD + b"Connection: close\r\n\r\n",
-         b"GET /v1/groups/a?after=1&wait=0&seen=7 HTTP/1.1\r\nUser-Agent: x\r\n" + HOST_FIELD + b"Accept: */*\r\n\r\n",
+         b"GET /v1/groups/a?after=1&wait=0 HTTP/1.1\r\nUser-Agent: x\r\n" + HOST_FIELD + b"Accept: */*\r\n\r\n",
          b"GET /metrics HTTP/1.0\r\n" + HOST_FIELD + b"\r\n",
          b"POST /v1/groups HTTP/1.1\r\n" + HOST_FIELD + b"Content-Length: 5\r\nExpect: 100-continue\r\n\r\nhello",
          b"GET /v1/groups HTTP/1.1\r\n" + HOST_FIELD + b"Transfer-Encoding: chunked\r\n\r\n5\r\nhello\r\n0\r\n\r\n")

@@ -46,8 +46,8 @@ pub struct Figures {
 }
 
 /// What is known of a running service beside its table. Of members, terms and leaders it decides
-/// nothing but a picture of an election. Each other answer about them is what the table answers.
-/// What it knows is tested, not proved.
+/// nothing but a picture of an election, and when a poll is answered. Each other answer about them
+/// is what the table answers. What it knows is tested, not proved.
 pub trait Beside {
     /// The numbers of the service now.
     fn figures(&self) -> Figures;
@@ -58,4 +58,10 @@ pub trait Beside {
     /// The charter of a group's last term, if a term was started in this life of the process or was
     /// running at its start.
     fn charter(&self, group: GroupName) -> Option<Arc<Charter<Any>>>;
+
+    /// The sum of the group that was shown at a place, if that is remembered.
+    fn shown_at(&self, place: usize) -> Option<u64>;
+
+    /// Remembers the sum of a group that is shown at a place. Does not allocate.
+    fn note_shown(&self, place: usize, sum: u64);
 }

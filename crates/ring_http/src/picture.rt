@@ -5,9 +5,9 @@ use ring_events::{MemberList, TermList};
 use ring_id::{GroupName, NodeId, NodeNo};
 
 // The first sum, and the factor of each step.
-const FIRST: u32 = 2_166_136_261;
+const FIRST: u64 = 14_695_981_039_346_656_037;
 
-const PRIME: u32 = 16_777_619;
+const PRIME: u64 = 1_099_511_628_211;
 
 /// The answers about one group.
 #[derive(Debug, Drop)]
@@ -32,18 +32,23 @@ impl GroupPicture {
             && self.leaders.as_slice() == other.leaders.as_slice()
             && self.informed.as_slice() == other.informed.as_slice()
     }
-    /// Whether it says something else than a picture with this sum. Tested, not proved, as above.
-    pub(crate) fn is_news(&self, seen: Option<u32>) -> bool {
+
+    /// Whether it is news to a client that has seen a picture with this sum, or that has seen none.
+    /// Tested, not proved, as above.
+    pub(crate) fn is_news(&self, seen: Option<u64>) -> bool {
         match seen {
             Some(seen) => self.sum() != seen,
-            None => false,
+            None => true,
         }
     }
 
-    // Returns a sum, by which a client names a picture that it has seen. It is the FNV-1a hash of
-    // its numbers, with 0 after the members, for a term without a leader, and after the terms.
-    fn sum(&self) -> u32 {
+    /// A sum that stands for what it says. It is the FNV-1a hash of its name and of its numbers,
+    /// with 0 after the members, for a term without a leader, and after the terms.
+    pub(crate) fn sum(&self) -> u64 {
         let mut sum = FIRST;
+        for byte in self.name.bytes() {
+            sum = with(sum, u32::from(*byte));
+        }
         for member in self.members.as_slice() {
             sum = with_node(sum, *member);
         }
@@ -63,11 +68,11 @@ impl GroupPicture {
 }
 
 // Adds an identity to a sum.
-fn with_node(sum: u32, node: NodeId) -> u32 {
+fn with_node(sum: u64, node: NodeId) -> u64 {
     with(with(sum, node.get()), u32::from(node.weight()))
 }
 
 // Adds a number to a sum.
-fn with(sum: u32, number: u32) -> u32 {
-    (sum ^ number).wrapping_mul(PRIME)
+fn with(sum: u64, number: u32) -> u64 {
+    (sum ^ u64::from(number)).wrapping_mul(PRIME)
 }

@@ -20,15 +20,15 @@ const PAUSE: u64 = 31_250;
 const LOOKS: u32 = 32;
 
 impl<A: Access<Any> + Drop, R: Wait + Clock, B: Beside> Asker<'_, A, R, B> {
-    /// A picture of a group as soon as its sum is not `seen` or it differs from the first one, or
-    /// after `wait` seconds.
+    /// A picture of a group at once if its sum is not `seen`, or else as soon as it differs from
+    /// the first one, or after `wait` seconds.
     pub(crate) fn watch(
         &self,
         seat: &mut A::Seat,
         place: &mut usize,
         name: GroupName,
         wait: u32,
-        seen: Option<u32>,
+        seen: Option<u64>,
     ) -> Result<GroupPicture, Lack>
         requires seat { A.has_seat self.now.access.now seat.old }
         requires base { self.now.base + A.most ≤ 2 ^ 64 }

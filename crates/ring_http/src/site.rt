@@ -16,7 +16,7 @@ use crate::route::{Resource, Route, route_of};
 use crate::saying::{add_kind, begin, end, fail, fault_code, kind_in, lack_picture};
 use crate::text::put;
 use crate::values::{put_group, put_names};
-use crate::waiting::{seen_of, wait_of};
+use crate::waiting::{place_of, wait_of};
 use bytes::Bytes;
 use http::{Request, StatusCode};
 use http_server::{Response, Rope};
@@ -86,7 +86,7 @@ impl<A: Access<Any> + Drop, R: Wait + Clock, B: Beside> Asker<'_, A, R, B> {
                 self.show(
                     resource,
                     wait_of(query),
-                    seen_of(query),
+                    self.seen(query),
                     seat,
                     last,
                     response,
@@ -96,12 +96,18 @@ impl<A: Access<Any> + Drop, R: Wait + Clock, B: Beside> Asker<'_, A, R, B> {
         }
     }
 
+    // The sum of the group in the answer that a client has seen, if that is remembered.
+    fn seen(&self, query: Option<&str>) -> Option<u64> {
+        let place = place_of(query)?;
+        self.beside.shown_at(place)
+    }
+
     // Shows a resource.
     fn show(
         &self,
         resource: &Resource,
         wait: u32,
-        seen: Option<u32>,
+        seen: Option<u64>,
         seat: &mut A::Seat,
         last: &mut usize,
         response: &mut Response,
@@ -205,12 +211,13 @@ impl<A: Access<Any> + Drop, R: Wait + Clock, B: Beside> Asker<'_, A, R, B> {
         }
     }
 
-    // Shows a group as soon as it says something else, or after `wait` seconds.
+    // Shows a group as soon as it says something else than the client has seen, or after `wait`
+    // seconds. What it says then is remembered by its place.
     fn show_group(
         &self,
         name: GroupName,
         wait: u32,
-        seen: Option<u32>,
+        seen: Option<u64>,
         seat: &mut A::Seat,
         last: &mut usize,
         response: &mut Response,
@@ -228,6 +235,7 @@ impl<A: Access<Any> + Drop, R: Wait + Clock, B: Beside> Asker<'_, A, R, B> {
         self.access.settle(self.rt, seat);
         match asked {
             Ok(group) => {
+                self.beside.note_shown(*last, group.sum());
                 let done = put_group(self.alloc, *last, &group, &mut response.body);
                 end(done, kind_in(&Resource::Group(name)), response);
             }

@@ -1,26 +1,24 @@
-//! How long a request waits for news, and what its client has seen. `seen=` alone says what is
-//! news: without it the group is compared with itself at the start of the request. Tested, not
-//! proved: it decides when a request is answered, and not how.
+//! How long a request waits for news, and which answer its client has seen. Tested, not proved: it
+//! decides when a request is answered, and not how.
 ghost use Rattle.std.specs.Prelude.{◌≤◌};
 
 // How many seconds a request waits at most.
 const MOST: u32 = 60;
 
-/// How many seconds a request waits, by its query `after=PLACE&wait=SECONDS`: at most 60, and none
-/// if it has no `after=`. The place is not looked at.
+/// How many seconds a request waits for news, by its query `wait=SECONDS`: at most 60.
 pub(crate) fn wait_of(query: Option<&str>) -> u32
     ensures { result ≤ 60 }
 {
-    match (value_of(query, b"after="), value_of(query, b"wait=")) {
-        (Some(_), Some(text)) => seconds_in(text),
-        _ => 0,
+    match value_of(query, b"wait=") {
+        Some(text) => seconds_in(text),
+        None => 0,
     }
 }
 
-/// The sum of the picture that a client has seen, by its query `seen=SUM`, or `None` if it says
-/// none.
-pub(crate) fn seen_of(query: Option<&str>) -> Option<u32> {
-    sum_in(value_of(query, b"seen=")?)
+/// The place of the answer that a client has seen, by its query `after=PLACE`, or `None` if it
+/// names none.
+pub(crate) fn place_of(query: Option<&str>) -> Option<usize> {
+    place_in(value_of(query, b"after=")?)
 }
 
 // The text after a key of a query, or `None` if the query does not have it.
@@ -33,16 +31,18 @@ fn value_of<'a>(query: Option<&'a str>, key: &[u8]) -> Option<&'a [u8]> {
     None
 }
 
-// The number that a text spells, or `None` if it spells none or one beyond 32 bits.
-fn sum_in(text: &[u8]) -> Option<u32> {
-    let mut sum: u32 = 0;
+// The place that a text spells, or `None` if it spells none.
+fn place_in(text: &[u8]) -> Option<usize> {
+    let mut place: usize = 0;
     for byte in text {
         if *byte < b'0' || *byte > b'9' {
             return None;
         }
-        sum = sum.checked_mul(10)?.checked_add(u32::from(*byte - b'0'))?;
+        place = place
+            .checked_mul(10)?
+            .checked_add(usize::from(*byte - b'0'))?;
     }
-    Some(sum)
+    Some(place)
 }
 
 // The number of seconds that a text spells; 0 if it spells none, and 60 if it spells more.

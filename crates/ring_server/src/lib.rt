@@ -22,6 +22,7 @@ mod resuming;
 mod running;
 mod server;
 mod sessions;
+mod shown;
 mod viewing;
 mod watched;
 mod watching;

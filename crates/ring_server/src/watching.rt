@@ -5,6 +5,7 @@ use crate::counting::Heeded;
 use crate::directory::Directory;
 use crate::metering::Meter;
 use crate::noting::{Note, place_of};
+use crate::shown::Shown;
 use ring_accept::ProgramFault;
 use ring_any::Any;
 use ring_http::{Beside, Figures, Served};
@@ -21,7 +22,8 @@ use std::{array, fs};
 // The bytes of a page of memory.
 const PAGE: u64 = 4096;
 
-/// Numbers of a running service, and its groups with their algorithms and last charters.
+/// Numbers of a running service, its groups with their algorithms and last charters, and what the
+/// last answers about groups said.
 ///
 /// Threads share it. What it counts and notes is tested, not proved.
 #[derive(Drop)]
@@ -37,6 +39,7 @@ pub struct Watch {
     // for each refusal, by its number
     refusals: [AtomicU64; 14],
     directory: Mutex<Directory>,
+    shown: Mutex<Shown>,
     // the file with the sizes of this process, if it could be opened
     memory: Option<Mutex<File>>,
     // `None` if there is no journal
@@ -59,6 +62,7 @@ impl Watch {
     /// serves at most `limit` clients of each port. Its resident memory is not known. Fails only if
     /// an allocation fails.
     pub fn new(alloc: Global, limit: u32) -> Result<Watch, AllocError> {
+        let shown = Shown::new(alloc)?;
         let directory = Directory::new(alloc)?;
         Ok(Watch {
             limit,
@@ -69,6 +73,7 @@ impl Watch {
             failed_accepts: AtomicU64::new(0),
             refusals: array::from_fn(|_| AtomicU64::new(0)),
             directory: Mutex::new(directory),
+            shown: Mutex::new(shown),
             memory: None,
             meter: None,
         })
@@ -255,5 +260,13 @@ impl<R: Wait> Beside for Known<'_, R> {
 
     fn charter(&self, group: GroupName) -> Option<Arc<Charter<Any>>> {
         self.watch.directory.lock(self.rt).charter(group)
+    }
+
+    fn shown_at(&self, place: usize) -> Option<u64> {
+        self.watch.shown.lock(self.rt).at(place)
+    }
+
+    fn note_shown(&self, place: usize, sum: u64) {
+        self.watch.shown.lock(self.rt).note(place, sum);
     }
 }

@@ -15,10 +15,10 @@ async function follow() {
     const stop = page.stop.signal;
     const wait = after && !document.hidden ? WAIT : 0;
     try {
-      const query = wait ? `?${after}&wait=${wait}` : \"\";
+      const query = wait ? `?after=${after}&wait=${wait}` : \"\";
       const said = await read(`v1/groups/${name}${query}`, PATIENCE + 1000 * wait, stop);
       if (stop.aborted) continue;
-      after = `after=${said.place}&seen=${sumOf(said)}`;
+      after = said.place;
       show(said);
     } catch (wrong) {
       if (wrong.status === undefined) console.error(wrong);

@@ -53,12 +53,4 @@ function remember(said) {
   if (page.said.get(said.group)?.text !== text) page.said.set(said.group, { ...said, text });
   return page.said.get(said.group);
 }
-
-// The sum of an answer, as the service makes it: by it a poll hears of a change that came before the poll.
-function sumOf(said) {
-  const ofNode = (node) => [node.number, node.weight];
-  const ofTerm = (term) => (term.leader ? ofNode(term.leader) : [0]);
-  return [...said.members.flatMap(ofNode), 0, ...said.terms.flatMap(ofTerm), 0, ...said.informed]
-    .reduce((sum, number) => Math.imul(sum ^ number, 16777619), 2166136261) >>> 0;
-}
 ";
