@@ -6,6 +6,7 @@ import time
 from checking import listed
 from journals.changes import History, first_line, lines_after_first, text_of_changes, whole_text
 from journals.lives import AHEAD, LONG, Life, asked, client_of, listing, living, say, until
+from journals.refusals import bad_at, refused
 from serving import PATIENCE, Differs, ended, same
 
 CHECKS, check = listed()
@@ -105,6 +106,21 @@ def a_torn_tail_is_dropped(program, file):
             with living(program, file) as life:
                 say(life, b"groups\nmembers a\n", b"groups a\nmembers 5 7\n")
             same("the text of the journal", whole_text(file.read_bytes()), next_text)
+
+
+@check
+def a_zero_in_the_last_part_of_the_text_is_a_torn_tail(program, file):
+    """Whatever wrote it, a start goes on from the lines before it. A byte that is 64 KiB after a zero is damage."""
+    changes = [b"create a chang", *(b"%s a %d" % (word, 7) for _ in range(2000) for word in (b"join", b"leave"))]
+    text = text_of_changes(changes)
+    last = len(text) - AHEAD
+    for place in (last, last + 1, len(text) // 2 + AHEAD // 2, text.rindex(b"leave"), len(text) - 1):
+        file.write_bytes(text[:place] + b"\0" + text[place + 1:] + bytes(AHEAD))
+        left = whole_text(file.read_bytes()).count(b"\n") - 1
+        with living(program, file) as life:
+            say(life, b"members a\n", b"members 7\n" if left % 2 == 0 else b"members\n")
+    file.write_bytes(text[:last - 1] + b"\0" + text[last:] + bytes(AHEAD))
+    refused(program, file, bad_at(len(text) - 1), "a zero before the last part")
 
 
 @check
