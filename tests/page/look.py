@@ -5,7 +5,7 @@ import pathlib
 import statistics
 import time
 
-from page.scripts import GROUND, LOOKS_SO, PALE, WIDER
+from page.scripts import FAINT, GROUND, LOOKS_SO, PALE, WIDER
 from serving import PATIENCE, Differs, same
 
 LOOKS = [(1280, 900, "light"), (1280, 900, "dark"), (380, 800, "light"), (380, 800, "dark")]
@@ -51,6 +51,7 @@ class Look:
                 raise Differs(f"{name} at {width} pixels: {wide} pixels wide, by {names}")
             same(f"{name}, {scheme}: whether its ground is dark", self.window.run(GROUND) < DARK, scheme == "dark")
             same(f"{name} at {width} pixels, {scheme}: text without contrast", self.window.run(PALE), [])
+            same(f"{name} at {width} pixels, {scheme}: faint shapes of the ring", self.window.run(FAINT), [])
             if self.words.shots:
                 file = pathlib.Path(self.words.shots, f"{name}-{width}-{scheme}.png")
                 file.write_bytes(self.window.picture())

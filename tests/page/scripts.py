@@ -5,6 +5,8 @@ SAYS = "return document.getElementById(arguments[0]).innerText.includes(argument
 IS = "return document.body.dataset.service === arguments[0]"
 RING = """return [...document.querySelectorAll('#ring .member')].map((it) =>
     [it.querySelector('title').textContent, Boolean(it.querySelector('circle.knows')), it.matches('.leading')])"""
+# How many crowns the ring has, and how many squares of broken lines, each of a member that has not heard.
+SHAPES = "return ['.crown', '.waits'].map((it) => document.querySelectorAll(`#ring ${it}`).length)"
 # Whether each line of the table of members has the time at which the member came to know the leader.
 HEARD = r"""return [...document.querySelectorAll('#members tr')].map((it) =>
     /^\d\d:\d\d:\d\d$/.test(it.querySelector('time')?.textContent ?? ''))"""
@@ -37,12 +39,14 @@ LINKS = """return [...document.querySelectorAll('#others a')].filter((it) => it.
 STRANGE = "return document.querySelectorAll('#others *').length - 2 - 2 * document.querySelectorAll('#others a').length"
 AT = "return location.host === arguments[0] && document.readyState === 'complete'"
 
-# How light a color is, and what a text stands on.
+# How light a color is, how two colors differ, and what a text stands on.
 LIGHT = """
     const parts = (color) => color.match(/[0-9.]+/g).map(Number);
     const light = (color) => parts(color).slice(0, 3).map((it) => it / 255)
         .map((it) => it <= 0.04045 ? it / 12.92 : ((it + 0.055) / 1.055) ** 2.4)
         .reduce((sum, it, place) => sum + it * [0.2126, 0.7152, 0.0722][place], 0);
+    const contrast = (one, other) =>
+        (Math.max(light(one), light(other)) + 0.05) / (Math.min(light(one), light(other)) + 0.05);
     const ground = (it) => {
         for (; it; it = it.parentElement) {
             const color = getComputedStyle(it).backgroundColor;
@@ -62,8 +66,14 @@ PALE = LIGHT + """
         const own = [...it.childNodes].some((node) => node.nodeType === 3 && node.data.trim());
         const isSeen = it.checkVisibility() && (isNamed(it) || !it.closest('svg')) && !it.closest('.skip, noscript');
         if (!own || !isSeen) continue;
-        const [one, other] = [light(ink(it)), light(below(it))];
-        const contrast = (Math.max(one, other) + 0.05) / (Math.min(one, other) + 0.05);
-        if (contrast < 4.5) pale.push(`${it.textContent.trim()} ${contrast.toFixed(2)}`);
+        const found = contrast(ink(it), below(it));
+        if (found < 4.5) pale.push(`${it.textContent.trim()} ${found.toFixed(2)}`);
     }
     return pale;"""
+# Each disc, square and crown of the ring whose contrast with the ground is less than 3 to 1. Without colours these
+# shapes say who knows the leader, and who leads.
+FAINT = LIGHT + """
+    const ink = (it) => getComputedStyle(it)[it.matches('.knows') ? 'fill' : 'stroke'];
+    const shapes = document.querySelectorAll('#ring .knows, #ring .waits, #ring .crown');
+    return [...shapes].filter((it) => it.checkVisibility()).map((it) => [it.getAttribute('class'), contrast(ink(it), ground(it))])
+        .filter(([, found]) => !(found >= 3)).map(([name, found]) => `${name} ${found.toFixed(2)}`);"""
