@@ -7,6 +7,7 @@ changed. An answer that gives an identity keeps its bytes, since no program can 
 """
 
 import base64
+import bisect
 import http.server
 import json
 import random
@@ -23,11 +24,15 @@ class Keys:
 
     def __init__(self):
         self.lock, self.revision, self.keys = threading.Lock(), 1, {}
+        # the keys in their order, not in base 64: a page costs as much as its keys, however many there are
+        self.order = []
         # each put and each deletion: the revision, the key, and the value or None
         self.events = []
 
     def put(self, op):
         old = self.keys.get(op["key"])
+        if not old:
+            bisect.insort(self.order, base64.b64decode(op["key"]))
         self.keys[op["key"]] = (op.get("value", ""), old[1] if old else self.revision, self.revision)
         self.note(op["key"], base64.b64decode(op.get("value", "")))
         return {"response_put": {}}
@@ -35,20 +40,23 @@ class Keys:
     def delete(self, op):
         gone = self.within(op)
         for key in gone:
-            del self.keys[key]
+            self.forget(key)
             self.note(key, None)
         return {"response_delete_range": {"deleted": str(len(gone))}}
+
+    def forget(self, key):
+        """Removes a key, if it is there, and notes nothing."""
+        if self.keys.pop(key, None):
+            del self.order[bisect.bisect_left(self.order, base64.b64decode(key))]
 
     def note(self, key, value):
         self.events.append((self.revision, base64.b64decode(key).decode(), value))
 
     def within(self, op):
-        first = base64.b64decode(op["key"])
         if "range_end" not in op:
-            return [key for key in self.keys if base64.b64decode(key) == first]
-        end = base64.b64decode(op["range_end"])
-        found = [key for key in self.keys if first <= base64.b64decode(key) < end]
-        return sorted(found, key=base64.b64decode)
+            return [op["key"]] if op["key"] in self.keys else []
+        first, end = (bisect.bisect_left(self.order, base64.b64decode(op[it])) for it in ("key", "range_end"))
+        return [base64.b64encode(key).decode() for key in self.order[first:end]]
 
     def range(self, op):
         found = self.within(op)

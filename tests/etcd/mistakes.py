@@ -145,13 +145,19 @@ class AnswersDoneToRefused(Sound):
 
 
 class ReadsAnOldState(Sound):
-    """What is read lacks the last entry, as if a member answered that lags behind. No mistake: a process that takes over
-    finds that entry when it puts its mark."""
+    """What is read lacks the last entry when it is asked for first, as if a member answered that lags behind. No mistake:
+    a process that takes over finds that an entry is there when it puts its mark, and reads again."""
+
+    def __init__(self):
+        super().__init__()
+        self.lacked = set()
 
     def range(self, op):
         said = super().range(op)
         found = said["response_range"].get("kvs", [])
-        if "range_end" in op and found and b"/e/" in base64.b64decode(found[-1]["key"]):
+        last = found[-1]["key"] if "range_end" in op and found else ""
+        if b"/e/" in base64.b64decode(last) and last not in self.lacked:
+            self.lacked.add(last)
             said["response_range"]["kvs"] = found[:-1]
         return said
 

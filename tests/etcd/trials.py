@@ -3,6 +3,8 @@
 Each line that a run told must be found by the next one, once and in order, whatever was killed or failed.
 """
 
+import concurrent.futures
+import contextlib
 import random
 import subprocess
 import time
@@ -10,8 +12,10 @@ import time
 from etcd_standin import FAULTS, Keys, Standin
 from serving import Differs
 
-# A run that was taken over has been seen to end only after 47 seconds, and once after more than 120. Why is not known.
-PATIENCE = 400
+PATIENCE = 120
+# How many seconds a run of a few lines takes at most if it takes over from one that appends all the time. If it read
+# entries more slowly than the other one puts them, it would go on as long as that one.
+CATCHES_UP = 20
 TROUBLED = 60  # seconds of trouble among the members
 
 
@@ -38,15 +42,23 @@ class Trials:
     def __init__(self, program, places, title):
         self.program, self.places, self.title = program, places, title
 
+    @contextlib.contextmanager
     def begin(self, order, name, *words):
-        """Begins a run."""
-        return subprocess.Popen([self.program, order, self.places, name, *map(str, words)], stdout=subprocess.PIPE,
-                                stderr=subprocess.PIPE, text=True)
+        """Begins a run. It is killed in the end if it still goes on."""
+        with subprocess.Popen([self.program, order, self.places, name, *map(str, words)], stdout=subprocess.PIPE,
+                              stderr=subprocess.PIPE, text=True) as going:
+            try:
+                yield going
+            finally:
+                going.kill()
 
-    def run(self, order, name, *words):
+    def run(self, order, name, *words, patience=PATIENCE):
         """A run to its end: its status, and what it wrote."""
         with self.begin(order, name, *words) as going:
-            out, error = going.communicate(timeout=PATIENCE)
+            try:
+                out, error = going.communicate(timeout=patience)
+            except subprocess.TimeoutExpired:
+                raise TimeoutError(f"{name}: {order} goes on after {patience} seconds") from None
             return going.returncode, out, error
 
     def found(self, name):
@@ -84,12 +96,14 @@ class Trials:
         print(f"{name}: {len(told)} lines told", flush=True)
 
     def taken_over(self, order):
-        """A run that another one takes over says so, and what it told is there."""
+        """A run that another one takes over says so, and what it told is there. The other one catches up with it."""
         name = f"{self.title}-taken-{order}"
-        with self.begin(order, name, "first", 100000) as first:
+        with concurrent.futures.ThreadPoolExecutor(1) as pool, self.begin(order, name, "first", 100000) as first:
             out = first.stdout.readline()
-            status, text, error = self.run("append", name, "second", 20)
-            out += first.communicate(timeout=PATIENCE)[0]
+            # what it writes is read all the time, since it would wait for room in a full pipe
+            rest = pool.submit(first.communicate, timeout=PATIENCE)
+            status, text, error = self.run("append", name, "second", 20, patience=CATCHES_UP)
+            out += rest.result()[0]
         if status or not text.endswith("done\n"):
             raise Differs(f"the second one: {text[-80:]!r}, {error.strip()}")
         if not out.endswith("journal taken over\n"):

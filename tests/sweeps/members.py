@@ -80,7 +80,7 @@ class Journal(Keys):
     def end_lease(self):
         """Lets the next process begin at once."""
         with self.lock:
-            self.keys.pop(coded(self.top + "lease"), None)
+            self.forget(coded(self.top + "lease"))
 
     def supersede(self):
         """Takes the journal over, as another process does: by the lease, and an entry under the next number."""
