@@ -1,22 +1,20 @@
 -- What was read of a journal, with one more page or entry.
-use Rattle.std.proofs.Common.{◌≡◌, ◌+◌, ◌<◌, ℕ, List, [], ◌∷◌, ◌++◌, Option, Some, None, get_or, length, map, take, refl, ap, sym, ◌∙◌, subst, arith, rules, append_assoc, append-nil, length-append, Ok, Err}
-use Rattle.std.specs.Prelude.{IfOk, IsSomeAnd, Result, flat_map, option_map, string_bytes}
+use Rattle.std.proofs.Common.{◌≡◌, ◌+◌, ◌<◌, ℕ, List, [], ◌∷◌, ◌++◌, Option, Some, None, get_or, length, map, take, refl, ap, sym, ◌∙◌, subst, arith, append_assoc, append-nil, length-append, Ok, Err}
+use Rattle.std.specs.Prelude.{IfOk, IfSome, IsSomeAnd, Result, codes, decimal, flat_map, option_map, string_bytes}
 use Rattle.std.specs.Fmt.{option_append}
 use Rattle.std.proofs.lemmas.Grind.{flat_map-append}
-use Rattle.std.proofs.lemmas.List.{length-map, length-take-le, map-append, map_more, map_push}
-use Rattle.std.proofs.lemmas.List.Elements.{All-push}
+use Rattle.std.proofs.lemmas.List.{length-map, length-take-le, map-append, map_more}
 use Rattle.serde_json.specs.Data.{Data}
-use Rattle.std.specs.Prelude.{Vec}
-use Rattle.std.specs.declared.alloc.Global.{Global}
 use Rattle.ring_etcd.specs.declared.replies.Pair.{Pair}
 use Rattle.ring_etcd.specs.declared.store.Put.{Put}
-use Rattle.ring_etcd.specs.declared.store.Put.TheVariants.{Ours, Other}
+use Rattle.ring_etcd.specs.declared.store.Put.TheVariants.{Ours}
 use Rattle.ring_etcd.specs.Entries.{AreAdded, added, added_by}
-use Rattle.ring_etcd.specs.Found.{base_in, entry_in, key_in, pairs_in, value_in}
+use Rattle.ring_etcd.specs.Found.{key_in, pairs_in, value_in}
 use Rattle.ring_etcd.specs.Holding.{joined}
 use Rattle.ring_etcd.specs.Keys.{codes_from, entry_code, piece_code}
-use Rattle.ring_etcd.specs.Readings.{AreEntries, AreOthers, ArePieces, AreRead, IsPutBehind, IsRead}
+use Rattle.ring_etcd.specs.Readings.{AreEntries, ArePieces, AreRead, IsRead, IsTakenBy}
 use Rattle.ring_etcd.specs.private.Paging.{ArePairs, keys_of, values_of}
+use Rattle.ring_etcd.specs.private.Taking.{IsPutBehind}
 use Rattle.ring_etcd.specs.private.Told.{IsToldPut}
 use Rattle.ring_etcd.proofs.Held.{joined-push}
 
@@ -90,21 +88,30 @@ next_code code page i first next pair lt same count is were =
 pub none_read : (code : ℕ → List ℕ) (first : ℕ) → AreRead code first []
 none_read code first = record { replies = []; has_keys = refl; has_values = refl }
 
-flat_push : (f : Data → List Data) (xs : List Data) (x : Data) → flat_map f (xs ++ x ∷ []) ≡ flat_map f xs ++ f x
-flat_push f xs x = flat_map-append f xs (x ∷ []) ∙ ap (λ (l : List Data). flat_map f xs ++ l) (append-nil (f x))
-
-pub more_read : (code : ℕ → List ℕ) (first next : ℕ) (values : List (List ℕ)) (reply : Data) (pairs : List Pair) → AreRead code first values → ArePairs (pairs_in reply) pairs → next ≡ first + length values → keys_of pairs ≡ codes_from code next (values_of pairs) → AreRead code first (values ++ values_of pairs)
-more_read code first next values reply pairs read are count coded = record {
-  replies = read.replies ++ reply ∷ [];
-  has_keys = ap (λ (l : List (List ℕ)). map Some l) (codes_from-append code first values (values_of pairs))
-      ∙ map-append Some (codes_from code first values) (codes_from code (first + length values) (values_of pairs))
-      ∙ (λ i. read.has_keys i ++ (ap (λ n. map Some (codes_from code n (values_of pairs))) (sym count) ∙ ap (λ (l : List (List ℕ)). map Some l) (sym coded) ∙ are.0) i)
-      ∙ sym (map-append key_in (flat_map pairs_in read.replies) (pairs_in reply))
-      ∙ ap (λ (l : List Data). map key_in l) (sym (flat_push pairs_in read.replies reply));
-  has_values = map-append Some values (values_of pairs) ∙ (λ i. read.has_values i ++ are.1 i)
-      ∙ sym (map-append value_in (flat_map pairs_in read.replies) (pairs_in reply))
-      ∙ ap (λ (l : List Data). map value_in l) (sym (flat_push pairs_in read.replies reply));
+-- two readings, one behind the other
+read_behind : (code : ℕ → List ℕ) (first next : ℕ) (xs ys : List (List ℕ)) → AreRead code first xs → AreRead code next ys → next ≡ first + length xs → AreRead code first (xs ++ ys)
+read_behind code first next xs ys were then count = record {
+  replies = were.replies ++ then.replies;
+  has_keys = ap (λ (l : List (List ℕ)). map Some l) (codes_from-append code first xs ys)
+      ∙ map-append Some (codes_from code first xs) (codes_from code (first + length xs) ys)
+      ∙ (λ i. were.has_keys i ++ (ap (λ n. map Some (codes_from code n ys)) (sym count) ∙ then.has_keys) i)
+      ∙ sym (map-append key_in (flat_map pairs_in were.replies) (flat_map pairs_in then.replies))
+      ∙ ap (λ (l : List Data). map key_in l) (sym (flat_map-append pairs_in were.replies then.replies));
+  has_values = map-append Some xs ys ∙ (λ i. were.has_values i ++ then.has_values i)
+      ∙ sym (map-append value_in (flat_map pairs_in were.replies) (flat_map pairs_in then.replies))
+      ∙ ap (λ (l : List Data). map value_in l) (sym (flat_map-append pairs_in were.replies then.replies));
 }
+
+page_read : (code : ℕ → List ℕ) (first : ℕ) (reply : Data) (pairs : List Pair) → ArePairs (pairs_in reply) pairs → keys_of pairs ≡ codes_from code first (values_of pairs) → AreRead code first (values_of pairs)
+page_read code first reply pairs are coded = record {
+  replies = reply ∷ [];
+  has_keys = ap (λ (l : List (List ℕ)). map Some l) (sym coded) ∙ are.0 ∙ ap (λ (l : List Data). map key_in l) (sym (append-nil (pairs_in reply)));
+  has_values = are.1 ∙ ap (λ (l : List Data). map value_in l) (sym (append-nil (pairs_in reply)));
+}
+
+more_read : (code : ℕ → List ℕ) (first next : ℕ) (values : List (List ℕ)) (reply : Data) (pairs : List Pair) → AreRead code first values → ArePairs (pairs_in reply) pairs → next ≡ first + length values → keys_of pairs ≡ codes_from code next (values_of pairs) → AreRead code first (values ++ values_of pairs)
+more_read code first next values reply pairs read are count coded =
+    read_behind code first next values (values_of pairs) read (page_read code next reply pairs are coded) count
 
 as_found : (reply : Data) (page pairs : List Pair) → ArePairs (pairs_in reply) page → pairs ≡ page → ArePairs (pairs_in reply) pairs
 as_found reply page pairs found same = subst (λ (l : List Pair). ArePairs (pairs_in reply) l) (sym same) found
@@ -128,48 +135,52 @@ more_pieces name text number next old middle new reply page pairs were found sam
       ∙ ap (λ (l : List ℕ). old ++ l) (joined-append were.pieces (values_of pairs));
 }
 
-pub no_entries : (name : List ℕ) (text : ℕ) (old : List ℕ) → AreEntries name text 1 old old
-no_entries name text old = record { entries = []; were_read = none_read (entry_code name text) 1; count = refl; bytes = none_added old }
+pub no_entries : (name : List ℕ) (text first : ℕ) (old : List ℕ) → AreEntries name text first first old old
+no_entries name text first old = record { entries = []; were_read = none_read (entry_code name text) first; count = omega arith; bytes = none_added old }
 
-pub more_entries : (name : List ℕ) (text next after : ℕ) (old middle new : List ℕ) (reply : Data) (page pairs : List Pair) → AreEntries name text next old middle → ArePairs (pairs_in reply) page → pairs ≡ page → after ≡ next + length pairs → keys_of pairs ≡ codes_from (entry_code name text) next (values_of pairs) → AreAdded (values_of pairs) middle new → AreEntries name text after old new
-more_entries name text next after old middle new reply page pairs were found same count coded bytes = record {
-  entries = were.entries ++ values_of pairs;
-  were_read = more_read (entry_code name text) 1 next were.entries reply pairs were.were_read (as_found reply page pairs found same) (omega (arith, were.count)) coded;
-  count = omega (arith, count, were.count, counted were.entries pairs);
-  bytes = more_added were.entries (values_of pairs) old middle new were.bytes bytes;
+pub entries_behind : (name : List ℕ) (text first next after : ℕ) (old middle new : List ℕ) → AreEntries name text first next old middle → AreEntries name text next after middle new → AreEntries name text first after old new
+entries_behind name text first next after old middle new were then = record {
+  entries = were.entries ++ then.entries;
+  were_read = read_behind (entry_code name text) first next were.entries then.entries were.were_read then.were_read were.count;
+  count = omega (arith, were.count, then.count, length-append were.entries then.entries);
+  bytes = more_added were.entries then.entries old middle new were.bytes then.bytes;
 }
 
-pub read_is : {E : Type 0} (r : Result ℕ E) (name : List ℕ) (text number : ℕ) (old middle new : List ℕ) → ArePieces name text number old middle → IfOk r (λ next. AreEntries name text next middle new) → IfOk r (λ next. IsRead name text number next old new)
+pub more_entries : (name : List ℕ) (text first next after : ℕ) (old middle new : List ℕ) (reply : Data) (page pairs : List Pair) → AreEntries name text first next old middle → ArePairs (pairs_in reply) page → pairs ≡ page → after ≡ next + length pairs → keys_of pairs ≡ codes_from (entry_code name text) next (values_of pairs) → AreAdded (values_of pairs) middle new → AreEntries name text first after old new
+more_entries name text first next after old middle new reply page pairs were found same count coded bytes =
+    entries_behind name text first next after old middle new were (record {
+      entries = values_of pairs;
+      were_read = page_read (entry_code name text) next reply pairs (as_found reply page pairs found same) coded;
+      count = count ∙ ap (λ n. next + n) (sym (length-map pairs (λ (p : Pair). p.value.items)));
+      bytes = bytes;
+    })
+
+pub read_is : {E : Type 0} (r : Result ℕ E) (name : List ℕ) (text number : ℕ) (old middle new : List ℕ) → ArePieces name text number old middle → IfOk r (λ next. AreEntries name text 1 next middle new) → IfOk r (λ next. IsRead name text number next old new)
 read_is (Ok next) name text number old middle new pieces entries = record { middle = middle; has_pieces = pieces; has_entries = entries }
 read_is (Err fault) name text number old middle new pieces entries = entries
 
--- entries of others
-pub no_others : (base : List ℕ) (first : ℕ) (old : List ℕ) → AreOthers base first first old old
-no_others base first old = record {
-  entries = [];
-  replies = [];
-  were_read = refl;
-  has_base = search rules;
-  count = omega arith;
-  bytes = none_added old;
-}
-
-pub more_others : (base mark : List ℕ) (first next after : ℕ) (old middle new : List ℕ) (put : Put) (other : Vec ℕ Global) (entry : List ℕ) (reply : Data) → AreOthers base first next old middle → IsToldPut reply mark base put → put ≡ Other other → entry ≡ other.items → after ≡ next + 1 → IsSomeAnd (added entry) (λ bytes. new ≡ middle ++ bytes) → AreOthers base first after old new
-more_others base mark first next after old middle new put other entry reply were told is same count adds =
-    let other_told : IsToldPut reply mark base (Other other) = subst (λ (p : Put). IsToldPut reply mark base p) is told in
-    record {
-      entries = were.entries ++ entry ∷ [];
-      replies = were.replies ++ reply ∷ [];
-      were_read = map_push Some were.entries entry ∙ (λ i. were.were_read i ++ (ap Some same ∙ sym other_told.0) i ∷ []) ∙ sym (map_push entry_in were.replies reply);
-      has_base = All-push (λ (d : Data). base_in d ≡ Some base) were.replies reply were.has_base other_told.1;
-      count = omega (arith, count, were.count, length-append were.entries (entry ∷ []));
-      bytes = entry_added were.entries entry old middle new were.bytes adds;
-    }
-
-pub put_behind : (base mark : List ℕ) (first number next : ℕ) (old new : List ℕ) (put : Put) (reply : Data) → AreOthers base first number old new → IsToldPut reply mark base put → put ≡ Ours → next ≡ number + 1 → IsPutBehind base mark first next old new
-put_behind base mark first number next old new put reply others told is count = record {
+-- an own entry behind them
+pub put_behind : (name : List ℕ) (text : ℕ) (base mark : List ℕ) (first number next : ℕ) (old new : List ℕ) (put : Put) (reply : Data) → AreEntries name text first number old new → IsToldPut reply mark base put → put ≡ Ours → next ≡ number + 1 → IsPutBehind name text mark first next old new
+put_behind name text base mark first number next old new put reply entries told is count = record {
   number = number;
-  has_others = others;
+  has_entries = entries;
   is_there = record { reply = reply; says = subst (λ (p : Put). IsToldPut reply mark base p) is told };
   count = count;
 }
+
+taken_behind : (name : List ℕ) (text pieces identity first next : ℕ) (old middle new : List ℕ) → IsRead name text pieces first old middle → IsPutBehind name text (codes "t" ++ decimal identity) first next middle new → IsTakenBy name text pieces identity next old new
+taken_behind name text pieces identity first next old middle new read behind = record {
+  number = behind.number;
+  was_read = record {
+    middle = read.middle;
+    has_pieces = read.has_pieces;
+    has_entries = entries_behind name text 1 first behind.number read.middle middle new read.has_entries behind.has_entries;
+  };
+  is_there = behind.is_there;
+  count = behind.count;
+}
+
+pub taken_is : (o : Option ℕ) (name : List ℕ) (text pieces identity first : ℕ) (mark old middle new : List ℕ) → IsRead name text pieces first old middle → mark ≡ codes "t" ++ decimal identity → IfSome o (λ next. IsPutBehind name text mark first next middle new) → IfSome o (λ next. IsTakenBy name text pieces identity next old new)
+taken_is None name text pieces identity first mark old middle new read is behind = behind
+taken_is (Some next) name text pieces identity first mark old middle new read is behind =
+    taken_behind name text pieces identity first next old middle new read (subst (λ (m : List ℕ). IsPutBehind name text m first next middle new) is behind)

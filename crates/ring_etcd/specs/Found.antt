@@ -14,10 +14,6 @@ bytes_at path reply =
 abbrev pub entry_in : Data → Option (List ℕ)
 entry_in = bytes_at (codes "/responses/0/response_range/kvs/0/value")
 
--- the value of the base, if the condition did not hold
-abbrev pub base_in : Data → Option (List ℕ)
-base_in = bytes_at (codes "/responses/1/response_range/kvs/0/value")
-
 -- the items of an array
 abbrev pub items_in : Items → List Data
 items_in no_items = []

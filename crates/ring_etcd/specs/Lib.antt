@@ -1,4 +1,3 @@
-pub mod Bases
 pub mod Done
 pub mod Entries
 pub mod Faults

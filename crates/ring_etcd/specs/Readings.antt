@@ -1,10 +1,9 @@
 -- What was read of a journal.
-use Rattle.std.specs.Prelude.{◌≡◌, ◌+◌, ◌⊎◌, ℕ, List, [], ◌++◌, All, Some, codes, decimal, flat_map, length, map}
+use Rattle.std.specs.Prelude.{◌≡◌, ◌+◌, ◌⊎◌, ℕ, List, [], ◌++◌, Some, codes, decimal, flat_map, length, map}
 use Rattle.serde_json.specs.Data.{Data}
-use Rattle.ring_etcd.specs.Bases.{base_text}
 use Rattle.ring_etcd.specs.Done.{IsDone}
 use Rattle.ring_etcd.specs.Entries.{AreAdded}
-use Rattle.ring_etcd.specs.Found.{base_in, entry_in, key_in, pairs_in, value_in}
+use Rattle.ring_etcd.specs.Found.{entry_in, key_in, pairs_in, value_in}
 use Rattle.ring_etcd.specs.Holding.{joined}
 use Rattle.ring_etcd.specs.Keys.{codes_from, entry_code, piece_code}
 
@@ -22,58 +21,39 @@ pub record ArePieces (name : List ℕ) (text number : ℕ) (old new : List ℕ) 
   pub count : number ≡ length pieces
   pub bytes : new ≡ old ++ joined pieces
 
--- The entries after a text were read, from the first on, and what they add was put after the old
--- bytes in order. The next entry has this number.
-pub record AreEntries (name : List ℕ) (text next : ℕ) (old new : List ℕ) : Type 0 where
+-- The entries after a text were read, from the first number on, and what they add was put after the
+-- old bytes in order. The next entry has the next number.
+pub record AreEntries (name : List ℕ) (text first next : ℕ) (old new : List ℕ) : Type 0 where
   pub entries : List (List ℕ)
-  pub were_read : AreRead (entry_code name text) 1 entries
-  pub count : next ≡ length entries + 1
+  pub were_read : AreRead (entry_code name text) first entries
+  pub count : next ≡ first + length entries
   pub bytes : AreAdded entries old new
 
--- A text of this many pieces was read, and then the entries after it. The next entry has this
--- number.
+-- A text of this many pieces was read, and then the entries after it, from the first on. The next
+-- entry has this number.
 pub record IsRead (name : List ℕ) (text pieces next : ℕ) (old new : List ℕ) : Type 0 where
   pub middle : List ℕ
   pub has_pieces : ArePieces name text pieces old middle
-  pub has_entries : AreEntries name text next middle new
-
--- Entries were found in the place of an own one, while this base counted. What they add was put
--- after the old bytes in order.
-pub record AreOthers (base : List ℕ) (first next : ℕ) (old new : List ℕ) : Type 0 where
-  pub entries : List (List ℕ)
-  pub replies : List Data
-  pub were_read : map Some entries ≡ map entry_in replies
-  pub has_base : All (λ reply. base_in reply ≡ Some base) replies
-  pub count : next ≡ first + length entries
-  pub bytes : AreAdded entries old new
+  pub has_entries : AreEntries name text 1 next middle new
 
 -- A reply says that an entry was put, or has its bytes in its place.
 pub record IsThere (entry : List ℕ) : Type 0 where
   pub reply : Data
   pub says : IsDone reply ⊎ (entry_in reply ≡ Some entry)
 
--- An own entry was put behind those that were found in its place, from the first number on. Its
--- number is that of the last of them and one.
-pub record IsPutBehind (base entry : List ℕ) (first next : ℕ) (old new : List ℕ) : Type 0 where
-  pub number : ℕ
-  pub has_others : AreOthers base first number old new
-  pub is_there : IsThere entry
-  pub count : next ≡ number + 1
-
 -- The pieces and the entries of a journal were read, from its first byte on.
 pub record IsFound (name : List ℕ) (text pieces : ℕ) (bytes : List ℕ) : Type 0 where
   pub next : ℕ
   pub was_read : IsRead name text pieces next [] bytes
 
--- A text of this many pieces was read, and the entries after it. Then an entry by which a process
--- takes over was put behind those that were found in its place. What all of them add was put after
--- the old bytes in order. The number of the own entry is one less than the next.
+-- A text of this many pieces was read, and the entries after it, from the first on. What these add
+-- was put after the old bytes in order. Then an entry by which a process takes over was put under
+-- the number after theirs. The next number is the one after its own.
 pub record IsTakenBy (name : List ℕ) (text pieces identity next : ℕ) (old new : List ℕ) : Type 0 where
   pub number : ℕ
-  pub bytes : List ℕ
-  pub was_read : IsRead name text pieces number old bytes
-  pub was_put : IsPutBehind (base_text text pieces) (codes "t" ++ decimal identity) number next
-      bytes new
+  pub was_read : IsRead name text pieces number old new
+  pub is_there : IsThere (codes "t" ++ decimal identity)
+  pub count : next ≡ number + 1
 
 -- The place of a journal: its name, the text that counts and how many pieces it has. Then the
 -- identity of this process, the number of the next entry, and the bytes that nobody took yet.

@@ -1,3 +1,4 @@
+pub mod Bases
 pub mod Faults
 pub mod Http
 pub mod Keys
@@ -6,4 +7,5 @@ pub mod Putting
 pub mod Replies
 pub mod Requests
 pub mod Saying
+pub mod Taking
 pub mod Told

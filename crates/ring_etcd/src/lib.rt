@@ -44,10 +44,11 @@
 //! # Taking over
 //!
 //! A process reads the base, the pieces and the entries, by pages in the order of their keys. Then
-//! it puts `tID` under the next number. If another entry is there, it reads that entry and tries
-//! the number after it. Once `tID` is there, the process before it can put nothing: its next number
-//! is taken. That `tID` was put shows that the base still counted, so all that was read is the
-//! whole journal. If the base does not count any more, the process reads again.
+//! it puts `tID` under the next number. If another entry is there, it reads on from that number, by
+//! pages, and tries the number after them. So it keeps up with a process that goes on to put
+//! entries. Once `tID` is there, the process before it can put nothing: its next number is taken.
+//! That `tID` was put shows that the base still counted, so all that was read is the whole journal.
+//! If the base does not count any more, the process reads again.
 //!
 //! Then the process recovers, and puts its own text in the place of the old one, by the conditions
 //! of the number after its entry `tID`. So a third process that took over meanwhile is noticed.

@@ -1,7 +1,7 @@
 //! The place of a journal in etcd: taking it over, and reading it.
 ghost use Rattle.std.specs.Prelude.{◌≡◌, [], length, IfOk, IfSome, None, string_bytes};
-ghost use Rattle.ring_etcd.specs.Bases.{base_text};
 ghost use Rattle.ring_etcd.specs.Readings.{IsTaken, IsTakenBy};
+ghost use Rattle.ring_etcd.specs.private.Bases.{base_text};
 
 use crate::base::Base;
 use crate::cluster::Cluster;

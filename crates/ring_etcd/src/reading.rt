@@ -1,14 +1,15 @@
 //! Reads what a journal in etcd holds.
 ghost use Rattle.std.specs.Prelude.{◌≡◌, ◌+◌, ◌++◌, IfOk, IfSome, IsSomeAnd, OnOk, length, string_bytes};
-ghost use Rattle.ring_etcd.specs.Bases.{base_text};
 ghost use Rattle.ring_etcd.specs.Entries.{AreAdded, added};
 ghost use Rattle.ring_etcd.specs.Holding.{joined};
 ghost use Rattle.ring_etcd.specs.Keys.{codes_from, entry_code, piece_code};
-ghost use Rattle.ring_etcd.specs.Readings.{AreEntries, ArePieces, IsPutBehind, IsRead};
+ghost use Rattle.ring_etcd.specs.Readings.{AreEntries, ArePieces, IsRead};
 ghost use Rattle.ring_etcd.specs.private.Paging.{keys_of, values_of};
+ghost use Rattle.ring_etcd.specs.private.Taking.{IsPutBehind};
 
 use crate::base::Base;
 use crate::replies::Pair;
+use crate::requests::PAGE;
 use crate::store::{AskFault, Put, Store};
 use std::alloc::AllocError;
 use std::net::{Net, TcpStream};
@@ -92,22 +93,30 @@ impl<R: Net<Stream = TcpStream> + Clock + AllocGlobal + Drop> Store<R> {
         if self.read_pieces(base, found)? != base.pieces {
             return Err(ReadFault::Damaged);
         }
-        self.read_entries(base, found)
+        self.read_entries(base, 1, found)
     }
 
-    // Reads the entries after the text of a base. Returns the number of the next one.
-    fn read_entries(&mut self, base: Base, found: &mut Vec<u8>) -> Result<u64, ReadFault>
+    // Reads the entries after the text of a base, from a number on. Returns the number of the next
+    // one.
+    fn read_entries(
+        &mut self,
+        base: Base,
+        first: u64,
+        found: &mut Vec<u8>,
+    ) -> Result<u64, ReadFault>
         ensures keys { self.new.keys ≡ self.old.keys }
         ensures read { IfOk result (λ next. AreEntries (string_bytes self.old.keys.name)
-            base.text next found.old.items found.new.items) }
+            base.text first next found.old.items found.new.items) }
     {
-        let mut next = 1;
+        let mut next = first;
         for _ in 0..u64::MAX {
             let page = self.entries(base.text, next)?;
-            if page.is_empty() {
+            next = self.add_entries(base.text, next, &page, found)?;
+            // A page with room for more is the last one. An empty page may never come while another
+            // process puts entries.
+            if page.len() < PAGE {
                 return Ok(next);
             }
-            next = self.add_entries(base.text, next, &page, found)?;
         }
         Err(ReadFault::Damaged)
     }
@@ -193,16 +202,17 @@ impl<R: Net<Stream = TcpStream> + Clock + AllocGlobal + Drop> Store<R> {
     ) -> Result<Option<u64>, ReadFault>
         ensures keys { self.new.keys ≡ self.old.keys }
         ensures put { IfOk result (λ put. IfSome put (λ after.
-            IsPutBehind (base_text base.text base.pieces) mark.now next after
+            IsPutBehind (string_bytes self.old.keys.name) base.text mark.now next after
             found.old.items found.new.items)) }
     {
         for _ in 0..u64::MAX {
             match self.put_entry(base, next, mark)? {
                 Put::Ours => return Ok(Some(after(next)?)),
-                Put::Other(entry) => add_entry(&entry, found)?,
+                // The process before may put entries as fast as this one asks. Pages catch up with
+                // it, and one entry at a time does not.
+                Put::Other(_) => next = self.read_entries(base, next, found)?,
                 Put::Gone => return Ok(None),
             }
-            next = after(next)?;
         }
         Ok(None)
     }

@@ -3,9 +3,9 @@ ghost use Rattle.std.specs.Prelude.{◌≡◌, ◌↔◌, Some, IfOk, IfSome, Is
 ghost use Rattle.serde_json.specs.Find.{as_array, as_str, pointer};
 ghost use Rattle.serde_json.specs.View.{items_view, view};
 ghost use Rattle.ring_etcd.specs.Done.{IsDone};
-ghost use Rattle.ring_etcd.specs.Found.{base_in, bytes_at, entry_in};
+ghost use Rattle.ring_etcd.specs.Found.{bytes_at, entry_in};
 ghost use Rattle.ring_etcd.specs.private.Paging.{ArePairs, IsPair};
-ghost use Rattle.ring_etcd.specs.private.Replies.{IsRevisionAt};
+ghost use Rattle.ring_etcd.specs.private.Replies.{IsRevisionAt, base_in};
 ghost use Rattle.ring_etcd.specs.private.Saying.{Says};
 
 use base64::engine::general_purpose::STANDARD;

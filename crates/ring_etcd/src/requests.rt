@@ -11,6 +11,9 @@ pub(crate) const RANGE: &str = "/v3/kv/range";
 
 pub(crate) const TXN: &str = "/v3/kv/txn";
 
+/// How many pairs a reply to `range` has at most. It has fewer only if there are no more.
+pub(crate) const PAGE: usize = 128;
+
 /// Where a process writes: after the text that `base` names, at a key where nothing is yet.
 #[derive(Clone, Copy)]
 pub(crate) struct Slot<'a> {
@@ -26,7 +29,7 @@ pub(crate) fn put(alloc: Global, key: &str, value: &str) -> Result<String, Alloc
     format!(in alloc; "{{\"key\":\"{key}\",\"value\":\"{value}\"}}")
 }
 
-/// Reads the pairs from `key` on and before `end`, in the order of their keys, 128 at most.
+/// Reads the pairs from `key` on and before `end`, in the order of their keys, `PAGE` at most.
 pub(crate) fn range(alloc: Global, key: &str, end: &str) -> Result<String, AllocError>
     ensures { IfOk result (λ text. string_bytes text ≡ range_text key.now end.now) }
 {

@@ -2,10 +2,10 @@
 ghost use Rattle.std.specs.Prelude.{◌≡◌, ◌↔◌, Some, IfOk, IsTrue, option_map, string_bytes};
 ghost use Rattle.base64.specs.Engines.{standard};
 ghost use Rattle.base64.specs.GeneralPurpose.{encode_of};
-ghost use Rattle.ring_etcd.specs.Bases.{base_text};
 ghost use Rattle.ring_etcd.specs.Found.{pairs_in};
 ghost use Rattle.ring_etcd.specs.Keys.{entry_key, piece_key};
 ghost use Rattle.ring_etcd.specs.Hearing.{Hears};
+ghost use Rattle.ring_etcd.specs.private.Bases.{base_text};
 ghost use Rattle.ring_etcd.specs.private.Paging.{ArePairs};
 ghost use Rattle.ring_etcd.specs.private.Putting.{IsPut, IsPutOver, IsSwitched};
 ghost use Rattle.ring_etcd.specs.private.Replies.{IsRevision};

@@ -1,8 +1,13 @@
 -- What a reply of the gateway says.
-use Rattle.std.specs.Prelude.{◌≡◌, ◌⊎◌, ℕ, List, Some, None, codes, option_and_then}
+use Rattle.std.specs.Prelude.{◌≡◌, ◌⊎◌, ℕ, List, Option, Some, None, codes, option_and_then}
 use Rattle.std.specs.Str.Parse.{digits_value, without_leading_plus}
 use Rattle.serde_json.specs.Data.{Data}
 use Rattle.serde_json.specs.Find.{as_str, pointer}
+use Rattle.ring_etcd.specs.Found.{bytes_at}
+
+-- the value of the base, if the condition did not hold
+abbrev pub base_in : Data → Option (List ℕ)
+base_in = bytes_at (codes "/responses/1/response_range/kvs/0/value")
 
 -- The reply has this revision at a place.
 pub record IsRevisionAt (path : List ℕ) (reply : Data) (revision : ℕ) : Type 0 where

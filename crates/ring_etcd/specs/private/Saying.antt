@@ -4,7 +4,8 @@ use Rattle.serde_json.specs.Data.{Data}
 use Rattle.ring_etcd.specs.declared.replies.Said.{Said}
 use Rattle.ring_etcd.specs.declared.replies.Said.TheVariants.{Done, Found}
 use Rattle.ring_etcd.specs.Done.{IsDone}
-use Rattle.ring_etcd.specs.Found.{entry_in, base_in}
+use Rattle.ring_etcd.specs.Found.{entry_in}
+use Rattle.ring_etcd.specs.private.Replies.{base_in}
 
 -- The reply says that the request was carried out, or it has what was found in its place.
 abbrev pub Says : Data → Said → Type 0

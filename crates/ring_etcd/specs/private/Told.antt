@@ -4,7 +4,8 @@ use Rattle.serde_json.specs.Data.{Data}
 use Rattle.ring_etcd.specs.declared.store.Put.{Put}
 use Rattle.ring_etcd.specs.declared.store.Put.TheVariants.{Ours, Other, Gone}
 use Rattle.ring_etcd.specs.Done.{IsDone}
-use Rattle.ring_etcd.specs.Found.{entry_in, base_in}
+use Rattle.ring_etcd.specs.Found.{entry_in}
+use Rattle.ring_etcd.specs.private.Replies.{base_in}
 
 -- This process put the entry only if the reply says that it was put, or has its bytes in its place.
 -- Another put one there only if the reply has its bytes, and the base of this process.

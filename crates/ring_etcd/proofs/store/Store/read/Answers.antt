@@ -11,5 +11,5 @@ returns-clause-read g c =
     c.args.found.now.items c.read_pieces.new.found.items c.read_entries.new.found.items
     (subst (λ (n : ℕ). ArePieces (string_bytes c.args.self.now.keys.name) c.args.base.text n c.args.found.now.items c.read_pieces.new.found.items)
     c.if-branch-base.false c.in_ok-read_pieces.ensures.read)
-    (subst (λ (k : Keys). IfOk c.read_entries.result (λ next. AreEntries (string_bytes k.name) c.args.base.text next c.read_pieces.new.found.items c.read_entries.new.found.items))
+    (subst (λ (k : Keys). IfOk c.read_entries.result (λ next. AreEntries (string_bytes k.name) c.args.base.text 1 next c.read_pieces.new.found.items c.read_entries.new.found.items))
     c.in_ok-read_pieces.ensures.keys c.read_entries.ensures.read)

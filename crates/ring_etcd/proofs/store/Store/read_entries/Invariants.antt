@@ -7,5 +7,5 @@ use Rattle.ring_etcd.proofs.store.Store.read_entries.Given as goal
 abbrev pub invariant-loop : goal.invariant-loop
 invariant-loop g l = record {
   keys : l.self.keys ≡ l.fn.self.keys;
-  read : AreEntries (string_bytes l.fn.self.keys.name) l.base.text l.next l.fn.found.items l.found.items;
+  read : AreEntries (string_bytes l.fn.self.keys.name) l.base.text l.fn.first l.next l.fn.found.items l.found.items;
 }
