@@ -157,20 +157,44 @@ const FIVE: &[u8] = b"create b chang\njoin b 1\nstart b\n\
 const FIVE_TOLD: &[u8] =
     b"ok\nok\nterm 1\nok\nok\nterm 1\nok\nok\nterm 1\nok\nok\nterm 1\nok\nok\nterm 1\n";
 
-// Five begins come while the worker takes none. Those wait for which the inbox has no room.
+// Services with inboxes of one, three and five, and how many of five begins wait while the worker
+// takes none: those for which the inbox has no room.
+const INBOXES: [(Config, usize); 3] = [
+    (
+        Config {
+            workers: 1,
+            inbox: 1,
+            port: 80,
+        },
+        4,
+    ),
+    (
+        Config {
+            workers: 1,
+            inbox: 3,
+            port: 80,
+        },
+        2,
+    ),
+    (
+        Config {
+            workers: 1,
+            inbox: 5,
+            port: 80,
+        },
+        0,
+    ),
+];
+
 #[test]
 fn an_inbox_holds_what_the_configuration_says(rt: HostRuntime) {
     let asked = [(ONE, ONE_TOLD), (FIVE, FIVE_TOLD)];
-    for (inbox, left) in [(1, 4), (3, 2), (5, 0)] {
-        let config = Config {
-            workers: 1,
-            inbox,
-            port: 80,
-        };
+    for (config, left) in INBOXES {
         let watch = Watch::new(rt.alloc(), 1).expect(&rt, "no watch");
         let watch = Arc::new(rt.alloc(), watch).expect(&rt, "no watch");
         let waiting = waiting_after(&rt, &config, &watch, true, &asked);
         drop(watch);
+        let inbox = config.inbox;
         equal(
             &rt,
             "an inbox, and what waits",
