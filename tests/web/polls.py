@@ -35,16 +35,17 @@ def check_quiet(port):
     web.close()
 
 
-def answered_at_once(web, query, what):
+def answered_at_once(web, query, what, group="a"):
     """The answer to a poll that need not wait."""
-    found = [timed(web, f"/v1/groups/a?{query}") for _ in range(TRIES)]
+    found = [timed(web, f"/v1/groups/{group}?{query}") for _ in range(TRIES)]
     if min(took for _, took in found) > AT_ONCE:
         raise Differs(f"a poll took {found} for {query}, {what}")
     return found[-1][0]
 
 
-def check_at_once(port):
-    """A poll is answered at once if it has no wait, or if no answer about its group that is remembered has its place."""
+def check_at_once(port, twins):
+    """A poll is answered at once if it has no wait, or if no answer about its group that is remembered has its place.
+    The answers about the twins say the same of each."""
     web = Web(port)
     place, other = web.told("/v1/groups/a")["place"], web.told("/v1/groups/b")["place"]
     for query in ("wait=0", "", "wait=1s", "wait=-1", "wait="):
@@ -53,6 +54,9 @@ def check_at_once(port):
     for after in ("", "after=", "after=x", "after=0", f"after={place}x", f"after={1 << 40}", f"after={1 << 70}",
                   f"after={place - 1}", f"after={other}", f"after={names}"):
         answered_at_once(web, f"{after}&wait=60", "after no answer about the group")
+    one, two = twins
+    place_of_one = web.told(f"/v1/groups/{one}")["place"]
+    answered_at_once(web, f"after={place_of_one}&wait=60", f"after an answer about {one}", two)
     for _ in range(REMEMBERED):
         web.told("/v1/groups/b")
     answered_at_once(web, f"after={place}&wait=60", "after an answer that is forgotten")
