@@ -8,6 +8,8 @@ from checking import listed
 from serving import PATIENCE, Client, Differs, same
 
 CHECKS, check = listed()
+# How many clients `--sessions` lets it serve at a time, at most.
+MOST = 128
 
 
 @check
@@ -49,19 +51,19 @@ def run_has_a_further_client_wait(program):
 
 
 @check
-def run_has_a_65th_client_wait(program):
-    with program.listening("run", "--sessions", "64") as (_, port):
-        clients = [Client(port) for _ in range(65)]
-        for number, client in enumerate(clients[:64]):
+def run_has_one_client_more_than_it_serves_wait(program):
+    with program.listening("run", "--sessions", str(MOST)) as (_, port):
+        clients = [Client(port) for _ in range(MOST + 1)]
+        for number, client in enumerate(clients[:MOST]):
             same("reply", client.ask(b"create g%d chang\n" % number), b"ok\n")
-        clients[64].send(b"create g64 chang\n")
-        clients[64].socket.settimeout(0.3)
+        clients[MOST].send(b"create last chang\n")
+        clients[MOST].socket.settimeout(0.3)
         with contextlib.suppress(TimeoutError):
-            clients[64].line()
-            raise Differs("a 65th client was served beside 64")
-        clients[64].socket.settimeout(PATIENCE)
+            clients[MOST].line()
+            raise Differs(f"one more client was served beside {MOST}")
+        clients[MOST].socket.settimeout(PATIENCE)
         clients[7].reset()
-        same("reply", clients[64].line(), b"ok\n")
+        same("reply", clients[MOST].line(), b"ok\n")
         for client in clients:
             client.close()
 

@@ -56,7 +56,7 @@ def refused_words_are_told_with_the_usage(program):
     for words in ((), ("serve",), ("serve", "x"), ("serve", "--connections", "2"),
                   ("serve", "x", "--connections", "0"), ("serve", "x", "--connections", "65"),
                   ("serve", "x", "--connections", "x"), ("serve", "x", "y", "--connections", "2"),
-                  ("run",), ("run", "x", "--sessions", "0"), ("run", "x", "--sessions", "65"),
+                  ("run",), ("run", "x", "--sessions", "0"), ("run", "x", "--sessions", "129"),
                   ("run", "x", "--idle", "86401"), ("run", "x", "--connections", "2"),
                   ("run", "x", "--journal", "etcd://x"),
                   ("--help",), ("serve", "--help"), ("run", "--help"), ("help", "run"), ("run", b"\xff")):

@@ -92,7 +92,7 @@ run_gives rows level =
     let idle_read = level_reads run_below (IsRead run_idle) run_keeps_idle (run_defaults run_idle refl) level.given level.fine in
     subst IsRun (sym level.is) (record {
       file = has_file run_config (codes "config") there refl config_read given;
-      sessions = may_have_number run_sessions (codes "sessions") 1 64 there refl refl sessions_read;
+      sessions = may_have_number run_sessions (codes "sessions") 1 128 there refl refl sessions_read;
       idle = may_have_number run_idle (codes "idle") 0 86400 there refl refl idle_read;
     })
 

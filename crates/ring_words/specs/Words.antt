@@ -30,7 +30,7 @@ connections_rule = record (number_rule (codes "connections") 1 64) { required = 
 
 -- how many sessions `run` has at a time, and after how many seconds of silence it ends one
 abbrev pub sessions_rule : Rule
-sessions_rule = number_rule (codes "sessions") 1 64
+sessions_rule = number_rule (codes "sessions") 1 128
 
 abbrev pub idle_rule : Rule
 idle_rule = number_rule (codes "idle") 0 86400
@@ -146,7 +146,7 @@ IsFlag given flag =
 pub record Runs (rows : List Row) (path : Text) (sessions idle : ℕ) (places : Bool)
     (journal campaign http socket mode : Option Text) : Type 0 where
   pub file : first_of (codes "config") rows ≡ Some path
-  pub sessions_given : IsGivenOr 16 1 64 (one_of (codes "sessions") rows) sessions
+  pub sessions_given : IsGivenOr 16 1 128 (one_of (codes "sessions") rows) sessions
   pub idle_given : IsGivenOr 0 0 86400 (one_of (codes "idle") rows) idle
   pub places_given : IsFlag (one_of (codes "places") rows) places
   pub journal_given : first_of (codes "journal") rows ≡ journal

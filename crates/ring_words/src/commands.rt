@@ -170,8 +170,8 @@ fn sessions_arg<'a>(alloc: Global) -> Arg<'a>
     ensures own { result.global ≡ false }
 {
     option_arg(alloc, "sessions", "N")
-        .value_parser(clap::value_parser!(u32).range(1..=64))
-        .help("Serve N clients at a time, 1 to 64, and let others wait [default: 16]")
+        .value_parser(clap::value_parser!(u32).range(1..=128))
+        .help("Serve N clients at a time, 1 to 128, and let others wait [default: 16]")
 }
 
 // An option of `run`: after how many seconds without a byte it ends a session.

@@ -50,5 +50,5 @@ pub record IsServed (rows : List Row) : Type 0 where
 -- The rows of `run`, if its words are taken.
 pub record IsRun (rows : List Row) : Type 0 where
   pub file : HasFile (codes "config") rows
-  pub sessions : MayHaveNumber (codes "sessions") 1 64 rows
+  pub sessions : MayHaveNumber (codes "sessions") 1 128 rows
   pub idle : MayHaveNumber (codes "idle") 0 86400 rows

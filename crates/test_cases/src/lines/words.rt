@@ -113,8 +113,8 @@ const ORDERS: [(&str, &str); 18] = [
          campaign: None, http: None, socket: None, mode: None }",
     ),
     (
-        "ringd run --sessions 64 x",
-        "Run { path: \"x\", sessions: 64, idle: 0, places: false, journal: None, \
+        "ringd run --sessions 128 x",
+        "Run { path: \"x\", sessions: 128, idle: 0, places: false, journal: None, \
          campaign: None, http: None, socket: None, mode: None }",
     ),
     (
@@ -185,7 +185,7 @@ const MISTAKEN: &[&str] = &[
     "ringd run",
     "ringd run x y",
     "ringd run x --sessions 0",
-    "ringd run x --sessions 65",
+    "ringd run x --sessions 129",
     "ringd run x --idle 86401",
     "ringd run x --idle 1.5",
     "ringd run x --connections 2",
