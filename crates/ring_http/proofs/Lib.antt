@@ -5,4 +5,5 @@ pub mod Listing
 pub mod Paths
 pub mod Plain
 pub mod Questions
+pub mod Replies
 pub mod Words

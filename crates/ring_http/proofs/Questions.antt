@@ -6,6 +6,7 @@ use Rattle.std.proofs.lemmas.List.Concat.{flat_map-append}
 use Rattle.std.proofs.lemmas.List.Elements.{All-append, All-cons, All-nil}
 use Rattle.ring_id.specs.Identity.{number_of}
 use Rattle.ring_id.specs.declared.refusal.Refusal.TheVariants.{NoMemory}
+use Rattle.ring_id.specs.declared.refusal.Refusal.TheVariants as refused
 use Rattle.ring_any.specs.declared.any.Any.{Any}
 use Rattle.ring_events.specs.declared.event.Command.{Command}
 use Rattle.ring_events.specs.declared.event.Command.TheVariants.{Groups, Members, Terms, Who}
@@ -14,11 +15,11 @@ use Rattle.ring_events.specs.declared.reply.Reply.TheVariants as reply
 use Rattle.ring_table.specs.declared.entry.Entry.{Entry}
 use Rattle.ring_table.specs.declared.entry.Entry.TheVariants.{Call}
 use Rattle.ring_http.specs.Asking.{AddsPicture, AddsPictures, AddsQuestions, ArePictured, Because, IsPictured, IsQuestion, Lacks, asked_of, hears, hears_of, who_of}
-use Rattle.ring_http.specs.private.Asking.{AddsEach, AsksMembers, AsksNames, AsksTerms, GivesMembers, GivesNames, GivesTerms, IsAsked, LacksList}
+use Rattle.ring_http.specs.private.Asking.{AddsEach, AsksMembers, AsksNames, AsksTerms, GivesMembers, GivesTerms, IsAsked, LacksList}
 use Rattle.ring_http.specs.private.Picturing.{AddsAll, AddsWatched}
 use Rattle.ring_http.specs.declared.picture.GroupPicture.{GroupPicture}
 use Rattle.ring_http.specs.declared.asking.Lack.{Lack}
-use Rattle.ring_http.specs.declared.asking.Lack.TheVariants.{NoGroup, Odd, Unplaced}
+use Rattle.ring_http.specs.declared.asking.Lack.TheVariants.{Late, NoGroup, Unplaced}
 
 -- the elements so far, and one more
 take_next : {X : Type 0} (xs : List X) (i : ℕ) (x : X) → i < length xs → x ≡ get_or xs i x → take (i + 1) xs ≡ take i xs ++ x ∷ []
@@ -42,24 +43,23 @@ module _ (session : ℕ) where
   }
 
   -- a question was answered, and its place did not rise
-  pub lacks_odd : (mine now : List (Entry Any)) (command : Command Any) (answer : Reply) → IsAsked session command → now ≡ mine ++ Call session command answer ∷ [] → Lacks session Odd mine now
-  lacks_odd mine now command answer asked gained = record { adds = adds_one mine now (Call session command answer) (asked answer) gained; because = tt }
+  pub lacks_late : (mine now : List (Entry Any)) (command : Command Any) (answer : Reply) → IsAsked session command → now ≡ mine ++ Call session command answer ∷ [] → Lacks session Late mine now
+  lacks_late mine now command answer asked gained = record { adds = adds_one mine now (Call session command answer) (asked answer) gained; because = tt }
 
   -- ---- lists
 
   -- an answer that is no list
   lacks_list : (mine now : List (Entry Any)) (command : Command Any) (answer : Reply) (lack : Lack) → IsQuestion session (Call session command answer) → now ≡ mine ++ Call session command answer ∷ [] → LacksList answer lack → Lacks session lack mine now
   lacks_list mine now command answer (Unplaced refusal) is gained list = absurd list
-  lacks_list mine now command answer (NoGroup refusal) is gained list = record {
+  lacks_list mine now command answer NoGroup is gained list = record {
     adds = adds_one mine now (Call session command answer) is gained;
     because = record { earlier = []; command = command; whole = ap (λ (a : Reply). Call session command a ∷ []) list };
   }
-  lacks_list mine now command answer Odd is gained list = record { adds = adds_one mine now (Call session command answer) is gained; because = tt }
+  lacks_list mine now command answer Late is gained list = absurd list
 
   -- the names of all groups
-  pub asks_names : (mine now : List (Entry Any)) (answer : Reply) (result : Result (List (List ℕ)) Lack) → now ≡ mine ++ Call session Groups answer ∷ [] → GivesNames answer result → AsksNames session mine result now
-  asks_names mine now answer (Ok names) gained gives = subst (λ (a : Reply). now ≡ mine ++ Call session Groups a ∷ []) gives gained
-  asks_names mine now answer (Err lack) gained gives = lacks_list mine now Groups answer lack refl gained gives
+  pub asks_names : (mine now : List (Entry Any)) (answer : Reply) (names : List (List ℕ)) → now ≡ mine ++ Call session Groups answer ∷ [] → answer ≡ reply.Groups names → AsksNames session mine (Ok names) now
+  asks_names mine now answer names gained gives = subst (λ (a : Reply). now ≡ mine ++ Call session Groups a ∷ []) gives gained
 
   -- the members of a group
   pub asks_members : (group : List ℕ) (mine now : List (Entry Any)) (answer : Reply) (result : Result (List ℕ) Lack) → now ≡ mine ++ Call session (Members group) answer ∷ [] → GivesMembers answer result → AsksMembers session group mine result now
@@ -104,12 +104,12 @@ module _ (session : ℕ) where
   -- why there is no answer, behind other questions
   because_after : (lack : Lack) (first second : List (Entry Any)) → Because session lack second → Because session lack (first ++ second)
   because_after (Unplaced refusal) first second because = because
-  because_after (NoGroup refusal) first second because = record {
+  because_after NoGroup first second because = record {
     earlier = first ++ because.earlier;
     command = because.command;
-    whole = ap (λ (l : List (Entry Any)). first ++ l) because.whole ∙ sym (append_assoc first because.earlier (Call session because.command (reply.Refused refusal) ∷ []));
+    whole = ap (λ (l : List (Entry Any)). first ++ l) because.whole ∙ sym (append_assoc first because.earlier (Call session because.command (reply.Refused refused.NoGroup) ∷ []));
   }
-  because_after Odd first second because = tt
+  because_after Late first second because = tt
 
   -- there is no answer behind other questions
   pub lacks_after : (mine mid now : List (Entry Any)) (lack : Lack) → AddsQuestions session mine mid → Lacks session lack mid now → Lacks session lack mine now

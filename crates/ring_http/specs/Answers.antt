@@ -7,6 +7,7 @@ use Rattle.serde_json.specs.Data.{Data}
 use Rattle.serde_json.specs.Read.{read}
 use Rattle.ring_id.specs.Refusals.{word_in_table}
 use Rattle.ring_id.specs.declared.refusal.Refusal.{Refusal}
+use Rattle.ring_id.specs.declared.refusal.Refusal.TheVariants as refused
 use Rattle.ring_any.specs.declared.any.Any.{Any}
 use Rattle.ring_events.specs.declared.event.Command.TheVariants as command
 use Rattle.ring_events.specs.declared.reply.Reply.TheVariants as reply
@@ -16,7 +17,7 @@ use Rattle.ring_http.specs.Asking.{AddsPicture, AddsPictures, AddsQuestions, IsP
 use Rattle.ring_http.specs.Json.{group_value, groups_value, line_of}
 use Rattle.ring_http.specs.Metrics.{metrics_of}
 use Rattle.ring_http.specs.declared.asking.Lack.{Lack}
-use Rattle.ring_http.specs.declared.asking.Lack.TheVariants.{NoGroup, Odd, Unplaced}
+use Rattle.ring_http.specs.declared.asking.Lack.TheVariants.{Late, NoGroup, Unplaced}
 use Rattle.ring_http.specs.declared.beside.Figures.{Figures}
 use Rattle.ring_http.specs.declared.picture.GroupPicture.{GroupPicture}
 use Rattle.ring_http.specs.declared.route.Resource.{Resource}
@@ -75,8 +76,8 @@ refusal_text refusal = codes "no " ++ (word_in_table refusal ++ codes "\n")
 -- why there is no answer
 abbrev pub reason_of : Lack → List ℕ
 reason_of (Unplaced refusal) = refusal_text refusal
-reason_of (NoGroup refusal) = refusal_text refusal
-reason_of Odd = codes "no answer\n"
+reason_of NoGroup = refusal_text refused.NoGroup
+reason_of Late = codes "no answer\n"
 
 -- why there is no picture
 abbrev pub no_picture : List ℕ
@@ -84,9 +85,9 @@ no_picture = codes "no picture: no term was started since ringd began\n"
 
 -- the status where a group was asked about and there is no answer
 abbrev pub fault_code : Lack → ℕ
-fault_code (NoGroup refusal) = 404
+fault_code NoGroup = 404
 fault_code (Unplaced refusal) = 503
-fault_code Odd = 503
+fault_code Late = 503
 
 -- The response has this status, and a text of this type. If an allocation failed for its text or its
 -- field, it is a 503 without a text and without a type.

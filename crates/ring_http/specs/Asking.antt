@@ -3,7 +3,7 @@
 use Rattle.std.specs.Prelude.{◌≡◌, ◌≤◌, ◌<◌, ◌+◌, ℕ, List, [], ◌∷◌, ◌++◌, Option, None, Some, All, map}
 use Rattle.std.specs.List.{flat_map}
 use Rattle.ring_id.specs.Identity.{number_of}
-use Rattle.ring_id.specs.declared.refusal.Refusal.{Refusal}
+use Rattle.ring_id.specs.declared.refusal.Refusal.TheVariants as refused
 use Rattle.ring_any.specs.declared.any.Any.{Any}
 use Rattle.ring_events.specs.declared.event.Command.{Command}
 use Rattle.ring_events.specs.declared.event.Command.TheVariants.{Groups, Members, Terms, Who}
@@ -14,7 +14,7 @@ use Rattle.ring_table.specs.Accesses.{LeavesOut}
 use Rattle.ring_table.specs.declared.entry.Entry.{Entry}
 use Rattle.ring_table.specs.declared.entry.Entry.TheVariants.{Call, Filing}
 use Rattle.ring_http.specs.declared.asking.Lack.{Lack}
-use Rattle.ring_http.specs.declared.asking.Lack.TheVariants.{NoGroup, Odd, Unplaced}
+use Rattle.ring_http.specs.declared.asking.Lack.TheVariants.{Late, NoGroup, Unplaced}
 use Rattle.ring_http.specs.declared.picture.GroupPicture.{GroupPicture}
 
 -- a place in a response, given the number that is added to each, and how many the access has
@@ -86,18 +86,18 @@ module _ (session : ℕ) where
     pub pictured : ArePictured adds.added groups
     pub named : map (λ group. group.name) groups ≡ names
 
-  -- The last answer is this refusal.
-  pub record EndsRefused (refusal : Refusal) (added : List (Entry Any)) : Type 0 where
+  -- The last answer is that there is no such group.
+  pub record EndsRefused (added : List (Entry Any)) : Type 0 where
     pub earlier : List (Entry Any)
     pub command : Command Any
-    pub whole : added ≡ earlier ++ Call session command (Refused refusal) ∷ []
+    pub whole : added ≡ earlier ++ Call session command (Refused refused.NoGroup) ∷ []
 
-  -- why there is no answer: a question was not placed, the last one was refused, or it was answered
-  -- otherwise or at a place that did not rise
+  -- why there is no answer: a question was not placed, there is no such group, or the last question
+  -- was answered at a place that did not rise
   abbrev pub Because : Lack → List (Entry Any) → Type 0
   Because (Unplaced refusal) added = LeavesOut refusal
-  Because (NoGroup refusal) added = EndsRefused refusal added
-  Because Odd added = Unit {0}
+  Because NoGroup added = EndsRefused added
+  Because Late added = Unit {0}
 
   -- Questions were added, and there is no answer.
   pub record Lacks (lack : Lack) (mine now : List (Entry Any)) : Type 0 where

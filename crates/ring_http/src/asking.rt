@@ -1,8 +1,11 @@
 //! What the members and the terms of groups are, as one session asks a table.
 ghost use Rattle.std.specs.Prelude.{◌≡◌, ◌≤◌, ◌+◌, ◌++◌, ◌^◌, IfErr, IfOk, OnOk};
 ghost use Rattle.ring_id.specs.declared.refusal.Refusal.TheVariants.{NoMemory};
+ghost use Rattle.ring_events.specs.declared.reply.Reply.TheVariants as variant;
+ghost use Rattle.ring_any.specs.Any.{any_greatest, any_two_way, any_winner};
+ghost use Rattle.ring_table.specs.Accesses.{HasStep};
 ghost use Rattle.ring_http.specs.Asking.{IsPlaceAfter, IsPlaceFrom, Lacks, hears_of};
-ghost use Rattle.ring_http.specs.private.Asking.{AddsEach, Asks, AsksMembers, AsksNames, AsksTerms, GivesNames, GivesMembers, GivesTerms, Hears, IsAsked};
+ghost use Rattle.ring_http.specs.private.Asking.{AddsEach, Asks, AsksMembers, AsksNames, AsksTerms, GivesMembers, GivesTerms, Hears, IsAsked, SaysMembers, SaysNames, SaysTerms};
 
 use crate::beside::Beside;
 use ring_any::Any;
@@ -18,9 +21,9 @@ pub enum Lack {
     /// The question was not placed: out of memory, or the seat has used up its turns.
     Unplaced(Refusal),
     /// The table refused the question: there is no such group.
-    NoGroup(Refusal),
-    /// The answer is of another kind, or its place is not greater than the last one.
-    Odd,
+    NoGroup,
+    /// The place of the answer is not greater than the last one.
+    Late,
 }
 
 /// A session of a table, which asks the questions.
@@ -55,6 +58,8 @@ impl<A: Access<Any> + Drop, R: Wait, B: Beside> Asker<'_, A, R, B> {
         ensures seat { A.has_seat self.now.access.now seat.new }
         ensures ok { IfOk result (λ answer. Asks self.now.session command.now answer
             (A.mine seat.old) (A.mine seat.new)) }
+        ensures step { IfOk result
+            (HasStep any_winner any_two_way any_greatest command.now) }
         ensures err { IfErr result
             (λ lack. Lacks self.now.session lack (A.mine seat.old) (A.mine seat.new)) }
         ensures placed { OnOk result
@@ -66,7 +71,7 @@ impl<A: Access<Any> + Drop, R: Wait, B: Beside> Asker<'_, A, R, B> {
                 let told = self.base + at;
                 if told <= *place {
                     drop(reply);
-                    return Err(Lack::Odd);
+                    return Err(Lack::Late);
                 }
                 *place = told;
                 Ok(reply)
@@ -86,7 +91,7 @@ impl<A: Access<Any> + Drop, R: Wait, B: Beside> Asker<'_, A, R, B> {
         ensures rises { place.old ≤ place.new }
     {
         let reply = self.ask(seat, place, &Command::Groups)?;
-        names_in(reply)
+        Ok(names_in(reply))
     }
 
     /// The members of a group.
@@ -182,35 +187,37 @@ impl<A: Access<Any> + Drop, R: Wait, B: Beside> Asker<'_, A, R, B> {
 }
 
 // The groups that an answer lists.
-fn names_in(reply: Reply) -> Result<GroupList, Lack>
-    ensures { GivesNames reply result }
+fn names_in(reply: Reply) -> GroupList
+    requires { SaysNames reply }
+    ensures { reply ≡ variant.Groups result }
 {
     match reply {
-        Reply::Groups(list) => Ok(list),
-        Reply::Refused(refusal) => Err(Lack::NoGroup(refusal)),
-        _ => Err(Lack::Odd),
+        Reply::Groups(list) => list,
+        _ => unreachable!(),
     }
 }
 
-// The members that an answer lists.
+// The members that an answer lists, if there is such a group.
 fn members_in(reply: Reply) -> Result<MemberList, Lack>
+    requires { SaysMembers reply }
     ensures { GivesMembers reply result }
 {
     match reply {
         Reply::Members(list) => Ok(list),
-        Reply::Refused(refusal) => Err(Lack::NoGroup(refusal)),
-        _ => Err(Lack::Odd),
+        Reply::Refused(_) => Err(Lack::NoGroup),
+        _ => unreachable!(),
     }
 }
 
-// The leaders that an answer lists.
+// The leaders that an answer lists, if there is such a group.
 fn terms_in(reply: Reply) -> Result<TermList, Lack>
+    requires { SaysTerms reply }
     ensures { GivesTerms reply result }
 {
     match reply {
         Reply::Terms(list) => Ok(list),
-        Reply::Refused(refusal) => Err(Lack::NoGroup(refusal)),
-        _ => Err(Lack::Odd),
+        Reply::Refused(_) => Err(Lack::NoGroup),
+        _ => unreachable!(),
     }
 }
 

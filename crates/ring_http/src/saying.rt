@@ -159,8 +159,9 @@ fn put_reason(lack: Lack, out: &mut Rope) -> Result<(), AllocError>
     ensures { OnOk result (out.new.items ≡ out.old.items ++ reason_of lack) }
 {
     match lack {
-        Lack::Unplaced(refusal) | Lack::NoGroup(refusal) => put_refusal(refusal, out),
-        Lack::Odd => put(b"no answer\n", out),
+        Lack::Unplaced(refusal) => put_refusal(refusal, out),
+        Lack::NoGroup => put_refusal(Refusal::NoGroup, out),
+        Lack::Late => put(b"no answer\n", out),
     }
 }
 
@@ -178,7 +179,7 @@ pub(crate) fn fault_code(lack: Lack) -> StatusCode
     ensures { result ≡ fault_code lack }
 {
     match lack {
-        Lack::NoGroup(_) => StatusCode::NOT_FOUND,
-        Lack::Unplaced(_) | Lack::Odd => StatusCode::SERVICE_UNAVAILABLE,
+        Lack::NoGroup => StatusCode::NOT_FOUND,
+        Lack::Unplaced(_) | Lack::Late => StatusCode::SERVICE_UNAVAILABLE,
     }
 }

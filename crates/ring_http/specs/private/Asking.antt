@@ -1,6 +1,7 @@
 -- What is asked, step by step.
 use Rattle.std.specs.Prelude.{◌≡◌, ℕ, List, [], ◌∷◌, ◌++◌, Option, Result, Ok, Err, map}
 use Rattle.std.specs.List.{flat_map}
+use Rattle.ring_id.specs.declared.refusal.Refusal.TheVariants as refused
 use Rattle.ring_any.specs.declared.any.Any.{Any}
 use Rattle.ring_events.specs.declared.event.Command.{Command}
 use Rattle.ring_events.specs.declared.event.Command.TheVariants.{Groups, Members, Terms, Who}
@@ -11,7 +12,7 @@ use Rattle.ring_table.specs.declared.entry.Entry.{Entry}
 use Rattle.ring_table.specs.declared.entry.Entry.TheVariants.{Call}
 use Rattle.ring_http.specs.Asking.{AddsQuestions, IsQuestion, Lacks, asked_of, hears, hears_of, who_of}
 use Rattle.ring_http.specs.declared.asking.Lack.{Lack}
-use Rattle.ring_http.specs.declared.asking.Lack.TheVariants.{NoGroup, Odd, Unplaced}
+use Rattle.ring_http.specs.declared.asking.Lack.TheVariants.{Late, NoGroup, Unplaced}
 
 -- the command is a question
 abbrev pub IsAsked : ℕ → Command Any → Type 0
@@ -21,17 +22,30 @@ IsAsked session command = (answer : Reply) → IsQuestion session (Call session 
 abbrev pub Asks : ℕ → Command Any → Reply → List (Entry Any) → List (Entry Any) → Type 0
 Asks session command answer mine now = now ≡ mine ++ Call session command answer ∷ []
 
--- what a reply lacks that is no list
+-- a list of groups
+abbrev pub SaysNames : Reply → Type 0
+SaysNames (reply.Groups names) = Unit {0}
+SaysNames _ = ⊥
+
+-- a list of members, or that there is no such group
+abbrev pub SaysMembers : Reply → Type 0
+SaysMembers (reply.Members members) = Unit {0}
+SaysMembers (Refused refusal) = refusal ≡ refused.NoGroup
+SaysMembers _ = ⊥
+
+-- a list of terms, or that there is no such group
+abbrev pub SaysTerms : Reply → Type 0
+SaysTerms (reply.Terms leaders) = Unit {0}
+SaysTerms (Refused refusal) = refusal ≡ refused.NoGroup
+SaysTerms _ = ⊥
+
+-- why a reply has no list
 abbrev pub LacksList : Reply → Lack → Type 0
 LacksList answer (Unplaced refusal) = ⊥
-LacksList answer (NoGroup refusal) = answer ≡ Refused refusal
-LacksList answer Odd = Unit {0}
+LacksList answer NoGroup = answer ≡ Refused refused.NoGroup
+LacksList answer Late = ⊥
 
 -- the list in a reply
-abbrev pub GivesNames : Reply → Result (List (List ℕ)) Lack → Type 0
-GivesNames answer (Ok names) = answer ≡ reply.Groups names
-GivesNames answer (Err lack) = LacksList answer lack
-
 abbrev pub GivesMembers : Reply → Result (List ℕ) Lack → Type 0
 GivesMembers answer (Ok members) = answer ≡ reply.Members members
 GivesMembers answer (Err lack) = LacksList answer lack
