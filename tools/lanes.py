@@ -13,6 +13,8 @@ from heard import Heard
 
 MEMORY = 3_000_000_000  # what one check may take
 PAUSE = 5  # seconds between two looks: a thread for each crate looks
+SPARE = 0.7  # of a processor: if as much was idle since the last look, there is room for one more check
+TICKS = os.sysconf("SC_CLK_TCK")
 
 
 class Gate:
@@ -84,18 +86,42 @@ def processors():
     return len(os.sched_getaffinity(0))
 
 
-class Lanes:
-    """Lets as many checks run at a time as there are processors and memory for, and `beside` during a run of `rt ci`. Of
-    the checks that wait the heaviest is the next. `library` says where a crate's library is."""
+def idle_seconds():
+    """How long the processors on which this may run have had nothing to do, in all."""
+    fields = map(str.split, pathlib.Path("/proc/stat").read_text(encoding="utf-8").splitlines())
+    mine = {f"cpu{number}" for number in os.sched_getaffinity(0)}
+    return sum(int(it[4]) + int(it[5]) for it in fields if it[0] in mine) / TICKS
 
-    def __init__(self, gate=None, beside=1):
-        self.gate, self.beside, self.library = gate, beside, gate.library if gate else built_by_rt
-        self.at_work, self.waiting, self.changed = 0, [], threading.Condition()
+
+class Idleness:
+    """How much of the processors had nothing to do between two looks."""
+
+    def __init__(self):
+        self.looked, self.idle = time.monotonic(), idle_seconds()
+
+    def has_room(self):
+        """Whether there is room for one more check, by the time since the last look. That says nothing if it is short."""
+        now, idle = time.monotonic(), idle_seconds()
+        if now < self.looked + PAUSE / 2:
+            return False
+        spare = (idle - self.idle) / (now - self.looked)
+        self.looked, self.idle = now, idle
+        return spare > SPARE
+
+
+class Lanes:
+    """Lets as many checks run at a time as there are processors and memory for. During a run of `rt ci` a check begins only
+    if a processor has nothing to do: two checks that share one take a third more of its time. Of the checks that wait the
+    heaviest is the next. `library` says where a crate's library is."""
+
+    def __init__(self, gate=None):
+        self.gate, self.library = gate, gate.library if gate else built_by_rt
+        self.at_work, self.waiting, self.changed, self.idleness = 0, [], threading.Condition(), Idleness()
 
     def most(self):
         by_memory = self.at_work + free_memory() // MEMORY
         if self.gate and self.gate.is_at_work():
-            return min(self.beside, by_memory - 1)
+            return min(self.at_work + self.idleness.has_room(), by_memory - 1)
         return max(1, min(processors(), by_memory))
 
     @contextlib.contextmanager
