@@ -12,6 +12,8 @@ GROUP, MEMBERS = "watched", 16
 HEAD = re.compile(rb"HTTP/1\.1 200 [^\r]*\r\n(?:[^\r]+\r\n)*?content-length: ([0-9]+)\r\n(?:[^\r]+\r\n)*\r\n")
 # the shortest wait for answers, in seconds
 SHORTEST = 0.005
+# how often it is asked whether the first term is decided, and the seconds between
+TRIES, PAUSE = 1000, 0.01
 PLACE = re.compile(rb'"place":([0-9]+)')
 
 
@@ -75,6 +77,17 @@ class Session:
         for member in range(1, MEMBERS + 1):
             self.expect(b"join %s %d\n" % (GROUP.encode(), member), b"ok\n")
         self.expect(b"start %s\n" % GROUP.encode(), b"term 1\n")
+        for member in range(1, MEMBERS + 1):
+            self.wait_for_leader(member)
+
+    def wait_for_leader(self, member):
+        """Asks until a member knows its leader: polls would hear of that too."""
+        for _ in range(TRIES):
+            self.socket.sendall(b"who %s %d\n" % (GROUP.encode(), member))
+            if self.replies.readline().startswith(b"leader 1 "):
+                return
+            time.sleep(PAUSE)
+        raise Failed("the first term was not decided")
 
     def change(self):
         """One more member joins, or leaves."""
