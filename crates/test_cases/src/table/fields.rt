@@ -27,10 +27,10 @@ struct Field {
 pub enum Step {
     /// A caller's line gets this reply.
     Says(&'static [u8], &'static [u8]),
-    /// A campaign of these lines is told this.
+    /// A campaign whose client sends these lines writes this.
     Tells(&'static [u8], &'static [u8]),
-    /// A campaign of these lines ends, whichever of its calls fails. Then a caller's line gets this
-    /// reply.
+    /// A campaign whose client sends these lines ends, whichever of its calls fails. Then a caller's
+    /// line gets this reply.
     Fails(&'static [u8], &'static [u8], &'static [u8]),
     /// A term of the group `a` starts, and its one member learns that it leads.
     Elects,
@@ -83,8 +83,8 @@ impl Field {
         drop(reply);
     }
 
-    // Runs a campaign of these lines, whose read call and write call with these numbers fail.
-    // Returns its writer.
+    // Runs a campaign whose client sends these lines. Its read call and write call with these numbers
+    // fail. Returns its writer.
     fn serve<R: Abort + Wait + Clock>(
         &mut self,
         rt: &R,
@@ -99,7 +99,7 @@ impl Field {
         out
     }
 
-    // Stops the test unless a campaign of these lines is told `told`.
+    // Stops the test unless a campaign whose client sends these lines writes `told`.
     fn tells<R: Abort + Wait + Clock>(&mut self, rt: &R, alloc: Global, lines: &[u8], told: &[u8]) {
         let out = self.serve(rt, alloc, lines, [0, 0]);
         let found = (lines, out.taken());
