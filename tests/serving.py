@@ -5,12 +5,24 @@ A place is the number of a port, or the path of a socket as a text.
 
 import contextlib
 import pathlib
+import signal
 import socket
 import struct
+import sys
+import threading
 
 from ports import HOST, free_port
 
 PATIENCE = 20
+
+
+def end_by_signal(number, _):
+    """Ends a check that is stopped by a signal. Its `finally` clauses run, so the processes that it began end too."""
+    sys.exit(128 + number)
+
+
+if threading.current_thread() is threading.main_thread():
+    signal.signal(signal.SIGTERM, end_by_signal)
 
 
 class Differs(Exception):
@@ -113,6 +125,11 @@ class Client:
         linger = struct.pack("ii", 1, 0)
         self.socket.setsockopt(socket.SOL_SOCKET, socket.SO_LINGER, linger)
         self.socket.close()
+
+
+def was_killed(run):
+    """Sees that a run ended by SIGKILL, and not by itself before it was killed."""
+    same("how a run ended that was killed", run.wait(PATIENCE), -signal.SIGKILL)
 
 
 @contextlib.contextmanager

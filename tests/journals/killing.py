@@ -16,7 +16,7 @@ from journals.crashes import NAME, make_shared
 from journals.lives import asked, client_of, compare, kill_in_the_start, living
 from journals.shortening import see_rewriting, see_start
 from journals.talkers import Grower, Talker, counts_of, talk_all
-from serving import Differs
+from serving import Differs, was_killed
 
 CLIENTS = 16
 # How many lives one journal has.
@@ -37,7 +37,13 @@ LOOK = 0.002
 def watching(file):
     """Watches a journal while its service runs. The value is a list, which gets the text of each file that another took
     the place of."""
-    texts, is_over = [], threading.Event()
+    texts, faults, is_over = [], [], threading.Event()
+
+    def watch_all():
+        try:
+            watch()
+        except Exception as fault:  # (whatever it is: nobody else hears of it)
+            faults.append(fault)
 
     def watch():
         found = open(file, "rb")
@@ -53,13 +59,15 @@ def watching(file):
                 time.sleep(LOOK)
         found.close()
 
-    thread = threading.Thread(target=watch)
+    thread = threading.Thread(target=watch_all)
     thread.start()
     try:
         yield texts
     finally:
         is_over.set()
         thread.join()
+    if faults:
+        raise Differs(f"the journal was not watched to the end: {faults[0]!r}")
 
 
 class Chain:
@@ -105,9 +113,10 @@ class Chain:
         self.explain(logs + [log for talker in talkers for log in talker.take_logs()], texts)
 
     def kill_soon(self, life):
-        """Kills a life some time from now."""
+        """Kills a life some time from now. It must be there until then."""
         time.sleep(self.dice.uniform(0, LONGEST))
         life.run.kill()
+        was_killed(life.run)
 
     def explain(self, logs, texts):
         """Sees that the journal of a life explains each reply of that life, and names no second leader. `texts` are those

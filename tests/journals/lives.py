@@ -9,7 +9,7 @@ import time
 from identity import numbers_of
 from journals.changes import line_of
 from ports import free_port
-from serving import HOST, PATIENCE, Client, Differs, same, short, text_of
+from serving import HOST, PATIENCE, Client, Differs, same, short, text_of, was_killed
 
 # How often the program is started because somebody else took its port.
 TRIES = 5
@@ -68,10 +68,13 @@ def kill_in_the_start(program, file, seconds):
     config = file.with_name("start.toml")
     config.write_bytes(text_of(free_port()))
     run = subprocess.Popen([program, "run", str(config), "--journal", str(file)], stdin=subprocess.DEVNULL,
-                           stdout=subprocess.DEVNULL, stderr=subprocess.DEVNULL)
+                           stdout=subprocess.DEVNULL, stderr=subprocess.PIPE)
     time.sleep(seconds)
     run.kill()
-    run.wait()
+    _, error = run.communicate(timeout=PATIENCE)
+    if error != LISTEN_FAILED:  # (another program may have taken the port meanwhile)
+        same("standard error of a start that was killed", error, b"")
+        was_killed(run)
 
 
 def listing(program, file, **given):
@@ -81,8 +84,9 @@ def listing(program, file, **given):
 
 
 @contextlib.contextmanager
-def living(program, file, *words, **given):
-    """A life that listens, and is killed in the end. It must have written nothing to standard error."""
+def living(program, file, *words, by=signal.SIGKILL, **given):
+    """A life that listens, and is killed in the end, or by this signal before. It must not have ended by itself, and
+    must have written nothing to standard error."""
     life = Life(program, file, *words, **given)
     try:
         if not life.listens:
@@ -92,6 +96,7 @@ def living(program, file, *words, **given):
         error = life.kill()
     if error:
         raise Differs(f"standard error has {short(error)}")
+    same("how a life ended", life.run.returncode, -by)
 
 
 def asked(client, questions):

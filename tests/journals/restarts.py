@@ -136,7 +136,7 @@ def changes_take_no_memory_for_good(program, file):
 
 @check
 def a_signal_ends_a_life_like_a_crash(program, file):
-    with living(program, file) as life:
+    with living(program, file, by=signal.SIGTERM) as life:
         say(life, b"create a chang\n", b"ok\n")
         life.run.send_signal(signal.SIGTERM)
         same("status", life.run.wait(PATIENCE), -signal.SIGTERM)

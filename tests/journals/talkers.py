@@ -32,7 +32,7 @@ class Talker:
     def __init__(self, number, seed):
         self.number, self.dice = number, random.Random(f"{number} {seed}")
         self.shares = [number * SHARES + place + 1 for place in range(SHARES)]
-        self.own, self.logs, self.fault = [], [], None
+        self.own, self.logs, self.fault, self.was_cut = [], [], None, False
 
     def command(self):
         """Returns a group's name and a command about it."""
@@ -60,7 +60,8 @@ class Talker:
         return sum(len(log.replies) for log in self.logs)
 
     def talk(self, port, is_over):
-        """Sends commands over one connection, some at once, until it is over or the connection ends."""
+        """Sends commands over one connection, some at once, until it is over or the connection was cut."""
+        self.was_cut = True
         with contextlib.suppress(ConnectionError), contextlib.closing(Client(port)) as client:
             log = Log(client.socket.getsockname()[1])
             self.logs.append(log)
@@ -73,6 +74,7 @@ class Talker:
                     if not reply.endswith(b"\n"):
                         return
                     log.replies.append(reply[:-1].decode())
+            self.was_cut = False
 
     def take_logs(self):
         """Returns the logs so far, and forgets them."""
@@ -83,7 +85,7 @@ class Talker:
         """Talks, and keeps the fault if there is one."""
         try:
             self.talk(port, is_over)
-        except (Differs, OSError) as fault:
+        except Exception as fault:  # (whatever it is: nobody else hears of it)
             self.fault = fault
 
 
@@ -98,17 +100,21 @@ class Grower(Talker):
         return made
 
 
-def talk_all(talkers, port, is_over, meanwhile=lambda: None):
-    """Has all talk at once, each until it is over for it or its connection ends."""
+def talk_all(talkers, port, is_over, kill=None):
+    """Has all talk at once, each until it is over for it. If the program is killed meanwhile, each talks until its
+    connection ends. Otherwise no connection may end."""
     threads = [threading.Thread(target=talker.run, args=(port, lambda it=talker: is_over(it))) for talker in talkers]
     for thread in threads:
         thread.start()
-    meanwhile()
+    if kill:
+        kill()
     for thread in threads:
         thread.join()
     for talker in talkers:
         if talker.fault:
-            raise Differs(f"client {talker.number}: {talker.fault}")
+            raise Differs(f"client {talker.number}: {talker.fault!r}")
+        if talker.was_cut and not kill:
+            raise Differs(f"client {talker.number}: its connection ended")
 
 
 def counts_of(history, asked, replies, count):
