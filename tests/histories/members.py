@@ -16,6 +16,11 @@ OF_ALL = "all"
 SHARES = 4  # members that each client has in the group of all
 
 
+def see_nothing(client):
+    """Ends the sending of a client, which must get nothing more."""
+    same("what comes after all replies", client.told(b""), b"")
+
+
 class Lone:
     """A group that one user alone commands, and what it must answer."""
 
@@ -54,7 +59,7 @@ class Member:
                 client = Client(self.port)
                 for _ in range(self.dice.randrange(20, 200)):
                     self.commands += self.some(client)
-                self.dice.choice([client.close, client.reset, lambda: client.told(b"")])()
+                self.dice.choice([client.close, client.reset, lambda: see_nothing(client)])()
             self.commands += 1
             self.breach = None
         except (Differs, OSError) as error:
@@ -117,7 +122,7 @@ def one_after_another(port, connections):
         commands = [any_command(dice, range(1, 31)) for _ in range(dice.randrange(4))]
         lone.tell(client, commands)
         count += len(commands)
-        dice.choice([client.close, client.reset, lambda: client.told(b"")])()
+        dice.choice([client.close, client.reset, lambda: see_nothing(client)])()
     return count
 
 

@@ -19,7 +19,7 @@ def next_reply(replies):
     """The place and the reply of the next line."""
     line = replies.readline()
     if not line.endswith("\n"):
-        raise ValueError(f"{line!r} is no line")
+        raise EOFError(f"{line!r} is no line")
     return line[:-1].split(" ", 1)
 
 
@@ -54,13 +54,14 @@ class Client(threading.Thread):
     def run(self):
         try:
             self.talk()
-        except (OSError, ValueError) as fault:
+        except Exception as fault:  # (whatever it is: nobody else hears of it)
             self.fault = fault
 
     def run_until_killed(self):
-        """Talks to a program that is killed meanwhile."""
+        """Talks to a program that is killed meanwhile. A kill cuts connections and lines, and has no other fault."""
         self.run()
-        self.fault = None
+        if isinstance(self.fault, (OSError, EOFError)):
+            self.fault = None
 
     def talk(self):
         """Sends lines one at a time, or several at once, and keeps the replies."""
