@@ -109,8 +109,8 @@ def check_drip(trial):
         same(f"whether a slow client of {entrance} is let go", is_over(slow, 0.1), False)
         slow.send(QUESTIONS[entrance][2])
         slow.socket.settimeout(PATIENCE)
-        if not slow.line():
-            raise Differs(f"a slow client of {entrance} got no answer")
+        wanted = b"HTTP/1.1 200 OK\r\n" if entrance == "http" else b"no no-group\n"
+        same(f"the answer to a slow client of {entrance}", slow.line(), wanted)
         slow.close()
         silent.close()
     trial.said.append(f"a byte in {idle / 4} s keeps a place")

@@ -137,6 +137,11 @@ def visit(place, entrance, patience):
         return client.ask(b"join none 1\n" if entrance == "campaigns" else b"who none 1\n")
 
 
+def answer_at(entrance):
+    """What a visitor is answered."""
+    return b"ok\n" if entrance == "http" else b"no no-group\n"
+
+
 class Visits:
     """Clients that connect, ask, and leave."""
 
@@ -146,8 +151,7 @@ class Visits:
     def ask(self):
         """One client."""
         began = time.monotonic()
-        wanted = b"ok\n" if self.entrance == "http" else b"no no-group\n"
-        same("the answer to a new client", visit(self.place, self.entrance, PATIENCE), wanted)
+        same("the answer to a new client", visit(self.place, self.entrance, PATIENCE), answer_at(self.entrance))
         return began
 
 
@@ -161,10 +165,13 @@ class Strangers:
         """One client, until it is answered or leaves."""
         began = time.monotonic()
         try:
-            visit(self.place, self.entrance, TRY)
+            told = visit(self.place, self.entrance, TRY)
         except (OSError, Differs):
+            told = b""
+        if not told:
             self.turned_away += 1
             return None
+        same("the answer to a new client", told, answer_at(self.entrance))
         return began
 
 
@@ -183,7 +190,7 @@ class Other(threading.Thread):
                 if began is not None:
                     self.took.append(time.monotonic() - began)
                 self.stop.wait(self.pace)
-        except (Differs, OSError, ValueError, IndexError, TypeError) as fault:
+        except Exception as fault:  # (whatever it is: nobody else hears of it)
             self.fault = f"{type(fault).__name__}: {fault}"
 
 

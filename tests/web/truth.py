@@ -83,7 +83,7 @@ class Changer(threading.Thread):
     def run(self):
         try:
             self.change_all(Client(self.port), Web(self.web))
-        except (Differs, OSError) as fault:
+        except Exception as fault:  # (whatever it is: nobody else hears of it)
             self.fault = fault
 
     def change_all(self, client, web):
@@ -139,7 +139,7 @@ class Load:
             it.join()
         for it in self.changers:
             if it.fault and not value:
-                raise Differs(f"under load: {it.fault}")
+                raise Differs(f"under load: {it.fault!r}")
 
     def await_groups(self, web):
         """Waits until the groups are there."""
