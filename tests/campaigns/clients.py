@@ -1,6 +1,7 @@
 """Clients that campaign, each in a process of its own, and what they were told."""
 
 import contextlib
+import ctypes
 import os
 import selectors
 import signal
@@ -10,6 +11,8 @@ from serving import Client, Differs, same
 
 # What a client tells of itself, and not of a line that it was told.
 SIGN = b"sign"
+# A number of prctl: the system ends a process when its parent ends.
+END_WITH_PARENT = 1
 
 
 def campaign(port, group, number, tell):
@@ -60,8 +63,10 @@ class Member:
         self.pid = os.fork()
         if self.pid == 0:
             status = 1
+            ctypes.CDLL(None).prctl(END_WITH_PARENT, signal.SIGKILL)
             try:
-                campaign(port, group, number, tell)
+                with contextlib.suppress(OSError):  # (the program may have ended the connection)
+                    campaign(port, group, number, tell)
                 status = 0
             finally:
                 os._exit(status)
@@ -91,11 +96,13 @@ class Member:
         return at
 
     def bury(self):
-        """Ends its process for good."""
+        """Ends its process for good. If it ended by itself before, it had no fault."""
         with contextlib.suppress(ProcessLookupError):
             os.kill(self.pid, signal.SIGKILL)
-        os.waitpid(self.pid, 0)
+        _, status = os.waitpid(self.pid, 0)
         os.close(self.source)
+        if os.WIFEXITED(status):
+            same(f"status of the client {self.group} {self.number}", os.WEXITSTATUS(status), 0)
 
 
 class Field:
