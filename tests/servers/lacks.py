@@ -6,7 +6,7 @@ import resource
 from checking import listed
 from processes import figure_of
 from servers.program import is_refused
-from serving import PATIENCE, Client, Differs, ended, free_port, same, text_of
+from serving import PATIENCE, Client, Differs, ended, free_port, same, text_of, was_killed
 
 CHECKS, check = listed()
 
@@ -30,6 +30,7 @@ def run_waits_for_descriptors(program):
             client.close()
         run.kill()
         same("the rest of standard error", run.stderr.read(), b"")
+        was_killed(run)
 
 
 @check

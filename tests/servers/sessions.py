@@ -1,7 +1,7 @@
 """Checks of the sessions of `serve`: replies, elections, lines and clients next to each other."""
 
+import concurrent.futures
 import contextlib
-import threading
 import time
 
 from checking import listed
@@ -110,12 +110,11 @@ def lines_of_no_command_are_refused(program):
 @check
 def a_megabyte_of_lines_is_answered(program):
     count = 150000
-    with program.serving(1) as port:
+    with program.serving(1) as port, concurrent.futures.ThreadPoolExecutor(1) as pool:
         client = Client(port)
-        sender = threading.Thread(target=lambda: (client.send(b"groups\n" * count), client.end_sending()))
-        sender.start()
+        sender = pool.submit(lambda: (client.send(b"groups\n" * count), client.end_sending()))
         same("replies", client.all(), b"groups\n" * count)
-        sender.join()
+        sender.result(PATIENCE)
         client.close()
 
 

@@ -6,7 +6,7 @@ import pathlib
 import stat
 import subprocess
 
-from serving import PATIENCE, connected, ended, first_line, free_port, same, text_of
+from serving import PATIENCE, connected, ended, first_line, free_port, same, text_of, was_killed
 
 IN_USE, NO_SOCKET, FAILED = b"ringd: in use\n", b"ringd: not a socket\n", b"ringd: listen failed\n"
 
@@ -38,6 +38,7 @@ class Trial:
             yield run
             run.kill()
             same("what it wrote besides", run.communicate(timeout=PATIENCE), (b"", b""))
+            was_killed(run)
 
     def refused(self, fault, *words):
         """A start that ends with a fault and changes nothing."""
