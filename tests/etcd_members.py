@@ -29,7 +29,7 @@ class Members:
             self.start(each, "new")
         try:
             self.wait()
-        except TimeoutError:
+        except BaseException:  # (also if the check is stopped by a signal)
             self.end()
             raise
 

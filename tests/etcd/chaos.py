@@ -117,8 +117,14 @@ class Chaos:
                 for slot in self.slots:
                     slot.look()
                 time.sleep(0.02)
-        except Differs as fault:
+        except Exception as fault:  # (whatever it is: nobody else hears of it)
             self.fault = fault
+
+    def see_no_fault(self):
+        """Sees that no thread has ended by a fault."""
+        for fault in [self.fault, *(it.fault for it in self.clients + self.candidates)]:
+            if fault:
+                raise Differs(f"a thread ended by {fault!r}") from fault
 
     def changed(self):
         """The moments when changes were told, in their order."""
@@ -128,9 +134,7 @@ class Chaos:
         """Waits until a change is told after a moment."""
         until = time.monotonic() + LONG
         while not any(client.changed and client.changed[-1] > since for client in self.clients):
-            for fault in [self.fault, *(it.fault for it in self.clients + self.candidates)]:
-                if fault:
-                    raise fault
+            self.see_no_fault()
             if time.monotonic() > until:
                 raise Differs(f"for {LONG} seconds no change was told")
             time.sleep(0.02)
@@ -155,6 +159,7 @@ class Chaos:
         for thread in (keeper, *self.clients, *self.candidates):
             thread.is_over = True
             thread.join()
+        self.see_no_fault()
         longest = gaps.measured(self.changed())
         for name, seconds, count in longest:
             print(f"chaos: {name}, {count} times: at most {seconds:.1f} s without service", flush=True)

@@ -198,7 +198,7 @@ def goes_on(first, client):
 def begun(ends, program, folder, journal):
     """A run, which is killed with the scene."""
     run = Run(program, folder, journal, "--places")
-    ends.callback(run.kill)
+    ends.callback(run.end)
     return run
 
 

@@ -2,6 +2,7 @@
 
 import itertools
 import pathlib
+import signal
 import subprocess
 import threading
 import time
@@ -90,10 +91,16 @@ class Run:
             self.changed.wait_for(self.has_ended, seconds)
         return status, self.faults()
 
-    def kill(self):
-        """Kills it, and waits for its end."""
+    def end(self):
+        """Kills it if it has not ended yet. The answer is the status of its end, and the lines that tell of a fault."""
         self.run.kill()
-        self.wait_for_end()
+        return self.wait_for_end()
+
+    def kill(self):
+        """Kills it, and waits for its end. It must not have ended by itself."""
+        status, texts = self.end()
+        if status != -signal.SIGKILL:
+            raise Differs(f"it ended by itself, with status {status} and {short(texts)}")
 
     def client(self):
         """A client of its sessions."""

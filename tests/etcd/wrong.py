@@ -59,7 +59,7 @@ def lived(program, them, talker, is_over):
             pairs = talked(run, them, talker, is_over) if run.listens() else []
             return pairs, [] if is_over() and not run.has_ended() else ends_of(run)
         finally:
-            run.kill()
+            run.end()
 
 
 def talked(run, them, talker, is_over):
