@@ -32,7 +32,11 @@ class Life:
         self.environment = {**os.environ, **(environment or {})}
         for _ in range(TRIES):
             self.begin()
-            self.wait()
+            try:
+                self.wait()
+            except BaseException:  # (also if the check is stopped by a signal)
+                self.run.kill()
+                raise
             if self.listens or self.error != LISTEN_FAILED:
                 break
 
@@ -69,8 +73,10 @@ def kill_in_the_start(program, file, seconds):
     config.write_bytes(text_of(free_port()))
     run = subprocess.Popen([program, "run", str(config), "--journal", str(file)], stdin=subprocess.DEVNULL,
                            stdout=subprocess.DEVNULL, stderr=subprocess.PIPE)
-    time.sleep(seconds)
-    run.kill()
+    try:
+        time.sleep(seconds)
+    finally:
+        run.kill()
     _, error = run.communicate(timeout=PATIENCE)
     if error != LISTEN_FAILED:  # (another program may have taken the port meanwhile)
         same("standard error of a start that was killed", error, b"")
