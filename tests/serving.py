@@ -14,10 +14,14 @@ import threading
 from ports import HOST, free_port
 
 PATIENCE = 20
+# How many seconds a check that is stopped may take to end what it began. Then the system ends it.
+LAST = 60
 
 
 def end_by_signal(number, _):
-    """Ends a check that is stopped by a signal. Its `finally` clauses run, so the processes that it began end too."""
+    """Ends a check that is stopped by a signal, and the processes that it began. Another signal does not disturb that."""
+    signal.signal(number, signal.SIG_IGN)
+    signal.alarm(LAST)
     sys.exit(128 + number)
 
 
