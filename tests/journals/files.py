@@ -178,8 +178,7 @@ def a_journal_is_listed_while_it_grows(program, file):
             same("reply", client.ask(b"create g%d chang\n" % number), b"ok\n")
             client.send(b"join g%d 5/9\njoin g%d 7\n" % (number, number) * 20)
             ran = listing(program, file)
-            for _ in range(40):
-                client.line()
+            same("replies", b"".join(client.line() for _ in range(40)), b"ok\nok\n" + b"no member\n" * 38)
             same("status and standard error", (ran.returncode, ran.stderr), (0, b""))
             lines = ran.stdout.splitlines()
             same("groups that are listed", sum(line.startswith(b"group ") for line in lines), number + 1)

@@ -94,7 +94,7 @@ def many_terms_go_on_over_inboxes_of_one(program, file):
                 replies = asked(client, [(name, ("who", it)) for name in names for it in (3, 1, 2)])
             same("members that know no leader", sum(not reply.startswith("leader ") for reply in replies), 0)
             if workers == 1:
-                asked(client, [(name, ("start",)) for name in names])
+                same("replies", asked(client, [(name, ("start",)) for name in names]), ["term 2"] * len(names))
 
 
 @check
