@@ -1,5 +1,6 @@
 """Checks of a journal's file, one by one: its text, its torn end, its copies and what is next to it."""
 
+import stat
 import subprocess
 import time
 
@@ -41,6 +42,27 @@ def a_restart_keeps_each_line(program, file):
 def names_next_to(file):
     """Returns the names of the files in a journal's folder, without configurations."""
     return sorted(path.name for path in file.parent.iterdir() if path.suffix != ".toml")
+
+
+@check
+def nobody_but_its_owner_can_use_a_journal(program, file):
+    """Nobody else may read its files, or keep a service from starting by a lock on one of them."""
+    wanted = {file.name: 0o600, f"{file.name}.lock": 0o600}
+    for mask in (0, 0o22, 0o77):
+        for what in ("new files", "after a restart"):
+            with living(program, file, umask=mask):
+                same(f"the modes under the umask {mask:03o}, {what}", modes_next_to(file), wanted)
+        for name in wanted:
+            file.with_name(name).unlink()
+    file.write_bytes(first_line(1))
+    file.chmod(0o644)
+    with living(program, file, umask=0o22):
+        same("the modes if others could read the file", modes_next_to(file), wanted)
+
+
+def modes_next_to(file):
+    """Returns the modes of the files in a journal's folder, without configurations."""
+    return {name: stat.S_IMODE(file.with_name(name).lstat().st_mode) for name in names_next_to(file)}
 
 
 @check

@@ -26,8 +26,9 @@ LISTEN_FAILED = b"ringd: listen failed\n"
 class Life:
     """A run of the program over a journal. `listens` says whether it listens; else it has ended."""
 
-    def __init__(self, program, file, *words, environment=None, folder=None, user=None, workers=2, inbox=1024):
-        self.folder, self.user, self.workers, self.inbox = folder or file.parent, user, workers, inbox
+    def __init__(self, program, file, *words, environment=None, folder=None, user=None, umask=-1, workers=2,
+                 inbox=1024):
+        self.folder, self.user, self.umask, self.workers, self.inbox = folder or file.parent, user, umask, workers, inbox
         self.words = [program, "run", "CONFIG", *(["--journal", str(file)] if file is not None else []), *words]
         self.environment = {**os.environ, **(environment or {})}
         for _ in range(TRIES):
@@ -48,7 +49,7 @@ class Life:
         drop = (lambda: os.setuid(self.user)) if self.user else None
         self.run = subprocess.Popen([config if word == "CONFIG" else word for word in self.words],
                                     stdin=subprocess.DEVNULL, stdout=subprocess.PIPE, stderr=subprocess.PIPE,
-                                    env=self.environment, cwd=self.folder, preexec_fn=drop)
+                                    env=self.environment, cwd=self.folder, preexec_fn=drop, umask=self.umask)
 
     def wait(self):
         """Waits until the program says that it listens, or ends."""

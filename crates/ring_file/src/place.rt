@@ -9,7 +9,12 @@ use ring_journal::Batch;
 use std::alloc::AllocError;
 use std::fs::{File, Files, OpenOptions, TryLockError};
 use std::io::{Read, Write};
+use std::os::unix::fs::OpenOptionsExt;
 use std::{fs, io};
+
+// The mode of the files that are made. Nobody but their owner can read them, or keep a service from
+// starting by a lock on one of them.
+const OWNER_ALONE: u32 = 0o600;
 
 /// Why a journal cannot be used.
 #[derive(Clone, Copy, Debug, PartialEq, Eq)]
@@ -60,9 +65,9 @@ pub struct Place {
 impl Place {
     /// Takes the place of the journal at `path`, by a lock on the file `path.lock`.
     ///
-    /// System calls: `openat` of `path.lock`, which makes that file if there is none, and `flock`,
-    /// which does not wait. Returns `InUse` if another process has the lock. The lock file is never
-    /// removed.
+    /// System calls: `openat` of `path.lock`, which makes that file with mode 0600 if there is none,
+    /// and `flock`, which does not wait. Returns `InUse` if another process has the lock. The lock
+    /// file is never removed.
     pub fn take<R: Files<File = File> + AllocGlobal>(
         rt: &R,
         path: &str,
@@ -76,6 +81,7 @@ impl Place {
             .read(true)
             .write(true)
             .create(true)
+            .mode(OWNER_ALONE)
             .open(rt, lock_path.as_str());
         let lock = opened.map_err(unreadable)?;
         match lock.try_lock() {
@@ -113,9 +119,9 @@ impl Place {
     /// file.
     ///
     /// System calls: `unlink` of `path.new`, which an earlier life may have left. Then `openat` of
-    /// a new file `path.new`, `write` of the text and of zeros, and `fsync`. Then `rename` to
-    /// `path`, `openat` of its folder and `fsync` of that. So `path` is the old file at each
-    /// moment, or the new one with the whole text. After an error it may be either.
+    /// a new file `path.new` with mode 0600, `write` of the text and of zeros, and `fsync`. Then
+    /// `rename` to `path`, `openat` of its folder and `fsync` of that. So `path` is the old file at
+    /// each moment, or the new one with the whole text. After an error it may be either.
     pub fn begin<R: Files<File = File> + Replaces + AllocGlobal + Copy + Drop>(
         self,
         rt: &R,
@@ -167,6 +173,7 @@ fn write_new<R: Files<File = File>>(
         .read(true)
         .write(true)
         .create_new(true)
+        .mode(OWNER_ALONE)
         .open(rt, path)?;
     file.write_all(text)?;
     file.write_all(zeros)?;
