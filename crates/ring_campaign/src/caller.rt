@@ -41,6 +41,9 @@ impl<A: Access<Any> + Drop, R: Wait + Clock> Caller<'_, A, R> {
     ///
     /// Each time it is given at the head of the queue. A start waits for its turn while it holds
     /// what tells the workers, and a seat that keeps the table may wait for that.
+    ///
+    /// Before it is given again, all entries that the seat has seen are kept for good. If they
+    /// cannot be kept, the call does not return. That is tested, not proved.
     pub(crate) fn insist(&self, seat: &mut A::Seat, command: &Command<Any>) -> Reply
         requires { A.has_seat self.now.access.now seat.old }
         ensures seat { A.has_seat self.now.access.now seat.new }
@@ -54,6 +57,9 @@ impl<A: Access<Any> + Drop, R: Wait + Clock> Caller<'_, A, R> {
             if let Some(reply) = placed {
                 return reply;
             }
+            // A failed journal refuses each command. To settle reports that failure, and the process
+            // then ends.
+            self.access.settle(self.rt, seat);
             thread::sleep(self.rt, Duration::from_millis(PAUSE));
         }
         unreachable!()
