@@ -241,11 +241,12 @@ turned_gains session group node mine now (Placed answer place) a refused = inr (
 turned_gains session group node mine now (Unplaced refusal) a refused = inl a.1
 
 -- whatever was read and written, the seat gained the entries of a campaign
-pub campaign_gains : {S V : Type 0} (reading : S → Reading → S → Type 0) (writing : V → Writing → V → Type 0) (session : ℕ) (mine now : List (Entry Any)) (reader reader_now : S) (writer writer_now : V)
-    → Campaigns reading writing session mine reader writer now reader_now writer_now → GainsCampaign session mine now
-campaign_gains reading writing session mine now reader reader_now writer writer_now (inl none) = inl none.same
-campaign_gains reading writing session mine now reader reader_now writer writer_now (inr (inl none)) = inl none.same
-campaign_gains reading writing session mine now reader reader_now writer writer_now (inr (inr asked)) = go asked.joins
+pub campaign_gains : {S V : Type 0} (reading : S → Reading → S → Type 0) (writing : V → Writing → V → Type 0) (session : ℕ) (mine now : List (Entry Any)) (reader reader_now : S) (writer writer_now : V) (refused : Bool)
+    → Campaigns reading writing session mine reader writer now reader_now writer_now refused → GainsCampaign session mine now
+campaign_gains reading writing session mine now reader reader_now writer writer_now true none = inl none.same
+campaign_gains reading writing session mine now reader reader_now writer writer_now false (inl none) = inl none.same
+campaign_gains reading writing session mine now reader reader_now writer writer_now false (inr (inl none)) = inl none.same
+campaign_gains reading writing session mine now reader reader_now writer writer_now false (inr (inr asked)) = go asked.joins
   where
     go : Joins reading writing session asked.group asked.node mine asked.asked writer now reader_now writer_now → GainsCampaign session mine now
     go (inl turned) = turned_gains session asked.group asked.node mine now turned.answer turned.answered turned.refused

@@ -2,7 +2,7 @@
 -- reader and its writer end, a member that joined is taken out. The client gets the reply to its
 -- join, and then each answer to `who` that differs from the one before. They come in the order of
 -- the entries of the seat.
-use Rattle.std.specs.Prelude.{◌≡◌, ◌⊎◌, ℕ, true, false, List, [], ◌∷◌, ◌++◌}
+use Rattle.std.specs.Prelude.{◌≡◌, ◌⊎◌, ℕ, Bool, true, false, List, [], ◌∷◌, ◌++◌}
 use Rattle.std.specs.List.{flat_map, list_all}
 use Rattle.ring_id.specs.Identity.{number_of}
 use Rattle.ring_id.specs.declared.refusal.Refusal.{Refusal}
@@ -138,13 +138,21 @@ module _ {S V : Type 0} (reading : S → Reading → S → Type 0) (writing : V 
       pub unread : reader_now ≡ reader
       pub silent : writer_now ≡ writer
 
-    -- No first line came, or it spells no join and is refused. The seat gained no entry.
+    -- No first line came. The client got nothing, and the seat gained no entry.
+    pub record AsksNothing : Type 0 where
+      pub same : now ≡ mine
+      pub first : Next
+      pub read : GivesFirst reading reader first reader_now
+      pub none : IsNoLine first
+      pub silent : writer_now ≡ writer
+
+    -- The first line spells no join, and is refused. The seat gained no entry.
     pub record AsksNoJoin : Type 0 where
       pub same : now ≡ mine
       pub first : Next
       pub read : GivesFirst reading reader first reader_now
-      pub answered : (IsNoLine first × (writer_now ≡ writer))
-          ⊎ (IsNoJoin first × Given writing writer (reply_line (Refused BadLine)) writer_now)
+      pub no_join : IsNoJoin first
+      pub told : Given writing writer (reply_line (Refused BadLine)) writer_now
 
     -- The first line spells a join.
     pub record HasAsked : Type 0 where
@@ -154,6 +162,7 @@ module _ {S V : Type 0} (reading : S → Reading → S → Type 0) (writing : V 
       pub asks : AsksJoin reading reader group node asked
       pub joins : Joins group node mine asked writer now reader_now writer_now
 
-    -- a campaign
-    abbrev pub Campaigns : Type 0
-    Campaigns = HasNoMemory ⊎ AsksNoJoin ⊎ HasAsked
+    -- a campaign, and whether its first line was refused
+    abbrev pub Campaigns : Bool → Type 0
+    Campaigns true = AsksNoJoin
+    Campaigns false = HasNoMemory ⊎ AsksNothing ⊎ HasAsked

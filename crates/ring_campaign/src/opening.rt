@@ -2,8 +2,10 @@
 ghost use Rattle.std.specs.Prelude.{◌≡◌, ◌⊎◌, ℕ, List};
 ghost use Rattle.ring_events.specs.declared.event.Command.TheVariants as command;
 ghost use Rattle.ring_events.specs.declared.event.Event.TheVariants.{Client};
-ghost use Rattle.ring_grammar.specs.Spelling.{Spells};
-ghost use Rattle.ring_campaign.specs.Campaigns.{Campaigns, no_line_yet};
+ghost use Rattle.ring_events.specs.declared.reply.Reply.TheVariants.{Refused};
+ghost use Rattle.ring_grammar.specs.Spelling.{Spells, reply_line};
+ghost use Rattle.ring_id.specs.declared.refusal.Refusal.TheVariants.{BadLine};
+ghost use Rattle.ring_campaign.specs.Campaigns.{Campaigns, Given, no_line_yet};
 ghost use Rattle.ring_campaign.specs.Entries.{GainsCampaign};
 ghost use Rattle.ring_campaign.specs.private.Telling.{Asked, IsWish, Wishes};
 
@@ -50,13 +52,21 @@ pub(crate) enum First {
 /// dropped. The campaign notices a change when a read call is interrupted, so the reader should
 /// interrupt a call after some milliseconds.
 ///
-/// A leader is missed if no term has begun, or if the leader of the last one is no member any more.
-/// Then a term is started. If that is refused, the client gets the refusal and the campaign ends.
-/// It also ends when a read call fails or finds the end of the input, or when a write fails.
+/// A term is started if there is nobody to follow. There are four such cases:
+///
+/// - no term has begun;
+/// - the leader of the last one is no member any more;
+/// - this member's number led the last one, which was over another connection;
+/// - the last one is undecided, and this member joined before all others.
+///
+/// If that start is refused, the client gets the refusal and the campaign ends. It also ends when a
+/// read call fails or finds the end of the input, or when a write fails.
 ///
 /// Then the member leaves. A term is started if the member led the last one or did not know its
 /// leader. These commands are tried again until they are placed. Before a reply is written, all
 /// entries that it was given from are kept for good.
+///
+/// Returns whether the first line was refused: it was read, and spells no join or is too long.
 pub fn campaign<A, R, I, O>(
     rt: &R,
     alloc: Global,
@@ -65,7 +75,7 @@ pub fn campaign<A, R, I, O>(
     session: u32,
     reader: &mut I,
     writer: &mut O,
-)
+) -> bool
 where
     A: Access<Any> + Drop,
     R: Wait + Clock,
@@ -74,11 +84,11 @@ where
     requires { A.has_seat access.now seat.old }
     ensures seat { A.has_seat access.now seat.new }
     ensures campaigns { Campaigns I.read_gives O.write_gives session (A.mine seat.old) reader.old
-        writer.old (A.mine seat.new) reader.new writer.new }
+        writer.old (A.mine seat.new) reader.new writer.new result }
     ensures gained { GainsCampaign session (A.mine seat.old) (A.mine seat.new) }
     ensures told { (seat.new ≡ seat.old) ⊎ A.is_settled seat.new }
 {
-    begin(rt, alloc, access, seat, session, reader, writer);
+    begin(rt, alloc, access, seat, session, reader, writer)
 }
 
 // Runs a campaign, without the clause that follows from the others.
@@ -90,7 +100,7 @@ fn begin<A, R, I, O>(
     session: u32,
     reader: &mut I,
     writer: &mut O,
-)
+) -> bool
 where
     A: Access<Any> + Drop,
     R: Wait + Clock,
@@ -99,20 +109,20 @@ where
     requires { A.has_seat access.now seat.old }
     ensures seat { A.has_seat access.now seat.new }
     ensures campaigns { Campaigns I.read_gives O.write_gives session (A.mine seat.old) reader.old
-        writer.old (A.mine seat.new) reader.new writer.new }
+        writer.old (A.mine seat.new) reader.new writer.new result }
     ensures told { (seat.new ≡ seat.old) ⊎ A.is_settled seat.new }
 {
     let Ok(mut text) = Vec::with_capacity(alloc, ROOM) else {
-        return;
+        return false;
     };
     let Ok(mut lines) = LineBuffer::new(alloc, READS) else {
-        return;
+        return false;
     };
     match first_line(&mut lines, reader) {
-        First::NoLine => {}
+        First::NoLine => false,
         First::NoJoin => {
-            spell(rt, &Reply::Refused(Refusal::BadLine), &mut text);
-            let _ = put(writer, &text);
+            refuse(rt, &mut text, writer);
+            true
         }
         First::Join(wish) => {
             let caller = Caller {
@@ -126,8 +136,17 @@ where
                 number: wish.node.number(),
             };
             candidate.join(wish.node, seat, reader, writer, &mut text);
+            false
         }
     }
+}
+
+// Writes that the first line is refused.
+fn refuse<R: Wait + Clock, O: Outlet>(rt: &R, text: &mut Vec<u8>, writer: &mut O)
+    ensures { Given O.write_gives writer.old (reply_line (Refused BadLine)) writer.new }
+{
+    spell(rt, &Reply::Refused(Refusal::BadLine), text);
+    let _ = put(writer, text);
 }
 
 // Reads the first line, and returns its content.
