@@ -18,11 +18,11 @@ use ring_node::Charter;
 use ring_table::{Access, Answer};
 use std::alloc::Global;
 use std::marker::Model;
-use std::sync::atomic::{AtomicBool, Ordering};
+use std::sync::atomic::{AtomicBool, AtomicU64, Ordering};
 use std::sync::{Arc, Mutex, Wait};
 
 /// The state that the sessions of a service share: the access to its table, and its passes to the
-/// workers.
+/// workers. It counts the lines that it did not read as a client command.
 #[derive(Drop)]
 pub struct Front<A: Drop> {
     alloc: Global,
@@ -30,6 +30,8 @@ pub struct Front<A: Drop> {
     pending: Mutex<PendingBegins>,
     // whether a begin may wait
     waits: AtomicBool,
+    // how many lines of sessions spelled no client command
+    unread: AtomicU64,
 }
 
 impl<A: Drop> Model for Front<A> {
@@ -48,6 +50,7 @@ impl<A: Access<Any> + Drop> Front<A> {
             access,
             pending: Mutex::new(pending),
             waits: AtomicBool::new(false),
+            unread: AtomicU64::new(0),
         }
     }
 
@@ -60,8 +63,20 @@ impl<A: Access<Any> + Drop> Front<A> {
             access,
             pending,
             waits: _,
+            unread: _,
         } = self;
         (access, pending.into_inner())
+    }
+
+    /// Returns how many lines of all sessions were answered `no bad-line`, modulo 2^64. Does not
+    /// allocate. The count is tested, not proved.
+    pub fn unread(&self) -> u64 {
+        self.unread.load(Ordering::SeqCst)
+    }
+
+    /// Counts a line that spells no client command.
+    pub(crate) fn count_unread(&self) {
+        self.unread.fetch_add(1, Ordering::SeqCst);
     }
 
     /// Serves one session by this seat: the writer gets one line for each line of the reader.

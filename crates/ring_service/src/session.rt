@@ -36,7 +36,7 @@ impl<'b, A: Access<Any> + Drop, R: Wait, F: Format> Session<'b, A, R, F> {
     }
 
     // Returns what is written for a question. A line that asked for no command is refused without
-    // the access.
+    // the access, and counted.
     #[inline(always)]
     fn answer<'a>(
         &'a self,
@@ -57,7 +57,10 @@ impl<'b, A: Access<Any> + Drop, R: Wait, F: Format> Session<'b, A, R, F> {
                 self.format
                     .write(self.front.answer(self.rt, seat, self.number, command))
             }
-            None => self.format.write(Answer::Unplaced(Refusal::BadLine)),
+            None => {
+                self.front.count_unread();
+                self.format.write(Answer::Unplaced(Refusal::BadLine))
+            }
         }
     }
 }

@@ -12,7 +12,7 @@ use ring_workers::OpenGate;
 use std::sync::Arc;
 
 // A service with one worker serves two sessions, one after the other, and is ended. Each line has
-// its reply, and each command its entry. No begin waits.
+// its reply, and each command its entry. The other lines are counted. No begin waits.
 #[test]
 fn a_service_answers_each_line_and_hands_over(rt: HostRuntime) {
     let alloc = rt.alloc();
@@ -23,6 +23,7 @@ fn a_service_answers_each_line_and_hands_over(rt: HostRuntime) {
     let (front, seat) = (ground.service.front(), &mut ground.one);
     tells(&rt, alloc, front, seat, 1, FIRST, FIRST_TOLD);
     tells(&rt, alloc, front, seat, 2, SECOND, SECOND_TOLD);
+    equal(&rt, "lines that were not read", front.unread(), 2);
     let (table, handed, waiting) = end(&rt, ground);
     let [calls, ..] = tally(&table);
     drop(table);
