@@ -9,11 +9,12 @@ from web.asking import METRICS, Web
 from web.metrics import of
 from web.refused import GOOD
 
-# The lines of a session that are refused, with the words. A line that is no command does not come to the table, and is
-# not counted.
+# The lines of a session that are refused, with the words.
 REFUSED = {b"create a chang": "exists", b"members none": "no-group", b"join a 1": "member", b"leave a 99": "not-member",
-           b"start empty": "empty", b"who empty 1": "no-term", b"who a 99": "not-in-term", b"hello": "bad-line"}
-UNCOUNTED = ("bad-line",)
+           b"start empty": "empty", b"who empty 1": "no-term", b"who a 99": "not-in-term", b"hello": "bad-line",
+           b"deliver a 1 left": "bad-line", b"groups" + 200 * b" ": "bad-line"}
+# First lines of campaigns that are no joins. The last one is longer than any line.
+NO_JOINS = (b"hello\n", b"groups\n", b"join a 0\n", b"join a 1" + 200 * b" " + b"\n")
 # as many as serve each port at a time without --sessions
 THREADS = 16
 # By how many bytes resident memory may differ that is read twice.
@@ -27,7 +28,7 @@ def check_figures(service):
     before = web.samples()
     metrics.check_names(before, not service.has_journal, service.has_journal)
     same("failed accepts", before["ringd_failed_accepts_total"], 0)
-    check_refusals(web, client)
+    check_refusals(service, web, client)
     check_clients(service, web)
     resident, seen = web.samples()["process_resident_memory_bytes"], used(service.run.pid)[2]
     if abs(resident - seen) > APART:
@@ -38,16 +39,27 @@ def check_figures(service):
     web.close()
 
 
-def check_refusals(web, client):
-    """Each refused command of a session is counted once. A scrape's own questions are counted too, always alike."""
+def check_refusals(service, web, client):
+    """Each refused line of a session is counted once, and each refused first line of a campaign. A scrape's own questions
+    are counted too, always alike."""
     first, before = web.samples(), web.samples()
     for line, word in REFUSED.items():
         same(line, client.ask(line + b"\n"), f"no {word}\n".encode())
+    words = [*REFUSED.values(), *([] if service.has_journal else refused_campaigns(service.campaigns))]
     after = web.samples()
     for word in metrics.REFUSALS:
         name = of("ringd_refusals_total", "refusal", word)
-        count = 0 if word in UNCOUNTED else list(REFUSED.values()).count(word)
-        same(name, after[name] - 2 * before[name] + first[name], count)
+        same(name, after[name] - 2 * before[name] + first[name], words.count(word))
+
+
+def refused_campaigns(place):
+    """The words by which campaigns are refused that do not begin with a join. Each of them has ended by then."""
+    for line in NO_JOINS:
+        campaign = Client(place)
+        campaign.send(line)
+        same(line, campaign.all(), b"no bad-line\n")
+        campaign.close()
+    return len(NO_JOINS) * ["bad-line"]
 
 
 def expect_clients(web, port, count):

@@ -76,12 +76,13 @@ impl<T: Tabled<Any> + Drop> ClientHandler for CampaignHandler<'_, T> {
         let mut writer = ToWrite(stream);
         let (alloc, front, seat) = (self.alloc, self.front, &mut self.seat);
         self.watch.enter(Port::Campaigns);
-        run_campaign(rt, alloc, front, seat, session, &mut reader, &mut writer);
+        let refused = run_campaign(rt, alloc, front, seat, session, &mut reader, &mut writer);
+        self.watch.count_first(refused);
         self.watch.leave(Port::Campaigns);
     }
 }
 
-// Runs one campaign by a seat.
+// Runs one campaign by a seat. Returns whether its first line was refused.
 fn run_campaign<R: Wait + Clock, I: Intake, O: Outlet, T: Tabled<Any> + Drop>(
     rt: &R,
     alloc: Global,
@@ -90,11 +91,11 @@ fn run_campaign<R: Wait + Clock, I: Intake, O: Outlet, T: Tabled<Any> + Drop>(
     session: u32,
     reader: &mut I,
     writer: &mut O,
-)
+) -> bool
     requires { seat.old.lock ≡ front.now.id }
     ensures seat { seat.new.lock ≡ front.now.id }
     ensures gained { GainsCampaign session seat.old.mine seat.new.mine }
     ensures told { (seat.new ≡ seat.old) ⊎ Settled seat.new }
 {
-    campaign(rt, alloc, front, seat, session, reader, writer);
+    campaign(rt, alloc, front, seat, session, reader, writer)
 }

@@ -219,7 +219,7 @@ fn answer<R: Wait + Clock, T: Tabled<Any> + Drop>(
         access: front,
         session,
         base,
-        beside: &watch.beside(rt),
+        beside: &watch.beside(rt, front.unread()),
     };
     asker.answer(seat, last, request, response)
 }

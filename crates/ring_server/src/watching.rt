@@ -161,14 +161,26 @@ impl Watch {
         let _ = self.directory.lock(rt).begin(charter);
     }
 
+    /// Counts the first line of a campaign, if it was refused as no join.
+    pub(crate) fn count_first(&self, refused: bool) {
+        if refused {
+            self.count_refusal(Refusal::BadLine);
+        }
+    }
+
     // Counts an answer that was this refusal.
     fn count_refusal(&self, refusal: Refusal) {
         self.refusals[place_of(refusal)].fetch_add(1, Ordering::SeqCst);
     }
 
-    /// Returns what is known by this watch. Its locks are taken by `rt`. Does not allocate.
-    pub fn beside<'a, R: Wait>(&'a self, rt: &'a R) -> Known<'a, R> {
-        Known { rt, watch: self }
+    /// Returns what is known by this watch. Its locks are taken by `rt`. `unread` lines of sessions
+    /// spelled no client command, and are counted as bad lines. Does not allocate.
+    pub fn beside<'a, R: Wait>(&'a self, rt: &'a R, unread: u64) -> Known<'a, R> {
+        Known {
+            rt,
+            watch: self,
+            unread,
+        }
     }
 
     // Returns how many clients of a port are served, and how many at most.
@@ -179,12 +191,15 @@ impl Watch {
         }
     }
 
-    // Returns the counts of refusals.
-    fn refusals(&self) -> [u64; 14] {
+    // Returns the counts of refusals. Those of the table have no bad lines: `unread` is added to
+    // those of campaigns.
+    fn refusals(&self, unread: u64) -> [u64; 14] {
         let mut counts = [0; 14];
         for (count, refusals) in counts.iter_mut().zip(&self.refusals) {
             *count = refusals.load(Ordering::SeqCst);
         }
+        let at = place_of(Refusal::BadLine);
+        counts[at] = counts[at].saturating_add(unread);
         counts
     }
 
@@ -229,6 +244,8 @@ fn resident_in(text: &[u8]) -> Option<u64> {
 pub struct Known<'a, R> {
     rt: &'a R,
     watch: &'a Watch,
+    // how many lines of sessions spelled no client command
+    unread: u64,
 }
 
 impl<R: Wait> Beside for Known<'_, R> {
@@ -248,7 +265,7 @@ impl<R: Wait> Beside for Known<'_, R> {
             campaigns,
             viewers: watch.served(&watch.viewers),
             failed_accepts: watch.failed_accepts.load(Ordering::SeqCst),
-            refusals: watch.refusals(),
+            refusals: watch.refusals(self.unread),
             resident: watch.resident(self.rt),
             journal,
         }

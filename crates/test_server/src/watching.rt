@@ -49,10 +49,10 @@ fn answers_are_counted_and_noted(rt: HostRuntime) {
     let watch = Watch::new(rt.alloc(), 1).expect(&rt, "no watch");
     let watch = Arc::new(rt.alloc(), watch).expect(&rt, "no watch");
     let _ = waiting_after(&rt, &CONFIG, &watch, false, &[(LINES, TOLD)]);
-    let known = watch.beside(&rt);
+    let known = watch.beside(&rt, 3);
     let figures = known.figures();
     let refusals = figures.refusals;
-    let wanted = [0, 2, 1, 0, 0, 0, 0, 0, 0, 0, 1, 0, 0, 0];
+    let wanted = [3, 2, 1, 0, 0, 0, 0, 0, 0, 0, 1, 0, 0, 0];
     equal(&rt, "refusals", refusals, wanted);
     let sessions = figures.sessions;
     equal(&rt, "sessions", sessions, Served { now: 0, limit: 1 });
@@ -85,7 +85,7 @@ fn a_restart_notes_the_groups_again(rt: HostRuntime) {
     let watch = watch.with_groups(rt.alloc(), table.book());
     drop(table);
     let watch = watch.expect(&rt, "no groups");
-    let known = watch.beside(&rt);
+    let known = watch.beside(&rt, 0);
     let found = (noted(&rt, &known, b"x"), noted(&rt, &known, b"y"));
     let wanted = (
         (Some(Any::LeLann), None),
@@ -97,7 +97,7 @@ fn a_restart_notes_the_groups_again(rt: HostRuntime) {
 
 // How many clients of each port are served.
 fn clients_of<R: Wait>(rt: &R, watch: &Watch) -> (u64, Option<u64>, u64) {
-    let figures = watch.beside(rt).figures();
+    let figures = watch.beside(rt, 0).figures();
     let campaigns = match figures.campaigns {
         Some(campaigns) => Some(campaigns.now),
         None => None,
@@ -120,12 +120,12 @@ fn clients_and_failed_accepts_are_counted(rt: HostRuntime) {
         let found = (during, clients_of(&rt, &watch));
         equal(&rt, "clients", found, (seen, (0, Some(0), 0)));
     }
-    let viewers = watch.beside(&rt).figures().viewers;
+    let viewers = watch.beside(&rt, 0).figures().viewers;
     equal(&rt, "viewers", viewers, Served { now: 0, limit: 5 });
     let acceptor = watch.heeded(NoClients);
     for failed in 1..4 {
         let has_failed = acceptor.accept().is_err();
-        let counted = watch.beside(&rt).figures().failed_accepts;
+        let counted = watch.beside(&rt, 0).figures().failed_accepts;
         equal(&rt, "accepts", (has_failed, counted), (true, failed));
     }
     drop(acceptor);
@@ -171,9 +171,9 @@ fn a_journal_is_metered(rt: HostRuntime) {
 #[test]
 fn resident_memory_is_read(rt: HostRuntime) {
     let watch = Watch::new(rt.alloc(), 1).expect(&rt, "no watch");
-    let none = watch.beside(&rt).figures().resident;
+    let none = watch.beside(&rt, 0).figures().resident;
     let watch = watch.with_memory(&rt);
-    let some = watch.beside(&rt).figures().resident;
+    let some = watch.beside(&rt, 0).figures().resident;
     drop(watch);
     let bytes = some.expect(&rt, "no memory was read");
     let found = (none, bytes, bytes % 4096, bytes > 4096);
@@ -184,7 +184,7 @@ fn resident_memory_is_read(rt: HostRuntime) {
 #[test]
 fn the_last_answers_are_remembered(rt: HostRuntime) {
     let watch = Watch::new(rt.alloc(), 1).expect(&rt, "no watch");
-    let known = watch.beside(&rt);
+    let known = watch.beside(&rt, 0);
     let none = (known.shown_at(0), known.shown_at(1));
     for place in 1..1026 {
         known.note_shown(place, 7);
