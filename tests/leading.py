@@ -4,6 +4,7 @@ import contextlib
 import os
 import pathlib
 import re
+import shutil
 import subprocess
 import sys
 import time
@@ -39,6 +40,16 @@ if way == "leave":
     tell("end")
 else:
     time.sleep(100)
+"""
+# What is found in place of setsid. It counts the starts of a campaign, of a command and of their keepers, and holds the
+# start whose number the file `hold` has, for as long as this file is there.
+SETSID = """#!/bin/sh
+case "$*" in *--address*|*/work.py*)
+    echo >> starts
+    starts=$(wc -l < starts)
+    while [ "$(cat hold 2> /dev/null)" = "$starts" ]; do sleep 0.01; done ;;
+esac
+exec {setsid} "$@"
 """
 
 
@@ -91,6 +102,21 @@ class Room(Program):
         """Starts ring-lead with these words."""
         return subprocess.Popen(words, env=self.env, cwd=self.folder, stdin=subprocess.DEVNULL,
                                 stdout=subprocess.PIPE, stderr=subprocess.PIPE, start_new_session=True)
+
+    @contextlib.contextmanager
+    def held(self, number):
+        """A run of the command above, held when it makes its start with this number, and what lets it go on."""
+        (self.folder / "bin").mkdir(exist_ok=True)
+        path = self.folder / "bin/setsid"
+        path.write_text(SETSID.format(setsid=shutil.which("setsid")), encoding="utf-8")
+        path.chmod(0o755)
+        hold, starts = self.folder / "hold", self.folder / "starts"
+        hold.write_text(str(number), encoding="ascii")
+        starts.write_bytes(b"")
+        self.env["PATH"] = f"{path.parent}:{os.environ['PATH']}"
+        with ended(self.start(self.work(3))) as run:
+            await_true(f"start {number}", lambda: len(starts.read_bytes()) == number)
+            yield run, hold.unlink
 
     def log(self):
         """What the commands have written so far."""
