@@ -41,9 +41,9 @@ def entry_of(line):
 
 
 def read(path):
-    """The entries of a journal."""
+    """The entries of a journal. A last line without its end is none: its write failed, or is not done."""
     with open(path, encoding="ascii") as lines:
-        return [entry_of(line) for line in lines]
+        return [entry_of(line) for line in lines if line.endswith("\n")]
 
 
 def order_faults(entries):

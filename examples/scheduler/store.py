@@ -10,14 +10,34 @@ reads the journal, and goes on from there.
     begin                         ->  epoch E        begins an epoch, with a number that no epoch had before
 
 A `take` or `did` with a token older than the fence is answered `no late`, and changes nothing.
+
+The store answers when the entry is on the disk. If a write fails, nobody knows what is there. So the store ends the
+connection, and refuses each later write in the same way, until it is started again.
 """
 
+import fcntl
 import os
 import socketserver
 import threading
 
 import journal
 from journal import Entry, Token
+
+
+def opened(path):
+    """Opens a journal for this process alone, and cuts off a last line without its end, which was never answered. The
+    file and its name are on the disk then."""
+    file = open(path, "a+b", buffering=0)
+    fcntl.flock(file, fcntl.LOCK_EX | fcntl.LOCK_NB)
+    file.seek(0)
+    file.truncate(file.readall().rfind(b"\n") + 1)
+    folder = os.open(os.path.dirname(os.path.abspath(path)), os.O_RDONLY)
+    try:
+        os.fsync(file.fileno())
+        os.fsync(folder)
+    finally:
+        os.close(folder)
+    return file
 
 
 class Store:
@@ -29,9 +49,10 @@ class Store:
         self.epoch = 0
         self.job = 1
         self.last = Entry("take", Token(0, 0))
-        for entry in journal.read(path) if os.path.exists(path) else []:
+        self.fault = None  # the first failed write
+        self.file = opened(path)
+        for entry in journal.read(path):
             self.count(entry)
-        self.file = open(path, "a", encoding="ascii")
 
     def count(self, entry):
         """Applies an entry to the state."""
@@ -43,10 +64,17 @@ class Store:
             self.job = entry.job + 1
 
     def write(self, entry):
-        """Writes an entry to the journal, and only then applies it."""
-        self.file.write(entry.line())
-        self.file.flush()
-        os.fsync(self.file.fileno())
+        """Writes an entry to the journal, and only then applies it. Raises OSError after a failed write."""
+        if self.fault:
+            raise self.fault
+        try:
+            line = entry.line().encode()
+            if self.file.write(line) != len(line):
+                raise OSError("the journal took half a line")
+            os.fsync(self.file.fileno())
+        except OSError as fault:
+            self.fault = fault
+            raise
         self.count(entry)
 
     def begin_epoch(self):
@@ -99,7 +127,7 @@ class Session(socketserver.StreamRequestHandler):
                 answer = self.server.store.answer(line.decode("ascii", "replace"))
                 self.wfile.write(answer.encode() + b"\n")
         except OSError:
-            pass  # (a worker that was killed)
+            pass  # (a worker that was killed, or a failed write)
 
 
 class Server(socketserver.ThreadingTCPServer):
