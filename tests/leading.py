@@ -116,6 +116,8 @@ class Room(Program):
         self.env["PATH"] = f"{path.parent}:{os.environ['PATH']}"
         with ended(self.start(self.work(3))) as run:
             await_true(f"start {number}", lambda: len(starts.read_bytes()) == number)
+            # A shell that has not begun to read takes a signal only after its next line.
+            await_true("ring-lead waits", lambda: state_of(run.pid) == "S")
             yield run, hold.unlink
 
     def log(self):
@@ -177,9 +179,14 @@ def is_one_line(error, form):
         raise Differs(f"standard error: {short(error)}")
 
 
+def state_of(pid):
+    """The letter of the state of a process, or None if there is no such process."""
+    try:
+        return pathlib.Path(f"/proc/{pid}/stat").read_text(encoding="ascii").rpartition(")")[2].split()[0]
+    except OSError:
+        return None
+
+
 def is_gone(pid):
     """Whether a process has ended."""
-    try:
-        return pathlib.Path(f"/proc/{pid}/stat").read_text(encoding="ascii").rpartition(")")[2].split()[0] == "Z"
-    except OSError:
-        return True
+    return state_of(pid) in (None, "Z")
