@@ -4,7 +4,7 @@ ghost use Rattle.ringctl.specs.private.Firsts.{IsFirst};
 
 use crate::addresses::path_of;
 use crate::fault::Fault;
-use crate::reply::{Reply, read_reply};
+use crate::reply::{Reply, reply_in};
 use std::alloc::Global;
 use std::io::{self, BufRead, BufReader, ErrorKind, Read, Write};
 use std::net::{Net, TcpStream, ToSocketAddrs};
@@ -78,7 +78,7 @@ impl<S: Read + Write + Drop> Client<S> {
         let Ok(_) = read_bounded(&mut self.reader, &mut self.reply) else {
             return Err(Fault::NoService);
         };
-        let reply = self.reply.as_str().strip_suffix('\n').and_then(read_reply);
+        let reply = self.reply.as_str().strip_suffix('\n').and_then(reply_in);
         reply.ok_or(Fault::NoService)
     }
 
@@ -103,7 +103,7 @@ impl<S: Read + Write + Drop> Client<S> {
                 _ => Err(Fault::NoService),
             };
         }
-        match self.reply.as_str().strip_suffix('\n').and_then(read_reply) {
+        match self.reply.as_str().strip_suffix('\n').and_then(reply_in) {
             Some(reply) => Ok(Some(reply)),
             None => Err(Fault::NoService),
         }

@@ -41,6 +41,8 @@ number. Under peterson another may lead.
 
 Without a command, ringctl sends each line of standard input and prints its reply.
 
+'ringd run --places' writes a place before each reply, and ringctl leaves it out.
+
 Of several addresses, ringctl asks the first that accepts a connection. If a part of the list
 is no address, the whole is one address, so the path of a socket may have commas.
 
