@@ -22,12 +22,12 @@ class Ringctl(Program):
         return subprocess.Popen([self.path, *words], stdin=stdin, stdout=stdout, stderr=subprocess.PIPE)
 
     @contextlib.contextmanager
-    def serving(self):
-        """`ringd run` as it listens, by its address."""
+    def serving(self, *words):
+        """`ringd run` with these words as it listens, by its address."""
         port = free_port()
         name = self.folder / "ring.toml"
         name.write_bytes(text_of(port))
-        command = [self.service, "run", str(name)]
+        command = [self.service, "run", str(name), *words]
         with ended(subprocess.Popen(command, stdout=subprocess.PIPE, stderr=subprocess.PIPE)) as run:
             same("the first line", run.stdout.readline(), b"listening 127.0.0.1:%d\n" % port)
             yield f"{HOST}:{port}"
