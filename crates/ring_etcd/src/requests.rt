@@ -29,13 +29,12 @@ pub(crate) fn put(alloc: Global, key: &str, value: &str) -> Result<String, Alloc
     format!(in alloc; "{{\"key\":\"{key}\",\"value\":\"{value}\"}}")
 }
 
-/// Reads the pairs from `key` on and before `end`, in the order of their keys, `PAGE` at most.
+/// Reads the pairs from `key` on and before `end`, `PAGE` at most. etcd sends the first ones in the
+/// order of their keys if it is not asked to sort. If it is, it reads all of them for each page.
 pub(crate) fn range(alloc: Global, key: &str, end: &str) -> Result<String, AllocError>
     ensures { IfOk result (λ text. string_bytes text ≡ range_text key.now end.now) }
 {
-    format!(in alloc;
-        "{{\"key\":\"{key}\",\"range_end\":\"{end}\",\"limit\":\"128\",\"sort_order\":\"ASCEND\",\"sort_target\":\"KEY\"}}"
-    )
+    format!(in alloc; "{{\"key\":\"{key}\",\"range_end\":\"{end}\",\"limit\":\"128\"}}")
 }
 
 /// Reads the value at a key.

@@ -10,11 +10,11 @@ put_text key value =
 abbrev pub get_text : List ℕ → List ℕ
 get_text key = codes "{\"key\":\"" ++ (key ++ codes "\"}")
 
--- reads the pairs from a key on and before another
+-- reads the first pairs from a key on and before another, and asks for no sort
 abbrev pub range_text : List ℕ → List ℕ → List ℕ
 range_text key end =
     codes "{\"key\":\"" ++ (key ++ (codes "\",\"range_end\":\"" ++ (end
-    ++ codes "\",\"limit\":\"128\",\"sort_order\":\"ASCEND\",\"sort_target\":\"KEY\"}")))
+    ++ codes "\",\"limit\":\"128\"}")))
 
 -- Puts a value at a key if its last put has this revision, and reads the key otherwise.
 abbrev pub claim_text : List ℕ → List ℕ → List ℕ → List ℕ
