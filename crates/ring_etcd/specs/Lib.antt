@@ -1,3 +1,4 @@
+pub mod Bases
 pub mod Done
 pub mod Entries
 pub mod Faults

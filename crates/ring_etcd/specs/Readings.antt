@@ -1,9 +1,10 @@
 -- What was read of a journal.
 use Rattle.std.specs.Prelude.{◌≡◌, ◌+◌, ◌⊎◌, ℕ, List, [], ◌++◌, Some, codes, decimal, flat_map, length, map}
 use Rattle.serde_json.specs.Data.{Data}
+use Rattle.ring_etcd.specs.Bases.{base_text}
 use Rattle.ring_etcd.specs.Done.{IsDone}
 use Rattle.ring_etcd.specs.Entries.{AreAdded}
-use Rattle.ring_etcd.specs.Found.{entry_in, key_in, pairs_in, value_in}
+use Rattle.ring_etcd.specs.Found.{bytes_at, entry_in, key_in, pairs_in, value_in}
 use Rattle.ring_etcd.specs.Holding.{joined}
 use Rattle.ring_etcd.specs.Keys.{codes_from, entry_code, piece_code}
 
@@ -41,10 +42,17 @@ pub record IsThere (entry : List ℕ) : Type 0 where
   pub reply : Data
   pub says : IsDone reply ⊎ (entry_in reply ≡ Some entry)
 
--- The pieces and the entries of a journal were read, from its first byte on.
+-- The reply of a read of the base says that this text counts, and that it has this many pieces.
+abbrev pub Counts : ℕ → ℕ → Data → Type 0
+Counts text pieces reply = bytes_at (codes "/kvs/0/value") reply ≡ Some (base_text text pieces)
+
+-- The pieces and the entries of a journal were read, from its first byte on. A reply says that its
+-- text counts.
 pub record IsFound (name : List ℕ) (text pieces : ℕ) (bytes : List ℕ) : Type 0 where
   pub next : ℕ
   pub was_read : IsRead name text pieces next [] bytes
+  pub reply : Data
+  pub counts : Counts text pieces reply
 
 -- A text of this many pieces was read, and the entries after it, from the first on. What these add
 -- was put after the old bytes in order. Then an entry by which a process takes over was put under

@@ -1,4 +1,3 @@
-pub mod Bases
 pub mod Faults
 pub mod Http
 pub mod Keys

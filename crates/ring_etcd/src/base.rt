@@ -1,6 +1,6 @@
 //! The base of a journal: the text that counts.
 ghost use Rattle.std.specs.Prelude.{◌≡◌, IfOk, IfSome, string_bytes};
-ghost use Rattle.ring_etcd.specs.private.Bases.{base_text};
+ghost use Rattle.ring_etcd.specs.Bases.{base_text};
 
 use std::alloc::{AllocError, Global};
 

@@ -3,7 +3,7 @@ ghost use Rattle.std.specs.Prelude.{◌≡◌, [], IfOk, decimal, string_bytes};
 ghost use Rattle.base64.specs.Engines.{standard};
 ghost use Rattle.base64.specs.GeneralPurpose.{encode_of};
 ghost use Rattle.ring_etcd.specs.Keys.{entry_key, piece_key};
-ghost use Rattle.ring_etcd.specs.private.Bases.{base_text};
+ghost use Rattle.ring_etcd.specs.Bases.{base_text};
 ghost use Rattle.ring_etcd.specs.private.Keys.{after_entries_key, after_pieces_key, base_key, before_text_key, before_texts_key, ids_key, lease_key};
 ghost use Rattle.ring_etcd.specs.private.Requests.{claim_text, entry_text, first_text, get_text, put_text, range_text, renew_text, switch_text};
 

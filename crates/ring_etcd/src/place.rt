@@ -1,7 +1,7 @@
 //! The place of a journal in etcd: taking it over, and reading it.
 ghost use Rattle.std.specs.Prelude.{◌≡◌, [], length, IfOk, IfSome, None, string_bytes};
 ghost use Rattle.ring_etcd.specs.Readings.{IsTaken, IsTakenBy};
-ghost use Rattle.ring_etcd.specs.private.Bases.{base_text};
+ghost use Rattle.ring_etcd.specs.Bases.{base_text};
 
 use crate::base::Base;
 use crate::cluster::Cluster;
@@ -199,8 +199,8 @@ where
     }
 }
 
-// The base with this value.
-fn base_of(alloc: Global, value: &[u8]) -> Result<Base, EtcdFault>
+/// Returns the base with this value.
+pub(crate) fn base_of(alloc: Global, value: &[u8]) -> Result<Base, EtcdFault>
     ensures { IfOk result (λ base. value.now ≡ base_text base.text base.pieces) }
 {
     match Base::of(alloc, value)? {

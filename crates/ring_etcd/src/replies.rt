@@ -152,6 +152,30 @@ impl Answer for Seen {
     }
 }
 
+/// The value at the key that was read, or `None` if nothing is there.
+#[derive(Drop)]
+pub(crate) struct There(pub(crate) Option<Vec<u8>>);
+
+impl Answer for There {
+    ghost use Rattle.std.specs.Prelude.{option_map};
+    ghost use Rattle.ring_etcd.specs.private.Replies.{IsValue};
+
+    ghost says = { λ reply there. IsValue reply (option_map (λ bytes. bytes.items) there.0) };
+
+    fn read(alloc: Global, reply: &Value) -> Result<There, Unread> {
+        if reply.pointer("/header/revision").is_none() {
+            return Err(Unread);
+        }
+        if reply.pointer("/kvs/0").is_none() {
+            return Ok(There(None));
+        }
+        match value_at(alloc, reply, "/kvs/0/value") {
+            Ok(Some(value)) => Ok(There(Some(value))),
+            _ => Err(Unread),
+        }
+    }
+}
+
 /// Whether the condition of a request held, so that it was carried out.
 #[derive(Clone, Copy)]
 pub(crate) struct Claimed(pub(crate) bool);
@@ -178,7 +202,7 @@ pub(crate) struct Pair {
     pub(crate) value: Vec<u8>,
 }
 
-/// The pairs of a range, in the order of their keys.
+/// The pairs of a range, in the order of the reply.
 #[derive(Drop)]
 pub(crate) struct Page {
     pub(crate) pairs: Vec<Pair>,

@@ -5,16 +5,17 @@ ghost use Rattle.base64.specs.GeneralPurpose.{encode_of};
 ghost use Rattle.ring_etcd.specs.Found.{pairs_in};
 ghost use Rattle.ring_etcd.specs.Keys.{entry_key, piece_key};
 ghost use Rattle.ring_etcd.specs.Hearing.{Hears};
-ghost use Rattle.ring_etcd.specs.private.Bases.{base_text};
+ghost use Rattle.ring_etcd.specs.Readings.{Counts};
+ghost use Rattle.ring_etcd.specs.Bases.{base_text};
 ghost use Rattle.ring_etcd.specs.private.Paging.{ArePairs};
 ghost use Rattle.ring_etcd.specs.private.Putting.{IsPut, IsPutOver, IsSwitched};
-ghost use Rattle.ring_etcd.specs.private.Replies.{IsRevision};
+ghost use Rattle.ring_etcd.specs.private.Replies.{IsRevision, IsValue};
 ghost use Rattle.ring_etcd.specs.private.Told.{IsToldPut, IsToldSwitched};
 
 use crate::base::Base;
 use crate::cluster::{Cluster, NoAnswer};
 use crate::keys::Keys;
-use crate::replies::{Page, Pair, Revision, Said};
+use crate::replies::{Page, Pair, Revision, Said, There};
 use crate::requests::{PUT, RANGE, TXN};
 use std::alloc::{AllocError, Global};
 use std::net::{Net, TcpStream};
@@ -100,13 +101,30 @@ impl<R: Net<Stream = TcpStream> + Clock + AllocGlobal + Drop> Store<R> {
         Ok(revision)
     }
 
-    /// Returns the value of the base, or `None` if the journal was never begun.
+    /// Returns the value of the base, or `None` if there is none, as the reply says that was heard.
     pub(crate) fn base(&mut self) -> Result<Option<Vec<u8>>, AskFault>
-        ensures { self.new.keys ≡ self.old.keys }
+        ensures keys { self.new.keys ≡ self.old.keys }
+        ensures told { IfOk result (λ base.
+            Hears (λ json. IsValue json (option_map (λ bytes. bytes.items) base))
+            self.old.cluster.heard self.new.cluster.heard
+            self.new.cluster.last.items) }
     {
         let body = self.keys.base_request()?;
-        let Page { mut pairs } = self.cluster.ask(RANGE, body.as_str())?;
-        Ok(pairs.pop().map(|pair| pair.value))
+        let There(base) = self.cluster.ask(RANGE, body.as_str())?;
+        Ok(base)
+    }
+
+    /// Returns whether this base counts, as the reply says that was heard.
+    pub(crate) fn counts(&mut self, base: Base) -> Result<bool, AskFault>
+        ensures keys { self.new.keys ≡ self.old.keys }
+        ensures told { IfOk result (λ counts.
+            Hears (λ json. IsTrue counts → Counts base.text base.pieces json)
+            self.old.cluster.heard self.new.cluster.heard
+            self.new.cluster.last.items) }
+    {
+        let value = base.value(self.alloc())?;
+        let there = self.base()?;
+        Ok(is_bytes(&there, value.as_str().as_bytes()))
     }
 
     /// Begins the journal by a base, unless it was begun before.

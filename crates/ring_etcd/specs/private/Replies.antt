@@ -9,6 +9,11 @@ use Rattle.ring_etcd.specs.Found.{bytes_at}
 abbrev pub base_in : Data → Option (List ℕ)
 base_in = bytes_at (codes "/responses/1/response_range/kvs/0/value")
 
+-- The key that was read has this value, or nothing is there.
+abbrev pub IsValue : Data → Option (List ℕ) → Type 0
+IsValue reply None = pointer (codes "/kvs/0") reply ≡ None
+IsValue reply (Some value) = bytes_at (codes "/kvs/0/value") reply ≡ Some value
+
 -- The reply has this revision at a place.
 pub record IsRevisionAt (path : List ℕ) (reply : Data) (revision : ℕ) : Type 0 where
   pub text : List ℕ

@@ -2,7 +2,7 @@ use Rattle.std.proofs.Common.{refl, subst, ◌∙◌}
 use Rattle.std.specs.Prelude.{string_bytes}
 use Rattle.ring_etcd.specs.Readings.{AreEntries}
 use Rattle.ring_etcd.specs.declared.keys.Keys.{Keys}
-use Rattle.ring_etcd.specs.private.Bases.{base_text}
+use Rattle.ring_etcd.specs.Bases.{base_text}
 use Rattle.ring_etcd.proofs.Gathering.{entries_behind, no_entries, put_behind}
 use Rattle.ring_etcd.proofs.store.Store.take_over.Goals as goal
 
