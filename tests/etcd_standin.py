@@ -70,7 +70,11 @@ class Keys:
         return {"response_range": {**said, "more": True} if len(found) > limit else said}
 
     def holds(self, compare):
-        value, created, changed = self.keys.get(compare["key"], (None, 0, 0))
+        """Whether a condition holds: of each key in a range, or of one key, also if it is not there."""
+        return all(self.holds_of(key, compare) for key in self.within(compare) or [compare["key"]])
+
+    def holds_of(self, key, compare):
+        value, created, changed = self.keys.get(key, (None, 0, 0))
         if compare["target"] == "CREATE":
             return created == int(compare["create_revision"])
         if compare["target"] == "MOD":

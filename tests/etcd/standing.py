@@ -293,6 +293,7 @@ def damages(keys):
     yield "nothing", base, keys[base]
     for value in (b"", b"ringd", b"ringd 2 5 2", b"ringd 1 05 2", b"ringd 1 5 3", b"ringd 1 6 1", b"\xff\0"):
         yield f"base-{len(value)}-{value[6:].hex()}", base, value
+    yield "base-missing", base, None
     yield "piece-missing", pieces[0], None
     yield "piece-other", pieces[1], keys[pieces[1]][:-3] + b"0" + keys[pieces[1]][-2:]
     yield "entry-missing", entries[1], None

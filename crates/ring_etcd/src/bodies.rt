@@ -4,7 +4,7 @@ ghost use Rattle.base64.specs.Engines.{standard};
 ghost use Rattle.base64.specs.GeneralPurpose.{encode_of};
 ghost use Rattle.ring_etcd.specs.Keys.{entry_key, piece_key};
 ghost use Rattle.ring_etcd.specs.Bases.{base_text};
-ghost use Rattle.ring_etcd.specs.private.Keys.{after_entries_key, after_pieces_key, base_key, before_text_key, before_texts_key, ids_key, lease_key};
+ghost use Rattle.ring_etcd.specs.private.Keys.{after_entries_key, after_pieces_key, after_texts_key, base_key, before_text_key, before_texts_key, ids_key, lease_key};
 ghost use Rattle.ring_etcd.specs.private.Requests.{claim_text, entry_text, first_text, get_text, put_text, range_text, renew_text, switch_text};
 
 use crate::base::Base;
@@ -50,15 +50,26 @@ impl Keys {
         requests::get(self.alloc(), key.as_str())
     }
 
-    /// Puts a base, if none is there.
+    /// Puts a base, if none is there and no key of a text.
     pub(crate) fn first_base_request(&self, base: Base) -> Result<String, AllocError>
         ensures { IfOk result (λ body. string_bytes body
             ≡ first_text (encode_of standard (base_key (string_bytes self.now.name)))
-            (encode_of standard (base_text base.text base.pieces))) }
+            (encode_of standard (base_text base.text base.pieces))
+            (encode_of standard (before_texts_key (string_bytes self.now.name)))
+            (encode_of standard (after_texts_key (string_bytes self.now.name)))) }
     {
+        let alloc = self.alloc();
         let key = self.base()?;
-        let value = encoded_base(self.alloc(), base)?;
-        requests::put_first(self.alloc(), key.as_str(), value.as_str())
+        let value = encoded_base(alloc, base)?;
+        let from = self.before_texts()?;
+        let to = self.after_texts()?;
+        requests::put_first(
+            alloc,
+            key.as_str(),
+            value.as_str(),
+            from.as_str(),
+            to.as_str(),
+        )
     }
 
     /// Puts a piece of a text.

@@ -13,7 +13,7 @@ ghost use Rattle.std.specs.Prelude.{◌≡◌, IfOk, string_bytes};
 ghost use Rattle.base64.specs.Engines.{standard};
 ghost use Rattle.base64.specs.GeneralPurpose.{encode_of};
 ghost use Rattle.ring_etcd.specs.Keys.{entry_key, piece_key};
-ghost use Rattle.ring_etcd.specs.private.Keys.{after_entries_key, after_pieces_key, base_key, before_text_key, before_texts_key, ids_key, lease_key};
+ghost use Rattle.ring_etcd.specs.private.Keys.{after_entries_key, after_pieces_key, after_texts_key, base_key, before_text_key, before_texts_key, ids_key, lease_key};
 
 use base64::engine::general_purpose::STANDARD;
 use std::alloc::{AllocError, Global};
@@ -124,6 +124,16 @@ impl Keys {
     {
         let name = self.name.as_str();
         let key = format!(in self.alloc; "ring/{name}/t/")?;
+        encoded(self.alloc, key.as_bytes())
+    }
+
+    /// Returns a key that is after those of all texts.
+    pub(crate) fn after_texts(&self) -> Result<String, AllocError>
+        ensures { IfOk result (λ key. string_bytes key
+            ≡ encode_of standard (after_texts_key (string_bytes self.now.name))) }
+    {
+        let name = self.name.as_str();
+        let key = format!(in self.alloc; "ring/{name}/t0")?;
         encoded(self.alloc, key.as_bytes())
     }
 

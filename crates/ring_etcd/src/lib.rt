@@ -43,17 +43,24 @@
 //!
 //! # Taking over
 //!
-//! A process reads the base, the pieces and the entries, by pages in the order of their keys. Then
-//! it puts `tID` under the next number. If another entry is there, it reads on from that number, by
-//! pages, and tries the number after them. So it keeps up with a process that goes on to put
-//! entries. Once `tID` is there, the process before it can put nothing: its next number is taken.
-//! That `tID` was put shows that the base still counted, so all that was read is the whole journal.
-//! If the base does not count any more, the process reads again.
+//! A process reads the base, the pieces and the entries, by pages in the order of their keys. etcd is
+//! not asked to sort, for which it would read all keys for each page. Each pair has to have the key
+//! that is next.
+//!
+//! Then the process puts `tID` under the next number. If another entry is there, it reads on from
+//! that number, by pages, and tries the number after them. So it keeps up with a process that goes on
+//! to put entries. Once `tID` is there, the process before it can put nothing: its next number is
+//! taken. That `tID` was put shows that the base still counted, so all that was read is the whole
+//! journal. If the base does not count any more, the process reads again.
 //!
 //! Then the process recovers, and puts its own text in the place of the old one, by the conditions
 //! of the number after its entry `tID`. So a third process that took over meanwhile is noticed.
 //! These conditions alone would do for safety: the text is refused if an entry came that it lacks.
 //! With `tID` no entry comes, however busy the process before was.
+//!
+//! If there is no base, the journal is begun by an empty text. That request has the condition that
+//! neither a piece nor an entry is there. So a journal whose base alone was lost is refused, as is
+//! tested.
 //!
 //! # Standing by
 //!

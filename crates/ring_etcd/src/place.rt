@@ -184,6 +184,8 @@ impl<R: Net<Stream = TcpStream> + Clock + AllocGlobal + Copy + Drop> EtcdPlace<R
 
 /// Returns the base that counts. If the journal was never begun, it is begun by an empty text. No
 /// process has the identity 0, so this is no process's text.
+///
+/// Returns `Damaged` if there is no base but a piece or an entry, as is tested: the base was lost.
 pub(crate) fn current<R>(store: &mut Store<R>) -> Result<Base, EtcdFault>
 where
     R: Net<Stream = TcpStream> + Clock + AllocGlobal + Drop,

@@ -1,6 +1,6 @@
 //! The bodies of the requests to the gateway. Keys and values are in base 64.
 ghost use Rattle.std.specs.Prelude.{◌≡◌, IfOk, decimal, string_bytes};
-ghost use Rattle.ring_etcd.specs.private.Requests.{claim_text, compare_text, entry_text, failure_text, first_text, get_text, put_text, range_text, renew_text, success_text, switch_text};
+ghost use Rattle.ring_etcd.specs.private.Requests.{claim_text, compare_text, entry_text, failure_text, first_text, free_text, get_text, put_text, range_text, renew_text, success_text, switch_text};
 
 use std::alloc::{AllocError, Global};
 
@@ -69,13 +69,23 @@ pub(crate) fn renew(alloc: Global, key: &str, value: &str) -> Result<String, All
     )
 }
 
-/// Puts a value at a key if nothing is there. Otherwise reads the key, twice.
-pub(crate) fn put_first(alloc: Global, key: &str, value: &str) -> Result<String, AllocError>
-    ensures { IfOk result (λ text. string_bytes text ≡ first_text key.now value.now) }
+/// Puts a value at a key if nothing is there, nor at the keys from `from` on and before `to`.
+/// Otherwise reads the key, twice.
+pub(crate) fn put_first(
+    alloc: Global,
+    key: &str,
+    value: &str,
+    from: &str,
+    to: &str,
+) -> Result<String, AllocError>
+    ensures { IfOk result (λ text. string_bytes text
+        ≡ first_text key.now value.now from.now to.now) }
 {
-    format!(in alloc;
-        "{{\"compare\":[{{\"key\":\"{key}\",\"target\":\"CREATE\",\"result\":\"EQUAL\",\"create_revision\":\"0\"}}],\"success\":[{{\"request_put\":{{\"key\":\"{key}\",\"value\":\"{value}\"}}}}],\"failure\":[{{\"request_range\":{{\"key\":\"{key}\"}}}},{{\"request_range\":{{\"key\":\"{key}\"}}}}]}}"
-    )
+    let free = free(alloc, key, from, to)?;
+    let text = format!(in alloc;
+        "{{{free},\"success\":[{{\"request_put\":{{\"key\":\"{key}\",\"value\":\"{value}\"}}}}],\"failure\":[{{\"request_range\":{{\"key\":\"{key}\"}}}},{{\"request_range\":{{\"key\":\"{key}\"}}}}]}}"
+    )?;
+    Ok(text)
 }
 
 /// Puts a value at the key of the slot, if nothing is there and its base counts. Otherwise reads
@@ -127,6 +137,15 @@ fn success(
 {
     format!(in alloc;
         "\"success\":[{{\"request_put\":{{\"key\":\"{base_key}\",\"value\":\"{base}\"}}}},{{\"request_delete_range\":{{\"key\":\"{from}\",\"range_end\":\"{to}\"}}}}]"
+    )
+}
+
+// The condition that nothing is at a key, nor at the keys from `from` on and before `to`.
+fn free(alloc: Global, key: &str, from: &str, to: &str) -> Result<String, AllocError>
+    ensures { IfOk result (λ text. string_bytes text ≡ free_text key.now from.now to.now) }
+{
+    format!(in alloc;
+        "\"compare\":[{{\"key\":\"{key}\",\"target\":\"CREATE\",\"result\":\"EQUAL\",\"create_revision\":\"0\"}},{{\"key\":\"{from}\",\"range_end\":\"{to}\",\"target\":\"CREATE\",\"result\":\"EQUAL\",\"create_revision\":\"0\"}}]"
     )
 }
 

@@ -127,7 +127,7 @@ impl<R: Net<Stream = TcpStream> + Clock + AllocGlobal + Drop> Store<R> {
         Ok(is_bytes(&there, value.as_str().as_bytes()))
     }
 
-    /// Begins the journal by a base, unless it was begun before.
+    /// Begins the journal by a base, unless a base or a key of a text is there.
     pub(crate) fn put_base(&mut self, base: Base) -> Result<(), AskFault>
         ensures { self.new.keys ≡ self.old.keys }
     {

@@ -28,6 +28,10 @@ after_pieces_key name text =
 abbrev pub before_texts_key : List ℕ → List ℕ
 before_texts_key name = codes "ring/" ++ (name ++ codes "/t/")
 
+-- It is after those of all texts.
+abbrev pub after_texts_key : List ℕ → List ℕ
+after_texts_key name = codes "ring/" ++ (name ++ codes "/t0")
+
 -- It is before those of this text, and after those of all earlier ones.
 abbrev pub before_text_key : List ℕ → ℕ → List ℕ
 before_text_key name text =

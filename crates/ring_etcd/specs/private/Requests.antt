@@ -36,15 +36,23 @@ renew_text key value =
     ++ (codes "\"}}],\"failure\":[{\"request_range\":{\"key\":\"" ++ (key
     ++ codes "\"}}]}")))))))))
 
--- Puts a value at a key if nothing is there, and reads the key twice otherwise.
-abbrev pub first_text : List ℕ → List ℕ → List ℕ
-first_text key value =
-    codes "{\"compare\":[{\"key\":\"" ++ (key
-    ++ (codes "\",\"target\":\"CREATE\",\"result\":\"EQUAL\",\"create_revision\":\"0\"}],"
-    ++ (codes "\"success\":[{\"request_put\":{\"key\":\"" ++ (key
+-- Nothing is at a key, nor at the keys from one on and before another.
+abbrev pub free_text : List ℕ → List ℕ → List ℕ → List ℕ
+free_text key from to =
+    codes "\"compare\":[{\"key\":\"" ++ (key
+    ++ (codes "\",\"target\":\"CREATE\",\"result\":\"EQUAL\",\"create_revision\":\"0\"},{\"key\":\""
+    ++ (from ++ (codes "\",\"range_end\":\"" ++ (to
+    ++ codes "\",\"target\":\"CREATE\",\"result\":\"EQUAL\",\"create_revision\":\"0\"}]")))))
+
+-- Puts a value at a key if nothing is there, nor at the keys from one on and before another. Reads
+-- the key twice otherwise.
+abbrev pub first_text : List ℕ → List ℕ → List ℕ → List ℕ → List ℕ
+first_text key value from to =
+    codes "{" ++ (free_text key from to
+    ++ (codes ",\"success\":[{\"request_put\":{\"key\":\"" ++ (key
     ++ (codes "\",\"value\":\"" ++ (value
     ++ (codes "\"}}],\"failure\":[{\"request_range\":{\"key\":\"" ++ (key
-    ++ (codes "\"}},{\"request_range\":{\"key\":\"" ++ (key ++ codes "\"}}]}"))))))))))
+    ++ (codes "\"}},{\"request_range\":{\"key\":\"" ++ (key ++ codes "\"}}]}")))))))))
 
 -- The base has this value, and nothing is at the key.
 abbrev pub compare_text : List ℕ → List ℕ → List ℕ → List ℕ
