@@ -92,6 +92,11 @@ class Browser:
         speeds = {"latency": 0, "downloadThroughput": -1, "uploadThroughput": -1}
         self.tool("Network.emulateNetworkConditions", offline=is_cut, **speeds)
 
+    def block(self, *urls):
+        """Lets the requests to these addresses fail, and no others."""
+        self.tool("Network.enable")
+        self.tool("Network.setBlockedURLs", urls=list(urls))
+
     def picture(self):
         """The whole page as a PNG."""
         return base64.b64decode(self.tool("Page.captureScreenshot", format="png", captureBeyondViewport=True)["data"])

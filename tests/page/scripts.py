@@ -13,6 +13,23 @@ HEARD = r"""return [...document.querySelectorAll('#members tr')].map((it) =>
 CROWNED = "return document.querySelector('#ring .leading title')?.textContent.startsWith(arguments[0])"
 LIST = "return document.body.dataset.view === 'list'"
 MISSING = "return !document.getElementById('missing').hidden"
+THERE = "return !document.getElementById('parts').hidden"
+NAMED = "return document.getElementById('name').textContent === arguments[0]"
+IN_RING = "return document.getElementById('ring').textContent.includes(arguments[0])"
+# How the service is, and the role by which a screen reader hears of it.
+STATUS = "const it = document.getElementById('service'); return [it.getAttribute('role'), it.textContent]"
+# The texts for empty lists that are seen.
+NONE = """return [...document.querySelectorAll('.none')].filter((it) => it.checkVisibility())
+    .map((it) => it.textContent)"""
+# From now on the page hears of all groups but this one in the list.
+LEAVE_OUT = """document.missing = arguments[0];
+    document.fetch ??= window.fetch;
+    window.fetch = async (path, options) => {
+        const answer = await document.fetch.call(window, path, options);
+        if (path !== 'v1/groups') return answer;
+        const said = await answer.json();
+        return new Response(JSON.stringify({ ...said, groups: said.groups.filter((it) => it !== document.missing) }));
+    };"""
 FOCUS = """const it = document.activeElement, style = getComputedStyle(it);
     return [it.getAttribute('href') ?? it.id, style.outlineStyle !== 'none' && parseFloat(style.outlineWidth) >= 2]"""
 WIDER = """const is_wide = (it) => it.checkVisibility() && it.getBoundingClientRect().right > innerWidth + 1;

@@ -92,10 +92,11 @@ function drawRing(said) {
   ring.append(draw("text", { class: "centre", x: 200, y: 240 }, below));
 }
 
-// The ring as the mark of a group in the list: a dot for each member, or only the leader's if there are many.
+// The ring as the mark of a group in the list: a dot for each member, or only the leader's if there are many. There is
+// no dot before the group was asked for.
 function drawMark(mark, said) {
   mark.replaceChildren(draw("circle", { class: "way", cx: 20, cy: 20, r: 15 }));
-  said.members.forEach((member, place) => {
+  said?.members.forEach((member, place) => {
     if (said.members.length > 20 && !isLeader(said, member)) return;
     const angle = (2 * Math.PI * place) / said.members.length - Math.PI / 2;
     const [cx, cy] = [20 + 15 * Math.cos(angle), 20 + 15 * Math.sin(angle)];

@@ -30,14 +30,30 @@ function take(said) {
   const place = BigInt(said.place);
   if (place < page.place) {
     page.said.clear();
-    page.shown = null;
-    page.stop.abort();
-    forgetElection();
+    forgetShown();
     note("The service has begun anew, and counts its places from the beginning.");
   }
   [page.place, page.groups] = [place, said.groups];
-  if (page.open && !page.groups.includes(page.open)) showParts(false);
+  document.body.dataset.list = "known";
+  forgetMissing();
   showGroups();
+}
+
+// Forgets what is shown of the open group, and ends its poll. The next answer about it is drawn anew.
+function forgetShown() {
+  page.shown = null;
+  page.stop.abort();
+  forgetElection();
+}
+
+// Forgets the groups that are not in the list. One that comes again is drawn anew, even if it says the same as before.
+function forgetMissing() {
+  const there = new Set(page.groups);
+  for (const name of page.said.keys()) if (!there.has(name)) page.said.delete(name);
+  if (!page.open || there.has(page.open)) return;
+  if (page.shown) forgetShown();
+  showParts(false);
+  showTitle();
 }
 
 // Asks for some groups of the list in turn, so that 256 cost little more than a few. New ones are asked for first.
@@ -68,9 +84,7 @@ function route() {
   if (location.hash && !location.hash.startsWith("#/")) return;
   const before = page.open;
   page.open = location.hash.slice(2);
-  page.shown = null;
-  page.stop.abort();
-  forgetElection();
+  forgetShown();
   document.body.dataset.view = page.open ? "group" : "list";
   one("log").replaceChildren();
   write(one("name"), page.open);

@@ -7,12 +7,12 @@
 
 const BEAT = 400; // milliseconds between two looks at the list
 const PATIENCE = 5000; // milliseconds after which a service that says nothing counts as gone
-const WAIT = 20; // seconds that a long poll may take
+const WAIT = 5; // seconds that a long poll may take; one that was abandoned holds its connection no longer
 
 const page = {
   groups: [], // the names, in order of creation
   said: new Map(), // the last answer about each group
-  place: 0n, // the last place of the list
+  place: 0n, // the last place of the list; 0 before its first answer
   open: "", // the group that is open
   shown: null, // the answer about it that is shown
   heard: new Map(), // when this page saw its members come to know the leader
@@ -21,6 +21,7 @@ const page = {
   stop: new AbortController(), // ends the long poll
 };
 
+const isKnown = () => page.place > 0n;
 const one = (id) => document.getElementById(id);
 const sleep = (time) => new Promise((done) => setTimeout(done, time));
 const clock = () => new Date().toLocaleTimeString("en-GB");

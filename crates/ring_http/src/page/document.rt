@@ -14,7 +14,7 @@ pub(crate) const TEXT: &str = "<!doctype html>
 <link rel=\"stylesheet\" href=\"app.css\">
 <script type=\"module\" src=\"app.js\"></script>
 </head>
-<body data-service=\"starting\" data-view=\"list\">
+<body data-service=\"starting\" data-list=\"unknown\" data-view=\"list\">
 <button class=\"skip\" id=\"skip\" type=\"button\">Skip to the group</button>
 
 <header class=\"top\">
@@ -27,7 +27,7 @@ pub(crate) const TEXT: &str = "<!doctype html>
       ringd
     </a>
   </h1>
-  <p class=\"service\" id=\"service\" tabindex=\"-1\">Connecting</p>
+  <p class=\"service\" id=\"service\" role=\"status\" tabindex=\"-1\">Connecting</p>
 </header>
 
 <p class=\"banner\" id=\"banner\" role=\"alert\" hidden></p>

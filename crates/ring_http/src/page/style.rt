@@ -74,7 +74,7 @@ code { font-family: ui-monospace, \"DejaVu Sans Mono\", monospace; font-size: 0.
 /* the text for an empty list is hidden if the list has something, or if nothing was heard yet */
 ul:not(:empty) + .none, ol:not(:empty) + .none, .scroll:has(tbody:not(:empty)) + .none { display: none; }
 
-[data-service=\"starting\"] .none, .scroll:has(tbody:empty), details:has(ol:empty) { display: none; }
+[data-list=\"unknown\"] .none, .scroll:has(tbody:empty), details:has(ol:empty) { display: none; }
 
 .skip { position: absolute; left: 1rem; top: -6rem; z-index: 1; margin: 0; background: var(--panel); }
 

@@ -109,9 +109,9 @@ function show(answer) {
   showTitle();
 }
 
-// Shows the parts of the open group, or that there is none.
+// Shows the parts of the open group, or that there is none. Before the first answer nobody knows whether there is one.
 function showParts(there) {
-  const coming = document.body.dataset.service === \"starting\" || page.groups.includes(page.open);
+  const coming = !isKnown() || page.groups.includes(page.open);
   one(\"missing\").hidden = there || coming;
   one(\"parts\").hidden = one(\"foot\").hidden = one(\"leader\").hidden = !there;
   if (!there) one(\"kind\").hidden = true;
@@ -136,15 +136,21 @@ function showGroups() {
     lines.delete(name);
     if (list.children[place] !== line) list.insertBefore(line, list.children[place] ?? null);
     line.firstChild.setAttribute(\"aria-current\", name === page.open ? \"page\" : \"false\");
-    if (!said || line.said === said) return;
+    if (line.said === said) return;
     line.said = said;
     line.dataset.state = stateOf(said);
-    write(line.querySelector(\".words\"), `${inWords(said)}\\n${many(said.members.length, \"member\")}`);
+    write(line.querySelector(\".words\"), said ? `${inWords(said)}\\n${many(said.members.length, \"member\")}` : \"\");
     drawMark(line.querySelector(\".mark\"), said);
   });
   for (const line of lines.values()) line.remove();
+  showCount();
+}
+
+// Shows how many groups there are, and once each was asked for, how many have a leader.
+function showCount() {
   const led = page.groups.filter((name) => stateOf(page.said.get(name)) === \"led\").length;
-  write(one(\"count\"), page.groups.length ? `${many(page.groups.length, \"group\")}, ${led} with a leader` : \"\");
+  const leads = page.groups.every((name) => page.said.has(name)) ? `, ${led} with a leader` : \"\";
+  write(one(\"count\"), page.groups.length ? many(page.groups.length, \"group\") + leads : \"\");
 }
 
 // Shows how the service is: well, ill (it answers, and says what is wrong) or gone.
@@ -155,7 +161,8 @@ function tell(service, reason = \"\") {
   write(one(\"service\"), { well: \"Connected\", ill: \"Not well\", gone: \"No answer\" }[service]);
   one(\"banner\").hidden = service === \"well\";
   const other = others.length ? \" Another process may have taken over.\" : \"\";
-  const gone = `The service has not answered since ${clock()}. This page shows its last answers, and keeps asking.${other}`;
+  const last = isKnown() ? \" shows its last answers, and\" : \"\";
+  const gone = `The service has not answered since ${clock()}. This page${last} keeps asking.${other}`;
   write(one(\"banner\"), { well: \"\", ill: `The service is not well: ${reason}.`, gone }[service]);
   if (service === \"gone\") note(\"The service does not answer.\");
   if (was === \"gone\") note(\"The service answers again.\");

@@ -37,14 +37,16 @@ function partOf(said, member) {
 // What has changed between two answers about a group, as sentences.
 function changes(old, now) {
   const term = lastTerm(now);
-  const has = (said, member) => said.members.some((other) => other.number === member.number);
-  const joined = now.members.filter((member) => !has(old, member)).map(spell);
-  const left = old.members.filter((member) => !has(now, member)).map(spell);
+  const find = (said, member) => said.members.find((other) => other.number === member.number);
+  const joined = now.members.filter((member) => !find(old, member)).map(spell);
+  const left = old.members.filter((member) => !find(now, member)).map(spell);
+  const weighed = now.members.filter((member) => (find(old, member) ?? member).weight !== member.weight).map(spell);
   const hadLeader = now.terms.length === old.terms.length && lastTerm(old)?.leader;
   const heard = now.informed.some((number) => !old.informed.includes(number)) || !hadLeader;
   return [
     joined.length && `Joined: ${joined.join(\", \")}.`,
     left.length && `Left: ${left.join(\", \")}.`,
+    weighed.length && `Joined again with another weight: ${weighed.join(\", \")}.`,
     now.terms.length > old.terms.length && `Term ${term.term} began.`,
     term?.leader && !hadLeader && `Leader of term ${term.term}: ${spell(term.leader)}.`,
     term?.leader && heard && `Now ${known(now)}.`,
