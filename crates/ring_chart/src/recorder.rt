@@ -1,8 +1,8 @@
 //! The world of a term, with a record of each delivery.
-ghost use Rattle.std.specs.Prelude.{◌≡◌, [], IfNone, IfOk, IsTrue, length, replicate};
+ghost use Rattle.std.specs.Prelude.{◌≡◌, ◌↔◌, [], IfNone, IfOk, IsTrue, length, replicate};
 ghost use Rattle.ring_any.specs.Any.{any_table, any_winner};
-ghost use Rattle.ring_world.specs.Quiet.{AllKnow};
-ghost use Rattle.ring_world.specs.Worlds.{IsUncut, no_cuts, pending_of};
+ghost use Rattle.ring_world.specs.Quiet.{AllKnow, IsQuiet};
+ghost use Rattle.ring_world.specs.Worlds.{IsReady, IsUncut, no_cuts, pending_of};
 
 use crate::label;
 use crate::tale::{Arrow, Kind, Step, Tale};
@@ -89,6 +89,7 @@ impl Recorder {
         ensures group { result.group ≡ self.now.charter.group }
         ensures term { result.term ≡ self.now.charter.term }
         ensures algorithm { result.algorithm ≡ self.now.charter.algorithm }
+        ensures ready { IsReady any_table self.now result.ready }
         ensures quiet { IfNone result.ready
             (IsUncut self.now → AllKnow any_table any_winner self.now) }
         ensures pending { result.pending ≡ pending_of any_table self.now }
@@ -120,7 +121,8 @@ impl Recorder {
 
     /// Returns whether no packet is in flight. Then, if no link is cut, every node knows the leader.
     pub fn is_quiet(&self) -> bool
-        ensures { IsTrue result → IsUncut self.now → AllKnow any_table any_winner self.now }
+        ensures quiet { IsTrue result ↔ IsQuiet any_table self.now }
+        ensures known { IsTrue result → IsUncut self.now → AllKnow any_table any_winner self.now }
     {
         self.view().ready.is_none()
     }

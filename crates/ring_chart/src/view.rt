@@ -4,7 +4,7 @@
 //! that the recorder makes few calls for one.
 ghost use Rattle.std.specs.Prelude.{◌≡◌, IfNone};
 ghost use Rattle.ring_world.specs.Quiet.{AllKnow};
-ghost use Rattle.ring_world.specs.Worlds.{IsUncut, pending_of};
+ghost use Rattle.ring_world.specs.Worlds.{IsReady, IsUncut, pending_of};
 
 use ring_election::RingElection;
 use ring_id::{GroupName, Side};
@@ -38,6 +38,7 @@ pub fn view_of<E: RingElection, T: Traffic<E>>(world: &World<E, T>) -> View<'_, 
     ensures group { result.group ≡ world.now.charter.group }
     ensures term { result.term ≡ world.now.charter.term }
     ensures algorithm { result.algorithm ≡ world.now.charter.algorithm }
+    ensures ready { IsReady E.table world.now result.ready }
     ensures quiet { IfNone result.ready
         (IsUncut world.now → AllKnow E.table E.winner world.now) }
     ensures pending { result.pending ≡ pending_of E.table world.now }
