@@ -20,7 +20,7 @@ FILES = {
     "/app.js": tuple(f"script/{part}.js" for part in ("service", "words", "ring", "others", "views", "run")),
     "/app.css": ("app.css",),
 }
-POLICY = b"\r\ncontent-security-policy: default-src 'self'\r\n"
+POLICIES = b"\r\ncontent-security-policy: default-src 'self'\r\ncache-control: no-cache\r\n"
 GROUP, PICTURE = "/v1/groups/a", "/v1/groups/a/election.svg"
 # The texts of a 503. It has none if an allocation fails for it.
 LACKING = b"no no-memory\n"
@@ -71,7 +71,7 @@ class Viewer:
                 raise Lost
         head, _, _ = client.told.partition(b"\r\n\r\n")
         first, length = FIRST.match(head), LENGTH.search(head + b"\r\n")
-        if not first or not length or POLICY not in head + b"\r\n":
+        if not first or not length or POLICIES not in head + b"\r\n":
             raise Bad(f"{self.path} is answered {head!r}")
         end = len(head) + 4 + int(length[1])
         while len(client.told) < end:

@@ -7,7 +7,8 @@ import time
 from serving import HOST, PATIENCE, Differs, connected, same
 from web.metrics import samples_in
 
-POLICY = "default-src 'self'"
+# The fields that each response has, whatever was asked.
+POLICIES = {"content-security-policy": "default-src 'self'", "cache-control": "no-cache"}
 JSON, METRICS = "application/json", "text/plain; version=0.0.4; charset=utf-8"
 # After how many seconds without a request a client connects anew, since the program lets silent clients go.
 FRESH = 1
@@ -40,7 +41,8 @@ class Web:
         self.link.request(method, path, headers={"Host": host} if host else {})
         response = self.link.getresponse()
         body, self.last = response.read(), time.monotonic()
-        same(f"the policy of {path}", response.getheader("content-security-policy"), POLICY)
+        for name, value in POLICIES.items():
+            same(f"{name} of {method} {path}", response.getheader(name), value)
         same(f"the cookies of {path}", response.getheader("set-cookie"), None)
         return response.status, response, body
 

@@ -47,11 +47,13 @@ kind_in (Election name) = codes "image/svg+xml"
 abbrev pub reason_kind : List ℕ
 reason_kind = codes "text/plain; charset=utf-8"
 
--- the field of each response: nothing is loaded from elsewhere
+-- the fields of each response: nothing is loaded from elsewhere, and no answer is used again unless
+-- the service was asked
 abbrev pub policy_fields : List Header
-policy_fields = (codes "content-security-policy", codes "default-src 'self'") ∷ []
+policy_fields = (codes "content-security-policy", codes "default-src 'self'")
+    ∷ (codes "cache-control", codes "no-cache") ∷ []
 
--- the same field, and the type of the text
+-- the same fields, and the type of the text
 abbrev pub fields_with : List ℕ → List Header
 fields_with kind = policy_fields ++ (codes "content-type", kind) ∷ []
 
@@ -90,7 +92,7 @@ fault_code (Unplaced refusal) = 503
 fault_code Late = 503
 
 -- The response has this status, and a text of this type. If an allocation failed for its text or its
--- field, it is a 503 without a text and without a type.
+-- type, it is a 503 without a text and without a type.
 abbrev pub Says : ℕ → List ℕ → List ℕ → Response → Type 0
 Says code kind text response = IsResponse code (fields_with kind) text response ⊎ IsResponse 503 policy_fields [] response
 

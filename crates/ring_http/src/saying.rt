@@ -15,21 +15,35 @@ use std::alloc::AllocError;
 // The type of a reason.
 const REASON: &str = "text/plain; charset=utf-8";
 
-/// Begins a response: its status and its policy, and its type and its text if they follow from the
-/// route.
+/// Begins a response: its status and its policies, and its type and its text if they follow from
+/// the route.
 pub(crate) fn begin(route: &Route, response: &mut Response) -> Result<(), AllocError>
     requires { IsBlank response.old }
     ensures { OnOk result (IsResponse (code_of route.now) (fields_for route.now) (text_of route.now)
         response.new) }
 {
     response.status = code_of(route);
-    let policy = HeaderValue::from_static("default-src 'self'");
-    response.add_header(header::CONTENT_SECURITY_POLICY, policy)?;
+    add_policies(response)?;
     add_rest(route, response)?;
     put(text_of(route).as_bytes(), &mut response.body)
 }
 
-// Adds the fields after the policy that follow from the route.
+// Adds the policies of each response: a page loads nothing from elsewhere, and an answer is not
+// used again unless the service was asked. `no-store` would say more, but then a browser cannot go
+// back to the page from a link that leads nowhere.
+fn add_policies(response: &mut Response) -> Result<(), AllocError>
+    requires { fields_of response.old ≡ [] }
+    ensures headers { OnOk result (fields_of response.new ≡ policy_fields) }
+    ensures status { response.new.status ≡ response.old.status }
+    ensures body { response.new.body ≡ response.old.body }
+{
+    let policy = HeaderValue::from_static("default-src 'self'");
+    response.add_header(header::CONTENT_SECURITY_POLICY, policy)?;
+    let caching = HeaderValue::from_static("no-cache");
+    response.add_header(header::CACHE_CONTROL, caching)
+}
+
+// Adds the fields after the policies that follow from the route.
 fn add_rest(route: &Route, response: &mut Response) -> Result<(), AllocError>
     requires { fields_of response.old ≡ policy_fields }
     ensures headers { OnOk result (fields_of response.new ≡ fields_for route.now) }
