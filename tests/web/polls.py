@@ -1,5 +1,7 @@
 """Long polls: when they are answered, and with which places."""
 
+import os
+import signal
 import statistics
 import threading
 import time
@@ -7,7 +9,10 @@ import time
 from serving import PATIENCE, Client, Differs, same
 from web.asking import Web
 
-QUIET = 1
+# The wait of a poll without news, and by how much it may be longer, the fastest of so many as TRIES.
+QUIET, MORE = 1, 0.5
+# The seconds for which the program stands still, and the wait of a poll meanwhile.
+STILL, WAIT = 1, 2
 # For how many seconds the looks of a poll are counted.
 LOOKS = 0.2
 # After how many seconds a poll has heard of a change, half of the times.
@@ -24,15 +29,29 @@ def timed(web, path):
     return web.told(path), time.monotonic() - begun
 
 
-def check_quiet(port):
-    """A poll without news is answered after its wait, and no poll waits for more than 60 seconds."""
-    web = Web(port)
+def check_waits(port, wait, meanwhile=lambda: None):
+    """A poll without news is answered after its wait: never sooner, and soon after it at one try at least."""
+    web, found = Web(port), []
     for _ in range(TRIES):
         place = web.told("/v1/groups/a")["place"]
-        _, took = timed(web, f"/v1/groups/a?wait={QUIET}&after={place}")
-        if not 0.9 * QUIET <= took < QUIET + PATIENCE:
-            raise Differs(f"a poll without news took {took:.2f} s")
+        meanwhile()
+        found.append(timed(web, f"/v1/groups/a?wait={wait}&after={place}")[1])
     web.close()
+    if not wait <= min(found) < wait + MORE:
+        raise Differs(f"polls without news took {found} s, and not {wait}")
+
+
+def stand_still(pid):
+    """Stops a process for some time."""
+    os.kill(pid, signal.SIGSTOP)
+    time.sleep(STILL)
+    os.kill(pid, signal.SIGCONT)
+
+
+def check_quiet(port, pid):
+    """A poll without news lasts as long as it asked for. A program that stood still meanwhile makes up for no looks."""
+    check_waits(port, QUIET)
+    check_waits(port, WAIT, lambda: threading.Timer(STILL / 4, stand_still, (pid,)).start())
 
 
 def answered_at_once(web, query, what, group="a"):

@@ -6,22 +6,24 @@ ghost use Rattle.ring_http.specs.private.Picturing.{AddsAll, AddsWatched};
 use crate::asking::{Asker, Lack};
 use crate::beside::Beside;
 use crate::picture::GroupPicture;
+use crate::waiting::is_over;
 use ring_any::Any;
 use ring_id::{GroupName, Refusal};
 use ring_table::Access;
 use std::sync::Wait;
 use std::thread;
-use std::time::{Clock, Duration};
+use std::time::{Clock, Duration, Instant};
 
 // The microseconds between two looks at a group.
 const PAUSE: u64 = 31_250;
 
-// The number of looks in a second.
+// The most looks for each second of a wait. So a wait ends also if the clock cannot be read.
 const LOOKS: u32 = 32;
 
 impl<A: Access<Any> + Drop, R: Wait + Clock, B: Beside> Asker<'_, A, R, B> {
-    /// A picture of a group at once if its sum is not `seen`, or else as soon as it differs from
-    /// the first one, or after `wait` seconds.
+    /// Returns a picture of a group. If its sum is not `seen`, it is returned at once. Else the
+    /// group is looked at again and again, and the first picture that differs is returned. If none
+    /// does within `wait` seconds of the clock, the last one is returned.
     pub(crate) fn watch(
         &self,
         seat: &mut A::Seat,
@@ -42,10 +44,11 @@ impl<A: Access<Any> + Drop, R: Wait + Clock, B: Beside> Asker<'_, A, R, B> {
             (IsPlaceAfter self.now.base A.most place.old place.new) }
         ensures rises { place.old ≤ place.new }
     {
+        let began = Instant::now(self.rt).ok();
         let mut shown = self.look(seat, place, name)?;
         let mut is_news = shown.is_news(seen);
         for _ in 0..wait * LOOKS {
-            if is_news {
+            if is_news || is_over(self.rt, began, wait) {
                 break;
             }
             thread::sleep(self.rt, Duration::from_micros(PAUSE));
@@ -58,7 +61,8 @@ impl<A: Access<Any> + Drop, R: Wait + Clock, B: Beside> Asker<'_, A, R, B> {
 }
 
 impl<A: Access<Any> + Drop, R: Wait, B: Beside> Asker<'_, A, R, B> {
-    // A picture of a group. The place of its last answer is greater than that of the look before.
+    // Returns a picture of a group, asked in one turn of the seat. The place of its last answer is
+    // greater than that of the look before.
     fn look(
         &self,
         seat: &mut A::Seat,
@@ -84,7 +88,7 @@ impl<A: Access<Any> + Drop, R: Wait, B: Beside> Asker<'_, A, R, B> {
         picture
     }
 
-    /// Pictures of all groups.
+    /// Returns pictures of all groups, asked in one turn of the seat.
     pub(crate) fn look_at_all(
         &self,
         seat: &mut A::Seat,
@@ -109,7 +113,7 @@ impl<A: Access<Any> + Drop, R: Wait, B: Beside> Asker<'_, A, R, B> {
         pictures
     }
 
-    // Pictures of all groups, in any number of turns.
+    // Returns pictures of all groups. The caller holds the seat, if they have to be of one moment.
     fn all(&self, seat: &mut A::Seat, place: &mut usize) -> Result<Vec<GroupPicture>, Lack>
         requires seat { A.has_seat self.now.access.now seat.old }
         requires base { self.now.base + A.most ≤ 2 ^ 64 }
@@ -126,7 +130,7 @@ impl<A: Access<Any> + Drop, R: Wait, B: Beside> Asker<'_, A, R, B> {
         self.pictures(seat, place, names.as_slice())
     }
 
-    // Pictures of these groups.
+    // Returns pictures of these groups, in their order.
     fn pictures(
         &self,
         seat: &mut A::Seat,
@@ -154,7 +158,7 @@ impl<A: Access<Any> + Drop, R: Wait, B: Beside> Asker<'_, A, R, B> {
         Ok(groups)
     }
 
-    // A picture of a group, in any number of turns.
+    // Returns a picture of a group. The caller holds the seat, if it has to be of one moment.
     fn picture(
         &self,
         seat: &mut A::Seat,

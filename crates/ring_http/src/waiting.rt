@@ -1,6 +1,12 @@
-//! How long a request waits for news, and which answer its client has seen. Tested, not proved: it
-//! decides when a request is answered, and not how.
-ghost use Rattle.std.specs.Prelude.{◌≤◌};
+//! How long a request waits for news, and which answer its client has seen. It decides when a
+//! request is answered, and not how.
+//!
+//! Proved are the most seconds of a wait, and when its seconds have passed by two readings of the
+//! clock. The rest is tested.
+ghost use Rattle.std.specs.Prelude.{◌*◌, ◌-◌, ◌≤◌, ◌↔◌, IsTrue};
+ghost use Rattle.std.specs.Time.{instant_nanos};
+
+use std::time::{Clock, Instant};
 
 // How many seconds a request waits at most.
 const MOST: u32 = 60;
@@ -13,6 +19,24 @@ pub(crate) fn wait_of(query: Option<&str>) -> u32
         Some(text) => seconds_in(text),
         None => 0,
     }
+}
+
+/// Whether `wait` seconds have passed since a moment. False if the clock was not read then, or is
+/// not read now.
+pub(crate) fn is_over<R: Clock>(rt: &R, began: Option<Instant>, wait: u32) -> bool {
+    match (began, Instant::now(rt)) {
+        (Some(began), Ok(now)) => has_passed(began, now, wait),
+        _ => false,
+    }
+}
+
+// Whether at least `wait` seconds lie between two readings of the clock. None lie between them if
+// the clock went back.
+fn has_passed(began: Instant, now: Instant, wait: u32) -> bool
+    ensures { IsTrue result
+        ↔ (wait * 1_000_000_000 ≤ instant_nanos now - instant_nanos began) }
+{
+    now.duration_since(began).as_nanos() >= u128::from(wait) * 1_000_000_000
 }
 
 /// The place of the answer that a client has seen, by its query `after=PLACE`, or `None` if it
