@@ -29,7 +29,7 @@ ports_text name sessions campaigns viewers =
 -- the heading of the clients that are served now
 abbrev pub clients_heading : List ℕ
 clients_heading = heading (codes "ringd_clients")
-    (codes "Number of clients that are served now.") (codes "gauge")
+    (codes "Number of connections of this port that are served now.") (codes "gauge")
 
 -- how many clients of each port are served now
 abbrev pub clients_text : Figures → List ℕ
@@ -40,7 +40,7 @@ clients_text figures = clients_heading
 -- the heading of the clients that are served at most
 abbrev pub limits_heading : List ℕ
 limits_heading = heading (codes "ringd_clients_limit")
-    (codes "Number of clients that are served at most.") (codes "gauge")
+    (codes "Most connections of this port that are served at a time.") (codes "gauge")
 
 -- how many clients of each port are served at most
 abbrev pub limits_text : Figures → List ℕ
@@ -51,7 +51,7 @@ limits_text figures = limits_heading
 -- the accepts that failed
 abbrev pub accepts_text : ℕ → List ℕ
 accepts_text count = single (codes "ringd_failed_accepts_total")
-    (codes "Number of accepts that failed.") (codes "counter") count
+    (codes "Number of accepts on all ports that failed.") (codes "counter") count
 
 -- all refusals, by their numbers
 abbrev pub all_refusals : List Refusal
@@ -74,7 +74,8 @@ counts_text counts refusals = flat_map (refusal_sample counts) refusals
 -- the heading of the refusals
 abbrev pub refusals_heading : List ℕ
 refusals_heading = heading (codes "ringd_refusals_total")
-    (codes "Number of answers of the table that were this refusal.") (codes "counter")
+    (codes "Number of commands and questions on all ports that were refused with this word.")
+    (codes "counter")
 
 -- how many answers were each refusal
 abbrev pub refusals_text : List ℕ → List ℕ
@@ -88,12 +89,12 @@ resident_text bytes = given_single (codes "process_resident_memory_bytes")
 -- the size of a journal
 abbrev pub bytes_text : ℕ → List ℕ
 bytes_text bytes = single (codes "ringd_journal_bytes")
-    (codes "Size of the journal in bytes.") (codes "gauge") bytes
+    (codes "Size of the text of the journal in bytes.") (codes "gauge") bytes
 
 -- its syncs
 abbrev pub syncs_text : ℕ → List ℕ
 syncs_text syncs = single (codes "ringd_journal_syncs_total")
-    (codes "Number of syncs of the journal.") (codes "counter") syncs
+    (codes "Number of syncs of the journal that succeeded.") (codes "counter") syncs
 
 -- the last digit of a number in decimal
 abbrev pub digit : ℕ → ℕ
@@ -111,7 +112,7 @@ seconds micros = (decimal (micros / 1000000) ++ codes ".") ++ six_digits micros
 -- the heading of the time that syncs took
 abbrev pub sync_time_heading : List ℕ
 sync_time_heading = heading (codes "ringd_journal_sync_seconds_total")
-    (codes "Seconds that the syncs took.") (codes "counter")
+    (codes "Seconds in syncs of the journal that succeeded.") (codes "counter")
 
 -- how long the syncs of a journal took, given their microseconds
 abbrev pub sync_time_text : ℕ → List ℕ

@@ -17,10 +17,10 @@ name_of Informed = codes "ringd_informed"
 
 -- its meaning
 abbrev pub help_of : Gauge → List ℕ
-help_of Members = codes "Number of members of the group."
-help_of Term = codes "Number of the last term of the group, or 0."
-help_of Leader = codes "Number of the leader of the last term."
-help_of Informed = codes "Number of members that know the leader of the last term."
+help_of Members = codes "Number of present members of the group."
+help_of Term = codes "Number of the last term of the group, or 0 before its first term."
+help_of Leader = codes "Number of the leader of the last term, which may have left the group."
+help_of Informed = codes "Number of present members that know the leader of the last term."
 
 -- the number of a leader, if there is one
 abbrev pub number_in : Option (Option ℕ) → Option ℕ

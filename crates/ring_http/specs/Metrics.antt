@@ -15,7 +15,8 @@ groups_text count = single (codes "ringd_groups") (codes "Number of groups.") (c
 -- the place of the last answer
 abbrev pub entries_text : ℕ → List ℕ
 entries_text place = single (codes "ringd_entries_total")
-    (codes "Place of this answer in the history.") (codes "counter") place
+    (codes "Place of this answer in the history: each command, question and report has one.")
+    (codes "counter") place
 
 -- the metrics that have a sample for each group
 abbrev pub families_text : List GroupPicture → List ℕ

@@ -18,7 +18,7 @@ pub(crate) fn put_figures(figures: &Figures, out: &mut Rope) -> Result<(), Alloc
     put_limits(figures, out)?;
     put_single(
         b"ringd_failed_accepts_total",
-        b"Number of accepts that failed.",
+        b"Number of accepts on all ports that failed.",
         b"counter",
         figures.failed_accepts,
         out,
@@ -38,7 +38,10 @@ pub(crate) fn put_figures(figures: &Figures, out: &mut Rope) -> Result<(), Alloc
 fn put_clients(figures: &Figures, out: &mut Rope) -> Result<(), AllocError>
     ensures { OnOk result (out.new.items ≡ out.old.items ++ clients_text figures.now) }
 {
-    let (name, help) = (b"ringd_clients", b"Number of clients that are served now.");
+    let (name, help) = (
+        b"ringd_clients",
+        b"Number of connections of this port that are served now.",
+    );
     put_heading(name, help, b"gauge", out)?;
     put_ports(
         name,
@@ -55,7 +58,7 @@ fn put_limits(figures: &Figures, out: &mut Rope) -> Result<(), AllocError>
 {
     let (name, help) = (
         b"ringd_clients_limit",
-        b"Number of clients that are served at most.",
+        b"Most connections of this port that are served at a time.",
     );
     put_heading(name, help, b"gauge", out)?;
     put_ports(
@@ -109,7 +112,7 @@ fn put_refusals(counts: &[u64; 14], out: &mut Rope) -> Result<(), AllocError>
 {
     put_heading(
         b"ringd_refusals_total",
-        b"Number of answers of the table that were this refusal.",
+        b"Number of commands and questions on all ports that were refused with this word.",
         b"counter",
         out,
     )?;
@@ -179,14 +182,14 @@ fn put_journal(journal: Option<JournalFigures>, out: &mut Rope) -> Result<(), Al
     };
     put_single(
         b"ringd_journal_bytes",
-        b"Size of the journal in bytes.",
+        b"Size of the text of the journal in bytes.",
         b"gauge",
         journal.bytes,
         out,
     )?;
     put_single(
         b"ringd_journal_syncs_total",
-        b"Number of syncs of the journal.",
+        b"Number of syncs of the journal that succeeded.",
         b"counter",
         journal.syncs,
         out,
@@ -199,7 +202,12 @@ fn put_sync_time(micros: u64, out: &mut Rope) -> Result<(), AllocError>
     ensures { OnOk result (out.new.items ≡ out.old.items ++ sync_time_text micros) }
 {
     let name = b"ringd_journal_sync_seconds_total";
-    put_heading(name, b"Seconds that the syncs took.", b"counter", out)?;
+    put_heading(
+        name,
+        b"Seconds in syncs of the journal that succeeded.",
+        b"counter",
+        out,
+    )?;
     put(name, out)?;
     put(b" ", out)?;
     put_seconds(micros, out)?;

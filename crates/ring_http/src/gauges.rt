@@ -86,9 +86,9 @@ fn help(gauge: Gauge) -> &'static [u8]
     ensures { result.now ≡ help_of gauge }
 {
     match gauge {
-        Gauge::Members => b"Number of members of the group.",
-        Gauge::Term => b"Number of the last term of the group, or 0.",
-        Gauge::Leader => b"Number of the leader of the last term.",
-        Gauge::Informed => b"Number of members that know the leader of the last term.",
+        Gauge::Members => b"Number of present members of the group.",
+        Gauge::Term => b"Number of the last term of the group, or 0 before its first term.",
+        Gauge::Leader => b"Number of the leader of the last term, which may have left the group.",
+        Gauge::Informed => b"Number of present members that know the leader of the last term.",
     }
 }

@@ -31,7 +31,7 @@ pub fn put_metrics(
     )?;
     put_single(
         b"ringd_entries_total",
-        b"Place of this answer in the history.",
+        b"Place of this answer in the history: each command, question and report has one.",
         b"counter",
         place as u64,
         out,
