@@ -74,7 +74,7 @@ counts_text counts refusals = flat_map (refusal_sample counts) refusals
 -- the heading of the refusals
 abbrev pub refusals_heading : List ℕ
 refusals_heading = heading (codes "ringd_refusals_total")
-    (codes "Number of commands and questions on all ports that were refused with this word.")
+    (codes "Number of lines and questions on all ports that were refused with this word.")
     (codes "counter")
 
 -- how many answers were each refusal

@@ -112,7 +112,7 @@ fn put_refusals(counts: &[u64; 14], out: &mut Rope) -> Result<(), AllocError>
 {
     put_heading(
         b"ringd_refusals_total",
-        b"Number of commands and questions on all ports that were refused with this word.",
+        b"Number of lines and questions on all ports that were refused with this word.",
         b"counter",
         out,
     )?;
