@@ -167,6 +167,22 @@ def another_version_is_refused(program, file):
 
 
 @check
+def a_journal_whose_first_bytes_became_zeros_is_refused(program, file):
+    """It is no new journal, which would start its terms again. A file of zeros alone is one: see files.py."""
+    text = text_of_changes(CHANGES)
+    heading = len(first_line(1))
+    for count in (1, 2, len(WORDS), heading - 1, heading, heading + 1, len(text) - 1):
+        for zeros in (0, 1, AHEAD):
+            file.write_bytes(bytes(count) + text[count:] + bytes(zeros))
+            refused(program, file, VERSION, f"{count} zeros")
+    for found in (b"\0\n", bytes(AHEAD - 1) + b"x", b"\0" + text):
+        file.write_bytes(found + bytes(AHEAD))
+        refused(program, file, VERSION, repr(found[-20:]))
+    file.write_bytes(bytes(AHEAD) + b"x")
+    refused(program, file, bad_at(AHEAD), "one byte, far after the first zero")
+
+
+@check
 def a_damaged_number_of_a_life_is_found(program, file):
     rest = text_of_changes(CHANGES)[len(first_line(1)):]
     for word in (b"", b"1", b"1 ", b"2 #00000000", b"x", b"-1", b"+1", b" 1"):

@@ -3,13 +3,13 @@ use Rattle.std.proofs.Common.{◌≡◌, ◌≢◌, ◌∙◌, ◌+◌, ◌-◌,
 use Rattle.std.specs.Prelude.{nat_lt}
 use Rattle.std.proofs.lemmas.List.{drop-take, length-take-le}
 use Rattle.std.specs.Fmt.{decimal}
-use Rattle.std.proofs.lemmas.List.Elements.{All-nil}
+use Rattle.std.proofs.lemmas.List.Elements.{All-head, All-nil}
 use Rattle.std.proofs.lemmas.Fmt.{decimal_is_IsNumeral}
 use Rattle.std.proofs.lemmas.Str.Parse.{digit_from_value}
 use Rattle.std.specs.Str.Parse.{AllDigits}
 use Rattle.ring_any.specs.declared.any.Any.{Any}
 use Rattle.ring_journal.specs.Journals.{HasAll}
-use Rattle.ring_journal.specs.Lines.{AreLines, IsLine, front, lines_in, text_of, whole_lines_of}
+use Rattle.ring_journal.specs.Lines.{AreLines, IsLine, lines_in, text_of, whole_lines_of}
 use Rattle.ring_journal.proofs.Lining.{lines_of_text}
 use Rattle.ring_journal.proofs.Testing.{passes_then_line}
 use Rattle.ring_table.specs.Tables.{RecordedView}
@@ -18,7 +18,7 @@ use Rattle.ring_change.specs.declared.change.Change.{Change}
 use Rattle.ring_change.specs.Spelling.{IsChange}
 use Rattle.ring_lives.specs.Changes.{changes_of}
 use Rattle.ring_change.specs.Checks.{check_after, check_mark, first_check, hex_digit, hex_word}
-use Rattle.ring_recovery.specs.JournalLines.{check_of, heading, heading_words, life_word, marked_lines}
+use Rattle.ring_recovery.specs.JournalLines.{IsZerosAlone, check_of, heading, heading_words, life_word, marked_lines}
 use Rattle.ring_recovery.specs.Life.{IsLife}
 use Rattle.ring_recovery.specs.Recovered.{HasChanges, IsReplayed}
 use Rattle.ring_recovery.specs.private.Reading.{HasRead, HasReplayed, IsHeaded, IsNext, after_first, first_of, first_size}
@@ -97,12 +97,17 @@ replayed_of found first lines life start check table next all starts read =
       checked = read.checked;
     }
 
--- a file without lines, and a table without entries
-pub blank_of : (found : List ℕ) (table : RecordedView Any) → front found ≡ [] → table.history ≡ [] → HasReplayed found table 1 0 first_check
+-- zeros alone have no line
+pub zeros_no_lines : (found : List ℕ) → IsZerosAlone found → lines_in found ≡ []
+zeros_no_lines [] zeros = refl
+zeros_no_lines (byte ∷ found) zeros = ap (λ (first : ℕ). lines_in (first ∷ found)) (All-head (λ (b : ℕ). b ≡ 0) byte found zeros)
+
+-- a new journal, and a table without entries
+pub blank_of : (found : List ℕ) (table : RecordedView Any) → IsZerosAlone found → table.history ≡ [] → HasReplayed found table 1 0 first_check
 blank_of found table blank none = record {
   lives = 0;
   next = refl;
-  starts = ap (λ (text : List ℕ). first_size (whole_lines_of text)) (sym blank);
+  starts = ap first_size (sym (zeros_no_lines found blank));
   changes = inr (blank, refl, ap changes_of none);
   legal = subst (λ (history : List (Entry Any)). All IsChange (changes_of history)) (sym none) (All-nil IsChange);
   replayed = subst (λ (history : List (Entry Any)). All IsReplayed history) (sym none) (All-nil IsReplayed);
@@ -112,7 +117,7 @@ blank_of found table blank none = record {
 -- the lines after the first one are those of the changes
 pub after_changes : (found : List ℕ) (lives : ℕ) (changes : List (Change Any)) → HasChanges found lives changes → after_first (lines_in found) ≡ marked_lines first_check changes
 after_changes found lives changes (inl lines) = ap after_first lines.1
-after_changes found lives changes (inr none) = ap (λ (text : List ℕ). after_first (whole_lines_of text)) none.0 ∙ ap (marked_lines first_check) (sym none.2)
+after_changes found lives changes (inr none) = ap after_first (zeros_no_lines found none.0) ∙ ap (marked_lines first_check) (sym none.2)
 
 -- the text of the lines after the first begins after the first line and its LF
 pub size_within : (lines : List (List ℕ)) → first_size lines ≤ length (text_of lines)

@@ -6,7 +6,7 @@ use Rattle.std.proofs.lemmas.List.Elements.{All-head, All-tail}
 use Rattle.ring_any.specs.Any.{any_greatest, any_two_way}
 use Rattle.ring_any.specs.declared.any.Any.{Any}
 use Rattle.ring_grammar.specs.OneSpelling.{HaveOneSpelling}
-use Rattle.ring_journal.specs.Lines.{lines_in, whole_lines_of}
+use Rattle.ring_journal.specs.Lines.{lines_in}
 use Rattle.std.specs.Fmt.{decimal}
 use Rattle.ring_change.specs.Checks.{check_after, check_mark, first_check}
 use Rattle.ring_change.specs.Lines.{check_behind}
@@ -19,6 +19,7 @@ use Rattle.ring_recovery.specs.Life.{IsLife}
 use Rattle.ring_recovery.specs.Recovered.{HasChanges}
 use Rattle.ring_recovery.specs.Restarts.{RestartsAfterFirst}
 use Rattle.ring_recovery.specs.private.Reading.{after_first, first_of}
+use Rattle.ring_recovery.proofs.Headed.{zeros_no_lines}
 use Rattle.ring_recovery.proofs.Spelling.{mark_long, one_marked, same_front}
 
 module _ (law : HaveOneSpelling IsChange SpellsChange) where
@@ -51,7 +52,7 @@ module _ (law : HaveOneSpelling IsChange SpellsChange) where
 
   same_changes : (found : List ℕ) (x y : ℕ) (a b : List (Change Any)) → IsLife y → All IsChange a → All IsChange b → HasChanges found x a → lines_in found ≡ journal_lines y b → (x ≡ y) × (a ≡ b)
   same_changes found x y a b counted legal_a legal_b (inl lines) are = one_journal x y a b lines.0 counted legal_a legal_b (sym lines.1 ∙ are)
-  same_changes found x y a b counted legal_a legal_b (inr none) are = let empty : lines_in found ≡ [] = ap whole_lines_of none.0 in absurd (cc)
+  same_changes found x y a b counted legal_a legal_b (inr none) are = let empty : lines_in found ≡ [] = zeros_no_lines found none.0 in absurd (cc)
 
   pub restarts : HaveTheirEffect any_two_way any_greatest → AreExact any_greatest → RestartsAfterFirst
   restarts effect exact life entries fewest found recovered finds recovers =

@@ -9,7 +9,7 @@ use Rattle.ring_terms.specs.Charters.{running_in}
 use Rattle.ring_terms.specs.Commands.{create_refusal, in_group, join_refusal, leave_refusal, start_refusal}
 use Rattle.ring_terms.specs.Object.{Object, OfGroup}
 use Rattle.ring_table.specs.Histories.{IsInformedOf}
-use Rattle.ring_journal.specs.Lines.{front, lines_in, text_of}
+use Rattle.ring_journal.specs.Lines.{lines_in, text_of}
 use Rattle.ring_journal.specs.Whole.{IsBadAt}
 use Rattle.ring_change.specs.declared.change.Change.{Change}
 use Rattle.ring_change.specs.declared.change.Change.TheVariants.{Create, Join, Leave, Start, Know}
@@ -17,7 +17,7 @@ use Rattle.ring_change.specs.Checks.{first_check}
 use Rattle.ring_change.specs.Lines.{marked_line}
 use Rattle.ring_change.specs.Spelling.{IsChange}
 use Rattle.ring_lives.specs.Replays.{Replays}
-use Rattle.ring_recovery.specs.JournalLines.{check_of, heading, heading_words, journal_lines}
+use Rattle.ring_recovery.specs.JournalLines.{IsZerosAlone, check_of, heading, heading_words, journal_lines}
 use Rattle.ring_recovery.specs.Life.{IsLife}
 use Rattle.ring_recovery.specs.declared.fault.RecoverFault.{RecoverFault}
 use Rattle.ring_recovery.specs.declared.fault.RecoverFault.TheVariants.{Bad, Lives, NoMemory, Version}
@@ -64,9 +64,9 @@ pub record IsBadHeading (found : List ℕ) (at : ℕ) : Type 0 where
   pub begins : found ≡ heading_words ++ rest
   pub bad : (life : ℕ) (lines : List (List ℕ)) → IsLife life → lines_in found ≢ heading life ∷ lines
 
--- A file does not begin with the words of a heading.
+-- A file has a byte that is no zero, and does not begin with the words of a heading.
 pub record IsOther (found : List ℕ) : Type 0 where
-  pub some : front found ≢ []
+  pub some : ¬ (IsZerosAlone found)
   pub other : (rest : List ℕ) → found ≢ heading_words ++ rest
 
 -- A file is of the last life that a journal has.

@@ -1,10 +1,14 @@
 -- The lines of a journal: the heading with the number of its life, then one line for each change.
-use Rattle.std.specs.Prelude.{ℕ, List, [], ◌∷◌, ◌++◌, codes}
+use Rattle.std.specs.Prelude.{◌≡◌, ℕ, List, [], ◌∷◌, ◌++◌, All, codes}
 use Rattle.std.specs.Fmt.{decimal}
 use Rattle.ring_any.specs.declared.any.Any.{Any}
 use Rattle.ring_change.specs.declared.change.Change.{Change}
 use Rattle.ring_change.specs.Checks.{check_after, check_mark, first_check}
 use Rattle.ring_change.specs.Lines.{check_behind, marked_line}
+
+-- The file is empty, or each byte of it is a zero. Only such a file is a new journal.
+abbrev pub IsZerosAlone : List ℕ → Type 0
+IsZerosAlone found = All (λ byte. byte ≡ 0) found
 
 -- the words before the number of the life
 abbrev pub heading_words : List ℕ

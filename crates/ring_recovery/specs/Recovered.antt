@@ -3,7 +3,7 @@ use Rattle.std.specs.Prelude.{◌≡◌, ◌⊎◌, ◌+◌, ℕ, List, [], All}
 use Rattle.ring_any.specs.Any.{any_greatest, any_two_way}
 use Rattle.ring_any.specs.declared.any.Any.{Any}
 use Rattle.ring_journal.specs.Journals.{HasAll}
-use Rattle.ring_journal.specs.Lines.{front, lines_in, whole_lines_of}
+use Rattle.ring_journal.specs.Lines.{lines_in, whole_lines_of}
 use Rattle.ring_terms.specs.Object.{Object}
 use Rattle.ring_table.specs.Histories.{IsLegal}
 use Rattle.ring_table.specs.declared.entry.Entry.{Entry}
@@ -12,7 +12,7 @@ use Rattle.ring_change.specs.declared.change.Change.{Change}
 use Rattle.ring_change.specs.Spelling.{IsChange}
 use Rattle.ring_lives.specs.Changes.{changes_of}
 use Rattle.ring_lives.specs.Replays.{Replays}
-use Rattle.ring_recovery.specs.JournalLines.{journal_lines}
+use Rattle.ring_recovery.specs.JournalLines.{IsZerosAlone, journal_lines}
 use Rattle.ring_recovery.specs.Life.{IsLife}
 
 -- A recovered table: its book, its history, and the number of the life that it begins. The journal
@@ -28,12 +28,12 @@ pub record IsTextOf (life : ℕ) (changes : List (Change Any)) (text : List ℕ)
   pub whole : HasAll text
   pub lines : whole_lines_of text ≡ journal_lines life changes
 
--- The lines of a file are those of these changes in its life with the number `lives`. If its first
--- byte is a zero or missing, it had no life and there are no changes.
+-- The lines of a file are those of these changes in its life with the number `lives`. If it is
+-- empty or holds zeros alone, it had no life and there are no changes.
 abbrev pub HasChanges : List ℕ → ℕ → List (Change Any) → Type 0
 HasChanges found lives changes =
     (IsLife lives × (lines_in found ≡ journal_lines lives changes))
-    ⊎ ((front found ≡ []) × (lives ≡ 0) × (changes ≡ []))
+    ⊎ (IsZerosAlone found × (lives ≡ 0) × (changes ≡ []))
 
 -- an entry that a recovery makes: a call of session 0, or a filing
 abbrev pub IsReplayed : Entry Any → Type 0

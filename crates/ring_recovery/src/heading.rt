@@ -1,9 +1,9 @@
 //! The first line of a journal: its version, and the number of its life.
 ghost use Rattle.std.specs.Prelude.{◌≡◌, ◌≢◌, ◌++◌, ◌∷◌, [], decimal, IfErr, IfNone, IfOk, IfSome, List, ℕ, OnErr, OnOk};
 ghost use Rattle.ring_change.specs.Checks.{check_after, check_mark, first_check};
-ghost use Rattle.ring_journal.specs.Lines.{front, lines_in};
+ghost use Rattle.ring_journal.specs.Lines.{lines_in};
 ghost use Rattle.ring_recovery.specs.Damage.{IsFaultOf};
-ghost use Rattle.ring_recovery.specs.JournalLines.{heading, heading_words, life_word};
+ghost use Rattle.ring_recovery.specs.JournalLines.{IsZerosAlone, heading, heading_words, life_word};
 ghost use Rattle.ring_recovery.specs.Life.{IsLife};
 ghost use Rattle.ring_recovery.specs.private.Reading.{IsNext};
 
@@ -57,7 +57,7 @@ pub(crate) fn next_life(found: &[u8], first: &[u8]) -> Result<Life, RecoverFault
 
 /// Returns why a file is refused that does not begin with the heading of a life.
 pub(crate) fn fault_of(found: &[u8]) -> RecoverFault
-    requires some { front found.now ≢ [] }
+    requires some { ¬ (IsZerosAlone found.now) }
     requires other { (life : ℕ) (lines : List (List ℕ)) → IsLife life
         → lines_in found.now ≢ heading life ∷ lines }
     ensures { IsFaultOf found.now result }

@@ -1,8 +1,8 @@
 ghost use Rattle.std.specs.Prelude.{◌≡◌, ◌↔◌, ◌∷◌, [], All, IfErr, IfOk, IsTrue};
 ghost use Rattle.ring_journal.specs.Journals.{HasAll};
-ghost use Rattle.ring_journal.specs.Lines.{front, lines_in, whole_lines_of};
+ghost use Rattle.ring_journal.specs.Lines.{lines_in, whole_lines_of};
 ghost use Rattle.ring_recovery.specs.Damage.{IsFaultOf};
-ghost use Rattle.ring_recovery.specs.JournalLines.{heading};
+ghost use Rattle.ring_recovery.specs.JournalLines.{IsZerosAlone, heading};
 ghost use Rattle.ring_recovery.specs.Recovered.{Recovers};
 ghost use Rattle.ring_recovery.specs.private.Reading.{HasRead, HasReplayed, IsHeaded, after_first, first_size};
 
@@ -34,16 +34,18 @@ struct Said {
 
 /// Recovers a table from the bytes of its journal's file.
 ///
-/// Each line is carried out by the call that made it: as a command of session 0, or as a report. A
-/// file without lines gives an empty table if its first byte is missing or a zero. The bytes after
-/// the last line are a torn tail and are left out. The table begins the life after that of the
-/// file, or life 1 if the file has no line.
+/// Each line is carried out by the call that made it: as a command of session 0, or as a report.
+/// The bytes after the last line are a torn tail and are left out. The table begins the life after
+/// that of the file. If the file is empty or holds zeros alone, the table is empty and begins life
+/// 1.
 ///
 /// The faults, which are clauses except for `NoMemory`:
 /// - `Bad`: the byte is the first of a line, and no change that may come there has this line. Or it
 ///   is a byte that no crash leaves there. Or the number of the life begins at this byte, and the
 ///   number or the mark after it is damaged.
-/// - `Version`: the file does not begin with the words of a heading.
+/// - `Version`: the file has a byte that is no zero, and does not begin with the words of a
+///   heading. So a journal whose first byte became a zero is refused, and none of its terms is
+///   started again.
 /// - `Lives`: the file is of life 1048576, which is the last one.
 /// - `NoMemory`: an allocation failed, or the file has 2^44 changes or more.
 pub fn recover(alloc: Global, found: Vec<u8>) -> Result<Recovered, RecoverFault>
@@ -85,14 +87,12 @@ fn replay_file(alloc: Global, found: &[u8], table: &mut Replayed) -> Result<Said
     }
 }
 
-// Whether the first byte is missing or a zero.
+// Whether the file is empty or holds zeros alone. Each start puts a file with a whole heading in
+// its place, so no crash leaves zeros and then a part of a heading.
 fn is_blank(found: &[u8]) -> bool
-    ensures { IsTrue result ↔ (front found.now ≡ []) }
+    ensures { IsTrue result ↔ IsZerosAlone found.now }
 {
-    match found.first() {
-        Some(byte) => *byte == 0,
-        None => true,
-    }
+    found.iter().all(|&byte| byte == 0)
 }
 
 // Carries out the changes of the lines after the heading, which begin at `start`. Returns the check

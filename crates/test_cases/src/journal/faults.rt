@@ -7,7 +7,7 @@ use std::alloc::Global;
 use std::process::Abort;
 
 // Files, each as its lines and a tail, and the fault. A bad line is named by its first byte.
-const REFUSED: [(&[&[u8]], &[u8], RecoverFault); 31] = [
+const REFUSED: [(&[&[u8]], &[u8], RecoverFault); 34] = [
     // lines that may not come there
     (
         &[HEADING],
@@ -92,6 +92,18 @@ const REFUSED: [(&[&[u8]], &[u8], RecoverFault); 31] = [
     (&[], b"ringd journal 1 \n", RecoverFault::Version),
     (&[], b"\n", RecoverFault::Version),
     (&[], b"create a chang #a1f44896\n", RecoverFault::Version),
+    // files whose first bytes became zeros
+    (
+        &[],
+        b"\0ingd journal 1 life 1 #ee26e62a\n",
+        RecoverFault::Version,
+    ),
+    (
+        &[],
+        b"\0\0\0\0\0\0create a chang #a1f44896\n",
+        RecoverFault::Version,
+    ),
+    (&[], b"\0\0\0\0\0\0\n", RecoverFault::Version),
     // files in which the number of the life, or its mark, is damaged or torn
     (&[], b"ringd journal 1 life ", RecoverFault::Bad { at: 21 }),
     (

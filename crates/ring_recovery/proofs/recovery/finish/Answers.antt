@@ -4,6 +4,12 @@ use Rattle.ring_recovery.specs.JournalLines.{heading}
 use Rattle.ring_recovery.proofs.Headed.{after_changes}
 use Rattle.ring_recovery.proofs.recovery.finish.Goals as goal
 
+pub new-requires-clause-text : goal.new-requires-clause-text
+new-requires-clause-text c = record {
+  whole = c.in-Ok.ensures.whole;
+  lines = c.in-Ok.ensures.lines ∙ ap (λ (lines : List (List ℕ)). heading c.args.said.life ∷ lines) (after_changes c.args.found.items c.requires.lives _ c.requires.changes);
+}
+
 pub returns-in-Ok-clause-ok : goal.returns-in-Ok-clause-ok
 returns-in-Ok-clause-ok c =
     rw c.new.ensures (record {
