@@ -12,12 +12,12 @@ use Rattle.ring_events.specs.declared.reply.Reply.TheVariants as reply
 use Rattle.ring_table.specs.declared.entry.Entry.{Entry}
 use Rattle.ring_table.specs.declared.entry.Entry.TheVariants.{Call}
 use Rattle.ring_campaign.specs.Campaigns.{told_of}
-use Rattle.ring_campaign.specs.Entries.{FindNobody, HasLeader, HasMember, HasNobody, IsFirst, IsQuestion, IsQuiet}
+use Rattle.ring_campaign.specs.Entries.{FindNobody, HasLeader, HasMember, HasNobody, IsFirst, IsQuestion, IsQuiet, Looks, StartsOnce}
 use Rattle.ring_campaign.specs.declared.candidate.Look.{Look}
 use Rattle.ring_campaign.specs.declared.candidate.Look.TheVariants as look
 use Rattle.ring_campaign.specs.declared.finding.Found.{Found}
 use Rattle.ring_campaign.specs.declared.finding.Found.TheVariants as found
-use Rattle.ring_campaign.specs.private.Looking.{AddsLeader, AddsLook, AddsMembers, AddsQuestions, AddsStart, AddsWho, Finds, IsAt, Never, Seeks, SeeksOn, Starts}
+use Rattle.ring_campaign.specs.private.Looking.{AddsLeader, AddsLook, AddsMembers, AddsQuestions, AddsStart, AddsWho, Finds, IsAfter, IsAt, Never, Seeks, SeeksOn, Starts, StartsTerm}
 
 module _ (session : ℕ) (group : List ℕ) (number : ℕ) where
   -- ---- one question after another
@@ -189,15 +189,20 @@ module _ (session : ℕ) (group : List ℕ) (number : ℕ) where
         leader = follows.leader;
         questions = All-append (IsQuestion session group number) follows.later added follows.questions more;
       })
-  more_questions during added more (inr once) =
+  more_questions during added more (inr term) =
+      let once = term.once in
       inr
       (record {
-        asked = once.asked;
-        answer = once.answer;
-        later = once.later ++ added;
-        whole = ap (λ (l : List (Entry Any)). l ++ added) once.whole ∙ append_assoc once.asked (Call session (Start group) once.answer ∷ once.later) added;
-        nobody = once.nobody;
-        questions = All-append (IsQuestion session group number) once.later added once.questions more;
+        once = record {
+          asked = once.asked;
+          answer = once.answer;
+          later = once.later ++ added;
+          whole = ap (λ (l : List (Entry Any)). l ++ added) once.whole ∙ append_assoc once.asked (Call session (Start group) once.answer ∷ once.later) added;
+          nobody = once.nobody;
+          questions = All-append (IsQuestion session group number) once.later added once.questions more;
+          final = λ refusal is. absurd (term.begun refusal is);
+        };
+        begun = term.begun;
       })
 
   -- what was found of a leader, behind earlier questions
@@ -241,17 +246,39 @@ module _ (session : ℕ) (group : List ℕ) (number : ℕ) where
       })))
 
   -- a start behind questions that found nobody
-  start_behind : (during asked : List (Entry Any)) (answer : Reply) → FindNobody session group number asked → All (IsQuiet session group number) during → IsAt session group number true (during ++ (asked ++ Call session (Start group) answer ∷ []))
-  start_behind during asked answer nobody all =
-      inr
-      (record {
-        asked = during ++ asked;
-        answer = answer;
-        later = [];
-        whole = sym (append_assoc during asked (Call session (Start group) answer ∷ []));
-        nobody = (more_quiet during asked nobody.0 all, more_nobody during asked nobody.1);
-        questions = All-nil (IsQuestion session group number);
-      })
+  start_behind : (during asked : List (Entry Any)) (answer : Reply) → FindNobody session group number asked → All (IsQuiet session group number) during → StartsOnce session group number (during ++ (asked ++ Call session (Start group) answer ∷ []))
+  start_behind during asked answer nobody all = record {
+    asked = during ++ asked;
+    answer = answer;
+    later = [];
+    whole = sym (append_assoc during asked (Call session (Start group) answer ∷ []));
+    nobody = (more_quiet during asked nobody.0 all, more_nobody during asked nobody.1);
+    questions = All-nil (IsQuestion session group number);
+    final = λ refusal is. refl;
+  }
+
+  -- a start of which nothing is told was not refused
+  not_refused : (answer : Reply) → told_of (Call session (Start group) answer) ≡ [] → (refusal : Refusal) → answer ≡ reply.Refused refusal → ⊥
+  not_refused answer silent refusal is =
+      let never : reply.Refused refusal ∷ [] ≡ [] = subst (λ (r : Reply). told_of (Call session (Start group) r) ≡ []) is silent in cc
+
+  -- such a start behind questions that found nobody
+  term_behind : (during asked : List (Entry Any)) (answer : Reply) → told_of (Call session (Start group) answer) ≡ [] → FindNobody session group number asked → All (IsQuiet session group number) during
+      → IsAt session group number true (during ++ (asked ++ Call session (Start group) answer ∷ []))
+  unfolding start_behind
+  term_behind during asked answer silent nobody all = inr (record { once = start_behind during asked answer nobody all; begun = not_refused answer silent })
+
+  -- the entries since the join are those of a campaign
+  pub looks_at : (follows : Bool) (during : List (Entry Any)) → IsAt session group number follows during → Looks session group number during
+  looks_at false during all = inl all
+  looks_at true during (inl follows) = inr (inl follows)
+  looks_at true during (inr term) = inr (inr term.once)
+
+  -- so they are after any look
+  pub looks_past : (result : Look) (follows : Bool) (during : List (Entry Any)) → IsAfter session group number result follows during → Looks session group number during
+  looks_past look.Nothing follows during at = looks_at follows during at
+  looks_past (look.Tell answer) follows during at = looks_at follows during at
+  looks_past (look.Last refusal) follows during looks = looks
 
   -- a leader to follow behind questions
   leader_behind : (during asked : List (Entry Any)) → All (IsQuiet session group number) asked → HasLeader session group number true asked → All (IsQuiet session group number) during → IsAt session group number true (during ++ asked)
@@ -318,14 +345,14 @@ module _ (session : ℕ) (group : List ℕ) (number : ℕ) where
       let start : List (Entry Any) = finds.1.asked ++ Call session (Start group) finds.0 ∷ [] in
       looks_then mine between now result start finds.1.gained
       (flat_map-append told_of finds.1.asked (Call session (Start group) finds.0 ∷ []) ∙ rw (finds.1.silent, finds.2) refl)
-      (λ during is. start_behind during finds.1.asked finds.0 finds.1.nobody is) asks
+      (λ during is. term_behind during finds.1.asked finds.0 finds.2 finds.1.nobody is) asks
 
   -- a start was refused
   pub looks_refused : (mine now : List (Entry Any)) (refusal : Refusal) → Finds session group number mine (found.Refused refusal) now → AddsLook session group number false mine (look.Last refusal) true now
   looks_refused mine now refusal finds = record {
     added = finds.asked ++ Call session (Start group) (reply.Refused refusal) ∷ [];
     gained = finds.gained;
-    at = λ during is. start_behind during finds.asked (reply.Refused refusal) finds.nobody is;
+    at = λ during is. inr (inr (start_behind during finds.asked (reply.Refused refusal) finds.nobody is));
     told = flat_map-append told_of finds.asked (Call session (Start group) (reply.Refused refusal) ∷ []) ∙ rw finds.silent refl;
     is = (finds.asked, refl);
   }

@@ -6,6 +6,7 @@ use Rattle.std.proofs.lemmas.List.Concat.{flat_map-append}
 use Rattle.std.proofs.lemmas.List.Elements.{All-nil}
 use Rattle.std.proofs.lemmas.List.Folds.{list_all-append}
 use Rattle.ring_id.specs.Identity.{number_of}
+use Rattle.ring_id.specs.declared.refusal.Refusal.{Refusal}
 use Rattle.ring_any.specs.Any.{any_greatest, any_two_way, any_winner}
 use Rattle.ring_any.specs.declared.any.Any.{Any}
 use Rattle.ring_events.specs.declared.event.Command.TheVariants.{Join, Start}
@@ -22,14 +23,17 @@ use Rattle.ring_table.specs.declared.access.Answer.{Answer}
 use Rattle.ring_table.specs.declared.access.Answer.TheVariants.{Placed, Unplaced}
 use Rattle.ring_table.specs.declared.entry.Entry.{Entry}
 use Rattle.ring_table.specs.declared.entry.Entry.TheVariants.{Call}
+use Rattle.ring_campaign.proofs.Looking.{looks_at, looks_past}
 use Rattle.ring_campaign.specs.Campaigns.{Campaigns, Changes, Given, GivesFirst, HasCampaigned, IsOver, Joins, told_of}
 use Rattle.ring_campaign.specs.Entries.{GainsCampaign, Looks}
 use Rattle.ring_campaign.specs.declared.attending.Turn.{Turn}
 use Rattle.ring_campaign.specs.declared.attending.Turn.TheVariants as turn
 use Rattle.ring_campaign.specs.declared.opening.First.{First}
 use Rattle.ring_campaign.specs.declared.opening.First.TheVariants as first
-use Rattle.ring_campaign.specs.private.Looking.{IsAt}
-use Rattle.ring_campaign.specs.private.Telling.{AddsLeave, Asked, Attends, HasTurned, IsWish, IsTurn, Puts, Tells, Turns, is_heard}
+use Rattle.ring_campaign.specs.declared.candidate.Look.{Look}
+use Rattle.ring_campaign.specs.declared.candidate.Look.TheVariants as look
+use Rattle.ring_campaign.specs.private.Looking.{AddsLook, tells as replies_of}
+use Rattle.ring_campaign.specs.private.Telling.{AddsLeave, Asked, Attends, GoesOn, HasTurned, IsWish, IsTurn, Puts, Tells, Turns, is_heard}
 
 -- ---- the first line
 
@@ -104,14 +108,36 @@ module _ {V : Type 0} (writing : V → Writing → V → Type 0) where
     puts = subst (λ (text : List ℕ). Puts writing from text all to) (sym (text-append x.told y.told)) (puts_then from mid to (text_of reply_line x.told) (text_of reply_line y.told) all x.puts y.puts);
   }
 
+  -- a turn whose reply was not written
+  pub turns_failed : (session : ℕ) (group : List ℕ) (number : ℕ) (old new : Bool) (last last_now : Reply) (mine mid now : List (Entry Any)) (from to : V) (result : Look) → AddsLook session group number old mine result new mid → now ≡ mid
+      → Tells writing last from (replies_of session group number result) false last_now to → Turns writing session group number old last mine from turn.Failed new last_now now to
+  turns_failed session group number old new last last_now mine mid now from to result looks same got = record {
+    added = looks.added;
+    gained = same ∙ looks.gained;
+    at = λ during is. looks_past session group number result new (during ++ looks.added) (looks.at during is);
+    tells = subst (λ (answers : List Reply). Tells writing last from answers false last_now to) (sym looks.told) got;
+    is = tt;
+  }
+
+  -- a turn after which the campaign is over
+  pub turns_over : (session : ℕ) (group : List ℕ) (number : ℕ) (old new : Bool) (last last_now : Reply) (mine mid now : List (Entry Any)) (from to : V) (refusal : Refusal) → AddsLook session group number old mine (look.Last refusal) new mid
+      → now ≡ mid → Tells writing last from (Refused refusal ∷ []) true last_now to → Turns writing session group number old last mine from turn.Over new last_now now to
+  turns_over session group number old new last last_now mine mid now from to refusal looks same got = record {
+    added = looks.added;
+    gained = same ∙ looks.gained;
+    at = looks.at;
+    tells = subst (λ (answers : List Reply). Tells writing last from answers true last_now to) (sym looks.told) got;
+    is = record { before = looks.is.0; session = session; group = group; refusal = refusal; whole = looks.is.1 };
+  }
+
   module _ (session : ℕ) (group : List ℕ) (number : ℕ) (mine : List (Entry Any)) (from : V) where
     -- before the first turn
-    pub turned_none : HasTurned writing session group number mine from true false Done mine from
+    pub turned_none : HasTurned writing session group number mine from turn.On false Done mine from
     turned_none = record { during = []; gained = sym (append-nil mine); at = All-nil _; tells = tells_none Done from }
 
     -- one turn more
-    pub turned_more : (old new : Bool) (last last_now : Reply) (mid now : List (Entry Any)) (between to : V) (result : Turn) → HasTurned writing session group number mine from true old last mid between
-        → Turns writing session group number old last mid between result new last_now now to → HasTurned writing session group number mine from (is_heard result) new last_now now to
+    pub turned_more : (old new : Bool) (last last_now : Reply) (mid now : List (Entry Any)) (between to : V) (result : Turn) → HasTurned writing session group number mine from turn.On old last mid between
+        → Turns writing session group number old last mid between result new last_now now to → HasTurned writing session group number mine from result new last_now now to
     turned_more old new last last_now mid now between to result a b = record {
       during = a.during ++ b.added;
       gained = b.gained ∙ ap (λ (l : List (Entry Any)). l ++ b.added) a.gained ∙ append_assoc mine a.during b.added;
@@ -122,19 +148,20 @@ module _ {V : Type 0} (writing : V → Writing → V → Type 0) where
           (tells_then Done last last_now from between to (flat_map told_of a.during) (flat_map told_of b.added) (is_heard result) a.tells b.tells);
     }
 
-    -- before a term to follow was found, all entries are questions
-    looks_at : (at : Bool) (during : List (Entry Any)) → IsAt session group number at during → Looks session group number during
-    looks_at false during all = inl all
-    looks_at true during is = inr is
+    -- after any turn, the entries since the join are those of a campaign
+    looks_after : (result : Turn) (new : Bool) (during : List (Entry Any)) → GoesOn session group number result new during → Looks session group number during
+    looks_after turn.On new during at = looks_at session group number new during at
+    looks_after turn.Over new during looks = looks
+    looks_after turn.Failed new during looks = looks
 
     module _ {S : Type 0} (reading : S → Reading → S → Type 0) (reader : S) where
       -- no read call may follow the last one
-      pub attends_ended : (follows : Bool) (last : Reply) (now : List (Entry Any)) (to : V) (calls : List Reading) (call : Reading) (mid reader_now : S) → HasTurned writing session group number mine from true follows last now to
+      pub attends_ended : (follows : Bool) (last : Reply) (now : List (Entry Any)) (to : V) (calls : List Reading) (call : Reading) (mid reader_now : S) → HasTurned writing session group number mine from turn.On follows last now to
           → CallsLead reading reader calls mid → list_all goes_on calls ≡ true → reading mid call reader_now → goes_on call ≡ false → Attends reading writing session group number mine reader from now reader_now to
       attends_ended follows last now to calls call mid reader_now a led went_on step ends = record {
         during = a.during;
         gained = a.gained;
-        looks = looks_at follows a.during a.at;
+        looks = looks_at session group number follows a.during a.at;
         calls = calls ++ call ∷ [];
         reads = Calls-append reading reader mid reader_now calls (call ∷ []) led (reader_now, step, refl);
         told = a.tells.told;
@@ -145,7 +172,7 @@ module _ {V : Type 0} (writing : V → Writing → V → Type 0) where
 
       -- the campaign is over after a turn
       pub attends_turned : (old new : Bool) (last last_now : Reply) (mid now : List (Entry Any)) (between to : V) (result : Turn) (calls : List Reading) (reader_now : S)
-          → HasTurned writing session group number mine from true old last mid between → Turns writing session group number old last mid between result new last_now now to → (result ≡ turn.On → ⊥)
+          → HasTurned writing session group number mine from turn.On old last mid between → Turns writing session group number old last mid between result new last_now now to → (result ≡ turn.On → ⊥)
           → CallsLead reading reader calls reader_now → list_all goes_on calls ≡ true → Attends reading writing session group number mine reader from now reader_now to
       unfolding turned_more
       attends_turned old new last last_now mid now between to result calls reader_now a b other led went_on =
@@ -153,7 +180,7 @@ module _ {V : Type 0} (writing : V → Writing → V → Type 0) where
           record {
             during = a.during ++ b.added;
             gained = all.gained;
-            looks = looks_at new (a.during ++ b.added) all.at;
+            looks = looks_after result new (a.during ++ b.added) all.at;
             calls = calls;
             reads = led;
             told = all.tells.told;

@@ -3,6 +3,7 @@
 use Rattle.std.specs.Prelude.{◌≡◌, ◌⊎◌, ◌==◌, ℕ, Bool, true, false, List, [], ◌∷◌, ◌++◌, Option, None, Some, All}
 use Rattle.std.specs.List.{list_any}
 use Rattle.ring_id.specs.Identity.{number_of}
+use Rattle.ring_id.specs.declared.refusal.Refusal.{Refusal}
 use Rattle.ring_roster.specs.Ring.{has_number}
 use Rattle.ring_any.specs.declared.any.Any.{Any}
 use Rattle.ring_events.specs.declared.event.Command.TheVariants.{Join, Leave, Members, Start, Terms, Who}
@@ -91,7 +92,8 @@ module _ (session : ℕ) (group : List ℕ) (number : ℕ) where
   abbrev pub FindNobody : List (Entry Any) → Type 0
   FindNobody asked = All IsQuiet asked × HasNobody asked
 
-  -- One start, behind questions that found nobody. Questions follow it.
+  -- One start, behind questions that found nobody. Questions follow it, unless it was refused: then
+  -- nothing does.
   pub record StartsOnce (entries : List (Entry Any)) : Type 0 where
     pub asked : List (Entry Any)
     pub answer : Reply
@@ -99,6 +101,7 @@ module _ (session : ℕ) (group : List ℕ) (number : ℕ) where
     pub whole : entries ≡ asked ++ Call session (Start group) answer ∷ later
     pub nobody : FindNobody asked
     pub questions : All IsQuestion later
+    pub final : (refusal : Refusal) → answer ≡ reply.Refused refusal → later ≡ []
 
   -- No start, but questions that found another member which leads. Questions follow them.
   pub record Follows (entries : List (Entry Any)) : Type 0 where

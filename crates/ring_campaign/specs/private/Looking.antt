@@ -1,6 +1,7 @@
 -- What a candidate asks, and what it finds.
 use Rattle.std.specs.Prelude.{◌≡◌, ◌⊎◌, ℕ, Bool, true, false, List, [], ◌∷◌, ◌++◌, Option, Some, None, All}
 use Rattle.std.specs.List.{flat_map, list_any}
+use Rattle.ring_id.specs.declared.refusal.Refusal.{Refusal}
 use Rattle.ring_roster.specs.Ring.{has_number}
 use Rattle.ring_any.specs.declared.any.Any.{Any}
 use Rattle.ring_events.specs.declared.event.Command.{Command}
@@ -11,7 +12,7 @@ use Rattle.ring_events.specs.declared.reply.Reply.TheVariants as reply
 use Rattle.ring_table.specs.declared.entry.Entry.{Entry}
 use Rattle.ring_table.specs.declared.entry.Entry.TheVariants.{Call}
 use Rattle.ring_campaign.specs.Campaigns.{told_of}
-use Rattle.ring_campaign.specs.Entries.{FindNobody, Follows, HasLeader, IsFirst, IsQuiet, StartsOnce}
+use Rattle.ring_campaign.specs.Entries.{FindNobody, Follows, HasLeader, IsFirst, IsQuiet, Looks, StartsOnce}
 use Rattle.ring_campaign.specs.declared.finding.Found.{Found}
 use Rattle.ring_campaign.specs.declared.finding.Found.TheVariants as found
 use Rattle.ring_campaign.specs.declared.finding.Last.{Last}
@@ -116,16 +117,26 @@ module _ (session : ℕ) (group : List ℕ) (number : ℕ) where
   Starts mine (found.Refused refusal) now =
       now ≡ mine ++ Call session (Start group) (Refused refusal) ∷ []
 
+  -- One start, which was not refused.
+  pub record StartsTerm (entries : List (Entry Any)) : Type 0 where
+    pub once : StartsOnce session group number entries
+    pub begun : (refusal : Refusal) → once.answer ≡ Refused refusal → ⊥
+
   -- the entries since the join, before a term to follow was found and after that
   abbrev pub IsAt : Bool → List (Entry Any) → Type 0
   IsAt false entries = All (IsQuiet session group number) entries
-  IsAt true entries = Follows session group number entries ⊎ StartsOnce session group number entries
+  IsAt true entries = Follows session group number entries ⊎ StartsTerm entries
 
   -- what is told after a look
   abbrev pub tells : Look → List Reply
   tells look.Nothing = []
   tells (look.Tell answer) = answer ∷ []
   tells (look.Last refusal) = Refused refusal ∷ []
+
+  -- the entries since the join, after a look: nothing may follow a last one
+  abbrev pub IsAfter : Look → Bool → List (Entry Any) → Type 0
+  IsAfter (look.Last refusal) new entries = Looks session group number entries
+  IsAfter _ new entries = IsAt new entries
 
   -- what is so of a look besides
   abbrev pub IsLook : Look → List (Entry Any) → Type 0
@@ -146,6 +157,6 @@ module _ (session : ℕ) (group : List ℕ) (number : ℕ) where
       (now : List (Entry Any)) : Type 0 where
     pub added : List (Entry Any)
     pub gained : now ≡ mine ++ added
-    pub at : (during : List (Entry Any)) → IsAt old during → IsAt new (during ++ added)
+    pub at : (during : List (Entry Any)) → IsAt old during → IsAfter result new (during ++ added)
     pub told : flat_map told_of added ≡ tells result
     pub is : IsLook result added

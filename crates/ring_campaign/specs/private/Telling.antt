@@ -62,6 +62,11 @@ abbrev pub IsTurn : Turn → List (Entry Any) → Type 0
 IsTurn turn.Over added = EndsRefused added
 IsTurn _ added = Unit {0}
 
+-- the entries since the join, after a turn: nothing may follow one after which the campaign is over
+abbrev pub GoesOn : ℕ → List ℕ → ℕ → Turn → Bool → List (Entry Any) → Type 0
+GoesOn session group number turn.On new entries = IsAt session group number new entries
+GoesOn session group number _ new entries = Looks session group number entries
+
 -- A turn: a look, and the replies after it.
 pub record Turns {V : Type 0} (writing : V → Writing → V → Type 0) (session : ℕ) (group : List ℕ)
     (number : ℕ) (old : Bool) (last : Reply) (mine : List (Entry Any)) (from : V) (result : Turn)
@@ -69,18 +74,18 @@ pub record Turns {V : Type 0} (writing : V → Writing → V → Type 0) (sessio
   pub added : List (Entry Any)
   pub gained : now ≡ mine ++ added
   pub at : (during : List (Entry Any)) → IsAt session group number old during
-      → IsAt session group number new (during ++ added)
+      → GoesOn session group number result new (during ++ added)
   pub tells : Tells writing last from (flat_map told_of added) (is_heard result) last_now to
   pub is : IsTurn result added
 
--- The turns so far, and the replies after them.
+-- The turns up to one with this result, and the replies after them.
 pub record HasTurned {V : Type 0} (writing : V → Writing → V → Type 0) (session : ℕ)
-    (group : List ℕ) (number : ℕ) (mine : List (Entry Any)) (from : V) (all new : Bool)
+    (group : List ℕ) (number : ℕ) (mine : List (Entry Any)) (from : V) (result : Turn) (new : Bool)
     (last : Reply) (now : List (Entry Any)) (to : V) : Type 0 where
   pub during : List (Entry Any)
   pub gained : now ≡ mine ++ during
-  pub at : IsAt session group number new during
-  pub tells : Tells writing Done from (flat_map told_of during) all last to
+  pub at : GoesOn session group number result new during
+  pub tells : Tells writing Done from (flat_map told_of during) (is_heard result) last to
 
 -- The turns between the join and the leave, and their replies.
 pub record Attends {S V : Type 0} (reading : S → Reading → S → Type 0)
