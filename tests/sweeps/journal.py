@@ -19,8 +19,6 @@ from server import PATIENCE, Client, Lost, serving
 from sweep import Bad, NO_MEMORY
 from table import FEW, THIRD, Sweep, or_none, sweep_all
 
-# How long a run in which a call went wrong, and which may go on, has to end by itself before it is ended from outside.
-MOMENT = 0.2
 # The calls, and how each goes wrong: a word, and an error by its number.
 FAILING = [("fail", errno.EIO), ("fail", errno.ENOSPC)]
 ENDING = [("exit", 0), ("done", 0)]
@@ -162,11 +160,14 @@ def expect_states(shown, lines, told, sent):
 
 def expect_end(server, call, how):
     """The program has ended as it has to, or it is there. If a call went wrong it may be about to end by itself, and
-    gets a moment for that. If it must end, it gets the time that a busy machine needs."""
+    gets a moment for that. If it must end, it gets the time that a busy machine needs. It may be ended from outside
+    between its line and its end."""
     must_end = how in ENDS_AT_CALL or (how == "fail" and call in OF_JOURNAL)
-    if server.told():
+    if server.told() and must_end:
         with contextlib.suppress(subprocess.TimeoutExpired):
-            server.run.wait(timeout=PATIENCE if must_end else MOMENT)
+            server.run.wait(timeout=PATIENCE)
+    elif server.told():
+        server.let_end()
     was_there, out, error = server.is_ended_by_us()
     status = server.run.returncode
     if was_there and not error:
@@ -176,7 +177,7 @@ def expect_end(server, call, how):
     if how in ENDS_AT_CALL:
         well = status == ENDED and not error
     else:
-        well = status == 1 and error in FAULTS[call] and how in ("fail", "interrupt")
+        well = (status == 1 or was_there and not must_end) and error in FAULTS[call] and how in ("fail", "interrupt")
     if not well or not server.listening().startswith(out) or not server.told():
         raise Bad(f"status {status}, {out!r}, {error!r}")
 
@@ -218,10 +219,10 @@ def lacks_memory(library, program, number, spared=()):
     with serving(library, program, ["run"], f"run, growth {number}", journal=journal, growth=number) as server:
         begun = server.listening() if server.listens() else b""
         if server.told():
-            with contextlib.suppress(subprocess.TimeoutExpired):
-                server.run.wait(timeout=MOMENT)
+            server.let_end()
         was_there, out, error = server.is_ended_by_us()
-        lacked = not was_there and server.told() and server.run.returncode == 1 and error in LACKING
+        # it may be ended from outside between its line and its end
+        lacked = server.told() and (was_there or server.run.returncode == 1) and error in LACKING
         if out != begun or not (lacked or (was_there and begun and not error)):
             raise Bad(f"{out!r}, {error!r}, status {server.run.returncode}")
         was_told = server.told()
@@ -259,10 +260,12 @@ def lacks_while_serving(library, program, number, many):
         if not server.listens():
             raise Bad(f"growth {number} is one of the start")
         told, sent = talk_alone(server, lines)
+        if told < len(lines):
+            server.let_end()
         was_there, _, error = server.is_ended_by_us()
         was_told = server.told()
         ends = error == FAILED or (error in LACKING and not told)
-        lacked = was_told and not was_there and server.run.returncode == 1 and ends
+        lacked = was_told and (was_there or server.run.returncode == 1) and ends
         serves = was_there and not error and (told == len(lines) or was_told)
         if not serves and not lacked:
             raise Bad(f"{told} of {len(lines)} lines were answered, and it says {error!r}")

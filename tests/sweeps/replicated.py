@@ -108,6 +108,8 @@ class Run:
         for name, command in COMMANDS:
             session.ask(name, command)
         was_there, out, error = server.is_ended_by_us()
+        if not was_there and server.told():
+            raise Gone  # (the call was one of the thread that renews the lease, after the last command)
         if not was_there or out != server.listening() or error not in (b"", STANDS_BY):
             raise Bad(f"it ended, or said {out!r}, {error!r}")
         session.expect(self.journal.groups(), "in etcd")

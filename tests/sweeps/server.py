@@ -14,6 +14,8 @@ from ports import HOST, free_port
 from sweep import Bad
 
 PATIENCE = 20
+# How long a run in which a call went wrong, and which may go on, has to tell of a fault before a signal ends it.
+MOMENT = 0.2
 # How often a program is started anew because somebody else took its port.
 TRIES = 5
 LISTEN_FAILED = b"ringd: listen failed\n"
@@ -107,6 +109,7 @@ class Server:
     def start(self):
         """Starts the program on free ports."""
         self.port, self.out, self.error, self.refusals = free_port(), b"", b"", 0
+        self.is_over = False  # whether all was heard that it said
         self.ours, theirs = os.pipe()
         os.set_blocking(self.ours, False)
         file = pathlib.Path(self.folder.name) / "ring.toml"
@@ -163,12 +166,21 @@ class Server:
 
     def ends(self):
         """Its status, standard output and standard error, once it has ended by itself."""
-        try:
-            out, error = self.run.communicate(timeout=PATIENCE)
-        except subprocess.TimeoutExpired:
-            raise Bad("the program doesn't end") from None
-        self.out, self.error = self.out + out, self.error + error
+        if not self.is_over:
+            try:
+                out, error = self.run.communicate(timeout=PATIENCE)
+            except subprocess.TimeoutExpired:
+                raise Bad("the program doesn't end") from None
+            self.is_over, self.out, self.error = True, self.out + out, self.error + error
         return self.run.returncode, self.out, self.error
+
+    def let_end(self):
+        """Gives it a moment to tell of a fault. If it does, it gets the time to end that a busy machine needs."""
+        if select.select([self.run.stderr], [], [], MOMENT)[0]:
+            try:
+                self.run.wait(timeout=PATIENCE)
+            except subprocess.TimeoutExpired:
+                raise Bad("it tells of a fault, and doesn't end") from None
 
     def is_ended_by_us(self):
         """Ends it from outside; what it said, and whether it was still there."""
