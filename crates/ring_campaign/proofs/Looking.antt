@@ -257,7 +257,7 @@ module _ (session : ℕ) (group : List ℕ) (number : ℕ) where
     final = λ refusal is. refl;
   }
 
-  -- a start of which nothing is told was not refused
+  -- if nothing is told after a start, the start was not refused
   not_refused : (answer : Reply) → told_of (Call session (Start group) answer) ≡ [] → (refusal : Refusal) → answer ≡ reply.Refused refusal → ⊥
   not_refused answer silent refusal is =
       let never : reply.Refused refusal ∷ [] ≡ [] = subst (λ (r : Reply). told_of (Call session (Start group) r) ≡ []) is silent in cc
