@@ -5,7 +5,7 @@ ghost use Rattle.ring_accept.specs.Numbers.{next_number};
 use crate::fault::ProgramFault;
 use crate::serving::{ClientHandler, limit_silence, number_after};
 use std::net::{OpenListener, TcpStream};
-use std::sync::{Mutex, Wait};
+use std::sync::{Mutex, MutexGuard, Wait};
 use std::thread;
 use std::thread::{Scope, Threads};
 use std::time::{Clock, Duration};
@@ -92,95 +92,28 @@ impl<L: OpenListener<Stream = TcpStream>> Acceptor<L> {
     }
 }
 
-/// Starts a thread for each handler, and opens the acceptor once all threads are started.
-///
-/// Each handler serves one client after another until the acceptor is shut. If a handler's seat is
-/// spent, a spare handler takes its place, as long as there is one.
-pub fn attend_all<R, L, G>(
-    rt: &R,
-    acceptor: &Mutex<Acceptor<L>>,
-    spare: &Mutex<Vec<G>>,
-    handlers: Vec<G>,
-    limits: Limits,
-) -> Result<(), ProgramFault>
-where
-    R: Threads + Wait + Eprint + Clock + Sync,
-    L: OpenListener<Stream = TcpStream> + Send + Drop,
-    G: ClientHandler + Send,
-    ensures { IfErr result (λ fault. fault ≡ ProgramFault.Thread) }
-{
-    thread::scope(
-        thread::scope_env(),
-        rt,
-        move |scope| -> Result<(), ProgramFault>
-            ensures { IfErr result (λ fault. fault ≡ ProgramFault.Thread) }
-        {
-            let mut held = acceptor.lock(rt);
-            start_each(scope, rt, acceptor, spare, handlers, limits)?;
-            held.is_open = true;
-            Ok(())
-        },
-    )
-}
-
-/// An acceptor, and the spare handlers of its threads. A spare handler takes the place of a handler
-/// whose seat is spent.
+/// Where clients of one kind come in.
 #[derive(Drop)]
-pub struct Entrance<L: Drop, G: Drop> {
-    /// The acceptor.
-    pub acceptor: Mutex<Acceptor<L>>,
-    /// The spare handlers.
-    pub spare: Mutex<Vec<G>>,
+pub struct Entrance<'a, L: Drop, G: Drop> {
+    /// Accepts the clients; `None` if they are not served.
+    pub acceptor: Option<&'a Mutex<Acceptor<L>>>,
+    /// The handlers that serve from the start, on a thread each.
+    pub handlers: Vec<G>,
+    /// The handlers that take the place of those whose seats are spent.
+    pub spare: &'a Mutex<Vec<G>>,
 }
 
-/// Starts a thread for each handler of two entrances, and opens both acceptors once all threads are
-/// started.
+/// Starts a thread for each handler of each entrance, and opens the acceptors once all threads are
+/// started. The handlers of an entrance without an acceptor do not serve.
 ///
-/// Each handler serves one client after another, as in `attend_all`. If a thread cannot be started,
-/// neither acceptor is opened.
-pub fn attend_both<R, L, G, H>(
-    rt: &R,
-    first: &Entrance<L, G>,
-    handlers: Vec<G>,
-    second: &Entrance<L, H>,
-    others: Vec<H>,
-    limits: Limits,
-) -> Result<(), ProgramFault>
-where
-    R: Threads + Wait + Eprint + Clock + Sync,
-    L: OpenListener<Stream = TcpStream> + Send + Drop,
-    G: ClientHandler + Send,
-    H: ClientHandler + Send,
-    ensures { IfErr result (λ fault. fault ≡ ProgramFault.Thread) }
-{
-    let (acceptor, spare) = (&first.acceptor, &first.spare);
-    let (other, more) = (&second.acceptor, &second.spare);
-    thread::scope(
-        thread::scope_env(),
-        rt,
-        move |scope| -> Result<(), ProgramFault>
-            ensures { IfErr result (λ fault. fault ≡ ProgramFault.Thread) }
-        {
-            let mut one = acceptor.lock(rt);
-            let mut two = other.lock(rt);
-            start_each(scope, rt, acceptor, spare, handlers, limits)?;
-            start_each(scope, rt, other, more, others, limits)?;
-            one.is_open = true;
-            two.is_open = true;
-            Ok(())
-        },
-    )
-}
-
-/// Starts a thread for each handler of three entrances, and opens the acceptors once all are there.
-///
-/// Each handler serves one client after another, as those of `attend_all` do. If a thread cannot be
-/// started, no acceptor is opened.
-pub fn attend_three<R, L, G, H, I>(
-    rt: &R,
-    first: (&Entrance<L, G>, Vec<G>),
-    second: (&Entrance<L, H>, Vec<H>),
-    third: (&Entrance<L, I>, Vec<I>),
+/// Each handler serves one client after another until its acceptor is shut. If a handler's seat is
+/// spent, a spare handler takes its place, as long as there is one. If a thread cannot be started,
+/// no acceptor is opened.
+pub fn attend<'a, R, L, G, H, I>(
+    rt: &'a R,
+    first: Entrance<'a, L, G>,
+    second: Entrance<'a, L, H>,
+    third: Entrance<'a, L, I>,
     limits: Limits,
 ) -> Result<(), ProgramFault>
 where
@@ -191,57 +124,63 @@ where
     I: ClientHandler + Send,
     ensures { IfErr result (λ fault. fault ≡ ProgramFault.Thread) }
 {
-    let (first, handlers) = first;
-    let (second, others) = second;
-    let (third, more) = third;
-    let (acceptor, spare) = (&first.acceptor, &first.spare);
-    let (other, other_spare) = (&second.acceptor, &second.spare);
-    let (last, last_spare) = (&third.acceptor, &third.spare);
     thread::scope(
         thread::scope_env(),
         rt,
         move |scope| -> Result<(), ProgramFault>
             ensures { IfErr result (λ fault. fault ≡ ProgramFault.Thread) }
         {
-            let mut one = acceptor.lock(rt);
-            let mut two = other.lock(rt);
-            let mut three = last.lock(rt);
-            start_each(scope, rt, acceptor, spare, handlers, limits)?;
-            start_each(scope, rt, other, other_spare, others, limits)?;
-            start_each(scope, rt, last, last_spare, more, limits)?;
-            one.is_open = true;
-            two.is_open = true;
-            three.is_open = true;
+            let one = start_each(scope, rt, first, limits)?;
+            let two = start_each(scope, rt, second, limits)?;
+            let three = start_each(scope, rt, third, limits)?;
+            open(one);
+            open(two);
+            open(three);
             Ok(())
         },
     )
 }
 
-// Starts a thread for each handler, in which it serves the clients of an acceptor.
+// Starts a thread for each handler of an entrance, in which it serves the clients of the acceptor.
+// Returns the acceptor, locked, if there is one.
 fn start_each<'s, S, R, L, G>(
     scope: &Scope<'s, S>,
     rt: &'s R,
-    acceptor: &'s Mutex<Acceptor<L>>,
-    spare: &'s Mutex<Vec<G>>,
-    handlers: Vec<G>,
+    entrance: Entrance<'s, L, G>,
     limits: Limits,
-) -> Result<(), ProgramFault>
+) -> Result<Option<MutexGuard<'s, Acceptor<L>>>, ProgramFault>
 where
     R: Wait + Eprint + Clock + Sync,
     L: OpenListener<Stream = TcpStream> + Send + Drop,
     G: ClientHandler + Send + 's,
     ensures { IfErr result (λ fault. fault ≡ ProgramFault.Thread) }
 {
+    let Entrance {
+        acceptor: Some(acceptor),
+        handlers,
+        spare,
+    } = entrance
+    else {
+        return Ok(None);
+    };
+    let held = acceptor.lock(rt);
     for handler in handlers {
-        let Ok(_) = scope.spawn(move || attend(rt, acceptor, spare, handler, limits)) else {
+        let Ok(_) = scope.spawn(move || serve_each(rt, acceptor, spare, handler, limits)) else {
             return Err(ProgramFault::Thread);
         };
     }
-    Ok(())
+    Ok(Some(held))
+}
+
+// Opens an acceptor, if there is one.
+fn open<L>(acceptor: Option<MutexGuard<'_, Acceptor<L>>>) {
+    if let Some(mut acceptor) = acceptor {
+        acceptor.is_open = true;
+    }
 }
 
 // Serves one client after another by this handler's seat, until the acceptor is shut.
-fn attend<R, L, G>(
+fn serve_each<R, L, G>(
     rt: &R,
     acceptor: &Mutex<Acceptor<L>>,
     spare: &Mutex<Vec<G>>,

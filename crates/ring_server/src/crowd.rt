@@ -5,7 +5,7 @@ ghost use Rattle.ring_accept.specs.declared.fault.ProgramFault.TheVariants.{NoMe
 
 use crate::counting::Heeded;
 use crate::hosting::{CampaignHandler, campaign_handlers};
-use crate::running::{seat_all, seat_both, seat_three, seat_views};
+use crate::running::seat;
 use crate::sessions::{Front, Seat, SessionHandler, session_handlers};
 use crate::viewing::{Viewer, viewers};
 use crate::watching::Watch;
@@ -186,40 +186,52 @@ impl<'a, T: Tabled<Any> + Send + Sync + Drop> Crowd<'a, T> {
         let Crowd {
             watch,
             sessions,
-            campaigns: members,
+            campaigns,
             viewers,
         } = self;
-        let Others { campaigns, web } = others;
-        let first = entrance(watch, listener, sessions.spare);
-        match (campaigns, web) {
-            (None, None) => seat_all(rt, &first.acceptor, &first.spare, sessions.active, limits),
-            (Some(other), None) => {
-                let second = entrance(watch, other, members.spare);
-                seat_both(rt, &first, &second, sessions.active, members.active, limits)
-            }
-            (None, Some(web)) => {
-                let second = entrance(watch, web.listener, viewers.spare);
-                seat_views(rt, &first, &second, sessions.active, viewers.active, limits)
-            }
-            (Some(other), Some(web)) => {
-                let second = entrance(watch, other, members.spare);
-                let third = entrance(watch, web.listener, viewers.spare);
-                let (second, third) = ((&second, members.active), (&third, viewers.active));
-                seat_three(rt, (&first, sessions.active), second, third, limits)
-            }
-        }
+        let first = acceptor(watch, Some(listener));
+        let second = acceptor(watch, others.campaigns);
+        let third = acceptor(watch, listener_of(others.web));
+        let first_spare = Mutex::new(sessions.spare);
+        let second_spare = Mutex::new(campaigns.spare);
+        let third_spare = Mutex::new(viewers.spare);
+        seat(
+            rt,
+            Entrance {
+                acceptor: first.as_ref(),
+                handlers: sessions.active,
+                spare: &first_spare,
+            },
+            Entrance {
+                acceptor: second.as_ref(),
+                handlers: campaigns.active,
+                spare: &second_spare,
+            },
+            Entrance {
+                acceptor: third.as_ref(),
+                handlers: viewers.active,
+                spare: &third_spare,
+            },
+            limits,
+        )
     }
 }
 
-// Where clients come in by a listener, and those that take the place of others. The watch counts
-// failed accepts.
-fn entrance<L, G>(watch: &Watch, listener: L, spare: Vec<G>) -> Entrance<Heeded<'_, L>, G>
+// Returns the listener for HTTP, if it is served.
+fn listener_of<L: Drop>(web: Option<Web<L>>) -> Option<L> {
+    match web {
+        Some(web) => Some(web.listener),
+        None => None,
+    }
+}
+
+// Returns an acceptor at a listener, if there is one. The watch counts failed accepts.
+fn acceptor<L>(watch: &Watch, listener: Option<L>) -> Option<Mutex<Acceptor<Heeded<'_, L>>>>
 where
     L: OpenListener<Stream = TcpStream> + Drop,
-    G: Drop,
 {
-    Entrance {
-        acceptor: Mutex::new(Acceptor::new(watch.heeded(listener))),
-        spare: Mutex::new(spare),
+    match listener {
+        Some(listener) => Some(Mutex::new(Acceptor::new(watch.heeded(listener)))),
+        None => None,
     }
 }

@@ -10,9 +10,7 @@ use crate::sessions;
 use crate::sessions::{Front, Seat, SessionHandler};
 use crate::viewing::Viewer;
 use crate::watching::Watch;
-use ring_accept::{
-    Acceptor, Entrance, Limits, ProgramFault, attend_all, attend_both, attend_three, tell,
-};
+use ring_accept::{Entrance, Limits, ProgramFault, attend, tell};
 use ring_any::Any;
 use ring_config::Config;
 use ring_lines::Outlet;
@@ -156,72 +154,13 @@ pub(crate) fn watch_of<R: Files<File = File>, L: Drop>(
     Ok(watch.with_memory(rt))
 }
 
-/// Lets the session handlers of a table serve at one acceptor.
-pub(crate) fn seat_all<'a, R, L, T>(
-    rt: &R,
-    acceptor: &Mutex<Acceptor<Heeded<'a, L>>>,
-    spare: &Mutex<Vec<SessionHandler<'a, T>>>,
-    session_handlers: Vec<SessionHandler<'a, T>>,
-    limits: Limits,
-) -> Result<(), ProgramFault>
-where
-    R: Threads + Wait + Eprint + Clock + Sync,
-    L: OpenListener<Stream = TcpStream> + Send + Drop,
-    T: Tabled<Any> + Send + Sync + Drop,
-    ensures { IfErr result (λ fault. fault ≡ ProgramFault.Thread) }
-{
-    attend_all(rt, acceptor, spare, session_handlers, limits)
-}
-
-/// Lets the session handlers and campaign handlers of a table serve, each at their own entrance.
-pub(crate) fn seat_both<'a, R, L, T>(
-    rt: &R,
-    first: &Entrance<Heeded<'a, L>, SessionHandler<'a, T>>,
-    second: &Entrance<Heeded<'a, L>, CampaignHandler<'a, T>>,
-    session_handlers: Vec<SessionHandler<'a, T>>,
-    others: Vec<CampaignHandler<'a, T>>,
-    limits: Limits,
-) -> Result<(), ProgramFault>
-where
-    R: Threads + Wait + Eprint + Clock + Sync,
-    L: OpenListener<Stream = TcpStream> + Send + Drop,
-    T: Tabled<Any> + Send + Sync + Drop,
-    ensures { IfErr result (λ fault. fault ≡ ProgramFault.Thread) }
-{
-    attend_both(rt, first, session_handlers, second, others, limits)
-}
-
-/// Lets the session handlers and viewers of a table serve, each at their own entrance.
-pub(crate) fn seat_views<'a, R, L, T>(
-    rt: &R,
-    first: &Entrance<Heeded<'a, L>, SessionHandler<'a, T>>,
-    second: &Entrance<Heeded<'a, L>, Viewer<'a, T>>,
-    session_handlers: Vec<SessionHandler<'a, T>>,
-    viewers: Vec<Viewer<'a, T>>,
-    limits: Limits,
-) -> Result<(), ProgramFault>
-where
-    R: Threads + Wait + Eprint + Clock + Sync,
-    L: OpenListener<Stream = TcpStream> + Send + Drop,
-    T: Tabled<Any> + Send + Sync + Drop,
-    ensures { IfErr result (λ fault. fault ≡ ProgramFault.Thread) }
-{
-    attend_both(rt, first, session_handlers, second, viewers, limits)
-}
-
 /// Lets the session handlers, campaign handlers and viewers of a table serve, each at their own
 /// entrance.
-pub(crate) fn seat_three<'a, R, L, T>(
-    rt: &R,
-    first: (
-        &Entrance<Heeded<'a, L>, SessionHandler<'a, T>>,
-        Vec<SessionHandler<'a, T>>,
-    ),
-    second: (
-        &Entrance<Heeded<'a, L>, CampaignHandler<'a, T>>,
-        Vec<CampaignHandler<'a, T>>,
-    ),
-    third: (&Entrance<Heeded<'a, L>, Viewer<'a, T>>, Vec<Viewer<'a, T>>),
+pub(crate) fn seat<'a, 'b, R, L, T>(
+    rt: &'a R,
+    first: Entrance<'a, Heeded<'b, L>, SessionHandler<'b, T>>,
+    second: Entrance<'a, Heeded<'b, L>, CampaignHandler<'b, T>>,
+    third: Entrance<'a, Heeded<'b, L>, Viewer<'b, T>>,
     limits: Limits,
 ) -> Result<(), ProgramFault>
 where
@@ -230,5 +169,5 @@ where
     T: Tabled<Any> + Send + Sync + Drop,
     ensures { IfErr result (λ fault. fault ≡ ProgramFault.Thread) }
 {
-    attend_three(rt, first, second, third, limits)
+    attend(rt, first, second, third, limits)
 }

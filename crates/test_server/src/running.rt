@@ -1,9 +1,10 @@
 use crate::equal::equal;
 use crate::trial::{Idler, NoClients, client, listener, send_numbers};
-use ring_accept::{Acceptor, Limits, ProgramFault, attend_all};
+use ring_accept::{Acceptor, Entrance, Limits, ProgramFault, attend};
 use ring_config::Config;
 use ring_lines::DripOut;
 use ring_server::{Others, run_loop};
+use std::alloc::Global;
 use std::io::Read;
 use std::net::{Net, SocketAddr, TcpListener, TcpStream};
 use std::process::Abort;
@@ -128,6 +129,18 @@ fn idler<'a>(
     }
 }
 
+// An entrance without an acceptor, and without handlers of its own.
+fn no_entrance<'a, 'b>(
+    alloc: Global,
+    spare: &'b Mutex<Vec<Idler<'a>>>,
+) -> Entrance<'b, TcpListener, Idler<'a>> {
+    Entrance {
+        acceptor: None,
+        handlers: Vec::new(alloc),
+        spare,
+    }
+}
+
 // Four clients come, one after another. A handler with a turn left stays. A spent one gives way to
 // the spare one, and stays if there is none. Each session is told places.
 #[test]
@@ -145,7 +158,14 @@ fn a_spent_guest_gives_way_to_a_spare_one(rt: HostRuntime) {
         "no spare handler",
     );
     let spare = Mutex::new(spare);
-    let attended = attend_all(&rt, &acceptor, &spare, session_handlers, ONE_SESSION);
+    let first = Entrance {
+        acceptor: Some(&acceptor),
+        handlers: session_handlers,
+        spare: &spare,
+    };
+    let second = no_entrance(rt.alloc(), &spare);
+    let third = no_entrance(rt.alloc(), &spare);
+    let attended = attend(&rt, first, second, third, ONE_SESSION);
     drop(spare);
     drop(acceptor);
     equal(
