@@ -92,23 +92,21 @@ impl<L: OpenListener<Stream = TcpStream>> Acceptor<L> {
     }
 }
 
-/// Where clients of one kind come in.
+/// Where clients of one kind come in, and the handlers that serve them.
 #[derive(Drop)]
 pub struct Entrance<'a, L: Drop, G: Drop> {
     /// Accepts the clients; `None` if they are not served.
     pub acceptor: Option<&'a Mutex<Acceptor<L>>>,
-    /// The handlers that serve from the start, on a thread each.
-    pub handlers: Vec<G>,
-    /// The handlers that take the place of those whose seats are spent.
-    pub spare: &'a Mutex<Vec<G>>,
+    /// The handlers that do not serve yet. The last one is taken first.
+    pub handlers: &'a Mutex<Vec<G>>,
 }
 
-/// Starts a thread for each handler of each entrance, and opens the acceptors once all threads are
-/// started. The handlers of an entrance without an acceptor do not serve.
+/// Starts `limits.sessions` threads for each entrance, and opens the acceptors once all threads are
+/// started. An entrance has fewer threads if it has fewer handlers, and none without an acceptor.
 ///
-/// Each handler serves one client after another until its acceptor is shut. If a handler's seat is
-/// spent, a spare handler takes its place, as long as there is one. If a thread cannot be started,
-/// no acceptor is opened.
+/// Each thread takes a handler, which serves one client after another until the acceptor is shut.
+/// If the handler's seat is spent, another handler takes its place, as long as there is one. If a
+/// thread cannot be started, no acceptor is opened.
 pub fn attend<'a, R, L, G, H, I>(
     rt: &'a R,
     first: Entrance<'a, L, G>,
@@ -124,15 +122,19 @@ where
     I: ClientHandler + Send,
     ensures { IfErr result (λ fault. fault ≡ ProgramFault.Thread) }
 {
+    let (one, two, three) = (held(rt, &first), held(rt, &second), held(rt, &third));
     thread::scope(
         thread::scope_env(),
         rt,
         move |scope| -> Result<(), ProgramFault>
             ensures { IfErr result (λ fault. fault ≡ ProgramFault.Thread) }
         {
-            let one = start_each(scope, rt, first, limits)?;
-            let two = start_each(scope, rt, second, limits)?;
-            let three = start_each(scope, rt, third, limits)?;
+            let started = start_each(scope, rt, first, limits)
+                && start_each(scope, rt, second, limits)
+                && start_each(scope, rt, third, limits);
+            if !started {
+                return Err(ProgramFault::Thread);
+            }
             open(one);
             open(two);
             open(three);
@@ -141,35 +143,43 @@ where
     )
 }
 
-// Starts a thread for each handler of an entrance, in which it serves the clients of the acceptor.
-// Returns the acceptor, locked, if there is one.
+// Locks the acceptor of an entrance, if there is one.
+fn held<'a, R: Wait, L: Drop, G: Drop>(
+    rt: &R,
+    entrance: &Entrance<'a, L, G>,
+) -> Option<MutexGuard<'a, Acceptor<L>>> {
+    match entrance.acceptor {
+        Some(acceptor) => Some(acceptor.lock(rt)),
+        None => None,
+    }
+}
+
+// Starts the threads of an entrance, in which handlers serve the clients of its acceptor. Returns
+// whether all were started.
 fn start_each<'s, S, R, L, G>(
     scope: &Scope<'s, S>,
     rt: &'s R,
     entrance: Entrance<'s, L, G>,
     limits: Limits,
-) -> Result<Option<MutexGuard<'s, Acceptor<L>>>, ProgramFault>
+) -> bool
 where
     R: Wait + Eprint + Clock + Sync,
     L: OpenListener<Stream = TcpStream> + Send + Drop,
     G: ClientHandler + Send + 's,
-    ensures { IfErr result (λ fault. fault ≡ ProgramFault.Thread) }
 {
-    let Entrance {
-        acceptor: Some(acceptor),
-        handlers,
-        spare,
-    } = entrance
-    else {
-        return Ok(None);
+    let Entrance { acceptor, handlers } = entrance;
+    let Some(acceptor) = acceptor else {
+        return true;
     };
-    let held = acceptor.lock(rt);
-    for handler in handlers {
-        let Ok(_) = scope.spawn(move || serve_each(rt, acceptor, spare, handler, limits)) else {
-            return Err(ProgramFault::Thread);
+    for _ in 0..limits.sessions {
+        let Some(handler) = handlers.lock(rt).pop() else {
+            break;
+        };
+        let Ok(_) = scope.spawn(move || serve_each(rt, acceptor, handlers, handler, limits)) else {
+            return false;
         };
     }
-    Ok(Some(held))
+    true
 }
 
 // Opens an acceptor, if there is one.

@@ -1,5 +1,5 @@
 //! The handlers of sessions, of campaigns and of HTTP that serve the clients of a running service.
-ghost use Rattle.std.specs.Prelude.{◌≡◌, ◌≤◌, ◌+◌, ◌++◌, ◌^◌, All, IfErr, IfOk, None};
+ghost use Rattle.std.specs.Prelude.{◌≡◌, ◌≤◌, ◌+◌, ◌^◌, All, IfErr, IfOk, None};
 ghost use Rattle.atomic_table.specs.Seated.{TableId};
 ghost use Rattle.ring_accept.specs.declared.fault.ProgramFault.TheVariants.{NoMemory};
 
@@ -69,22 +69,13 @@ impl<L: Drop> Others<L> {
     }
 }
 
-/// The handlers of one kind of clients.
-#[derive(Drop)]
-struct Handlers<G> {
-    // those that serve from the start
-    active: Vec<G>,
-    // those that take the place of others whose seats are spent
-    spare: Vec<G>,
-}
-
 /// The handlers of sessions and campaigns, and viewers for HTTP.
 #[derive(Drop)]
 pub(crate) struct Crowd<'a, T: Tabled<Any> + Drop> {
     watch: &'a Watch,
-    sessions: Handlers<SessionHandler<'a, T>>,
-    campaigns: Handlers<CampaignHandler<'a, T>>,
-    viewers: Handlers<Viewer<'a, T>>,
+    sessions: Vec<SessionHandler<'a, T>>,
+    campaigns: Vec<CampaignHandler<'a, T>>,
+    viewers: Vec<Viewer<'a, T>>,
 }
 
 /// Returns the handlers and viewers of these seats. Each kind of clients that is served gets as
@@ -101,43 +92,32 @@ pub(crate) fn gather<'a, T: Tabled<Any> + Drop, L: Drop>(
 ) -> Result<Crowd<'a, T>, ProgramFault>
     requires seats { All (λ seat. seat.lock ≡ front.now.id) seats.items }
     requires base { base + T.most ≤ 2 ^ 64 }
-    ensures sessions { IfOk result (λ crowd. All (λ handler. handler.base.number ≡ base)
-        (crowd.sessions.active.items ++ crowd.sessions.spare.items)) }
-    ensures viewers { IfOk result (λ crowd. All (λ viewer. viewer.base.number ≡ base)
-        (crowd.viewers.active.items ++ crowd.viewers.spare.items)) }
+    ensures sessions { IfOk result (λ crowd.
+        All (λ handler. handler.base.number ≡ base) crowd.sessions.items) }
+    ensures viewers { IfOk result (λ crowd.
+        All (λ viewer. viewer.base.number ≡ base) crowd.viewers.items) }
     ensures fault { IfErr result (λ fault. fault ≡ NoMemory) }
 {
     let (first, views) = match part(seats, others.web.is_some(), others.kinds()) {
         Ok(parts) => parts,
         Err(fault) => return Err(fault),
     };
-    let (ours, theirs) = match part(first, others.campaigns.is_some(), 2) {
-        Ok(parts) => parts,
-        Err(fault) => return Err(fault),
-    };
-    let sessions = divide(session_handlers(alloc, front, ours, base, watch)?)?;
-    let campaigns = divide(campaign_handlers(alloc, front, theirs, idle, watch)?)?;
     let viewers = match &others.web {
         Some(web) => viewers(alloc, front, views, base, web.keys, watch)?,
         None => Vec::new(alloc),
     };
+    let (ours, theirs) = match part(first, others.campaigns.is_some(), 2) {
+        Ok(parts) => parts,
+        Err(fault) => return Err(fault),
+    };
+    let campaigns = campaign_handlers(alloc, front, theirs, idle, watch)?;
+    let sessions = session_handlers(alloc, front, ours, base, watch)?;
     Ok(Crowd {
         watch,
         sessions,
         campaigns,
-        viewers: divide(viewers)?,
+        viewers,
     })
-}
-
-// Returns the handlers, of which one in `SEATS_EACH` is active.
-fn divide<G: Drop>(handlers: Vec<G>) -> Result<Handlers<G>, ProgramFault>
-    ensures whole { IfOk result (λ parts.
-        parts.active.items ++ parts.spare.items ≡ handlers.items) }
-    ensures fault { IfErr result (λ fault. fault ≡ NoMemory) }
-{
-    let mut active = handlers;
-    let spare = active.split_off(active.len() / SEATS_EACH as usize)?;
-    Ok(Handlers { active, spare })
 }
 
 // Returns two parts of the seats. The second is one of `parts` equal parts if it is asked for, else
@@ -192,25 +172,24 @@ impl<'a, T: Tabled<Any> + Send + Sync + Drop> Crowd<'a, T> {
         let first = acceptor(watch, Some(listener));
         let second = acceptor(watch, others.campaigns);
         let third = acceptor(watch, listener_of(others.web));
-        let first_spare = Mutex::new(sessions.spare);
-        let second_spare = Mutex::new(campaigns.spare);
-        let third_spare = Mutex::new(viewers.spare);
+        let (sessions, campaigns, viewers) = (
+            Mutex::new(sessions),
+            Mutex::new(campaigns),
+            Mutex::new(viewers),
+        );
         seat(
             rt,
             Entrance {
                 acceptor: first.as_ref(),
-                handlers: sessions.active,
-                spare: &first_spare,
+                handlers: &sessions,
             },
             Entrance {
                 acceptor: second.as_ref(),
-                handlers: campaigns.active,
-                spare: &second_spare,
+                handlers: &campaigns,
             },
             Entrance {
                 acceptor: third.as_ref(),
-                handlers: viewers.active,
-                spare: &third_spare,
+                handlers: &viewers,
             },
             limits,
         )

@@ -4,7 +4,6 @@ use ring_accept::{Acceptor, Entrance, Limits, ProgramFault, attend};
 use ring_config::Config;
 use ring_lines::DripOut;
 use ring_server::{Others, run_loop};
-use std::alloc::Global;
 use std::io::Read;
 use std::net::{Net, SocketAddr, TcpListener, TcpStream};
 use std::process::Abort;
@@ -129,18 +128,6 @@ fn idler<'a>(
     }
 }
 
-// An entrance without an acceptor, and without handlers of its own.
-fn no_entrance<'a, 'b>(
-    alloc: Global,
-    spare: &'b Mutex<Vec<Idler<'a>>>,
-) -> Entrance<'b, TcpListener, Idler<'a>> {
-    Entrance {
-        acceptor: None,
-        handlers: Vec::new(alloc),
-        spare,
-    }
-}
-
 // Four clients come, one after another. A handler with a turn left stays. A spent one gives way to
 // the spare one, and stays if there is none. Each session is told places.
 #[test]
@@ -149,24 +136,26 @@ fn a_spent_guest_gives_way_to_a_spare_one(rt: HostRuntime) {
     send_numbers(&rt, address, 4);
     let acceptor = Mutex::new(Acceptor::new(listener));
     let served = Mutex::new(0);
-    let session_handlers = vec![in rt.alloc(); idler(1, 2, &served, &acceptor)].expect(
-        &rt,
-        "no handler",
-    );
-    let spare = vec![in rt.alloc(); idler(2, 1, &served, &acceptor)].expect(
-        &rt,
-        "no spare handler",
-    );
-    let spare = Mutex::new(spare);
+    let handlers = vec![in rt.alloc();
+        idler(2, 1, &served, &acceptor),
+        idler(1, 2, &served, &acceptor),
+    ]
+    .expect(&rt, "no handlers");
+    let handlers = Mutex::new(handlers);
     let first = Entrance {
         acceptor: Some(&acceptor),
-        handlers: session_handlers,
-        spare: &spare,
+        handlers: &handlers,
     };
-    let second = no_entrance(rt.alloc(), &spare);
-    let third = no_entrance(rt.alloc(), &spare);
+    let second = Entrance {
+        acceptor: None,
+        handlers: &handlers,
+    };
+    let third = Entrance {
+        acceptor: None,
+        handlers: &handlers,
+    };
     let attended = attend(&rt, first, second, third, ONE_SESSION);
-    drop(spare);
+    drop(handlers);
     drop(acceptor);
     equal(
         &rt,
