@@ -10,7 +10,6 @@ use Rattle.ring_etcd.specs.contracts.etcd.Etcd as etcd
 use Rattle.ring_etcd.specs.contracts.lease.Lease as lease
 use Rattle.ring_etcd.specs.contracts.medium.EtcdMedium as medium
 use Rattle.ring_etcd.proofs.base.Base.TheSendSync as base_crosses
-use Rattle.ring_etcd.proofs.cluster.Cluster.TheSendSync as cluster_crosses
 use Rattle.ring_etcd.proofs.medium.Standing.TheSendSync as standing_crosses
 use Rattle.ring_etcd.proofs.store.Store.TheSendSync as store_crosses
 
@@ -31,7 +30,7 @@ etcd_sync R sync =
 pub lease_send : (R : RattleType) → IsSend R → IsSend (lease.the_row R)
 lease_send R send =
     let T : Declared = lease.TheInside.the_type R in
-    let fields : AllSend (shape T).fields = (cluster_crosses.the_field_send R send, search (sendable, crosses) depth 20) in
+    let fields : AllSend (shape T).fields = (store_crosses.the_field_send R send, search (sendable, crosses) depth 20) in
     let inside : IsSend (lease.TheInside.the_row R) = recorded_send (Struct (shape T)) T.D T.to T.to_one (struct_send (shape T) fields) in
     view_send (lease.TheInside.the_row R) _ _ _ _ inside
 

@@ -180,7 +180,11 @@ taken_behind name text pieces identity first next old middle new read behind = r
   count = behind.count;
 }
 
-pub taken_is : (o : Option ℕ) (name : List ℕ) (text pieces identity first : ℕ) (mark old middle new : List ℕ) → IsRead name text pieces first old middle → mark ≡ codes "t" ++ decimal identity → IfSome o (λ next. IsPutBehind name text mark first next middle new) → IfSome o (λ next. IsTakenBy name text pieces identity next old new)
-taken_is None name text pieces identity first mark old middle new read is behind = behind
-taken_is (Some next) name text pieces identity first mark old middle new read is behind =
+taken_at : (o : Option ℕ) (name : List ℕ) (text pieces identity first : ℕ) (mark old middle new : List ℕ) → IsRead name text pieces first old middle → mark ≡ codes "t" ++ decimal identity → IfSome o (λ next. IsPutBehind name text mark first next middle new) → IfSome o (λ next. IsTakenBy name text pieces identity next old new)
+taken_at None name text pieces identity first mark old middle new read is behind = behind
+taken_at (Some next) name text pieces identity first mark old middle new read is behind =
     taken_behind name text pieces identity first next old middle new read (subst (λ (m : List ℕ). IsPutBehind name text m first next middle new) is behind)
+
+pub taken_is : {E : Type 0} (r : Result (Option ℕ) E) (name : List ℕ) (text pieces identity first : ℕ) (mark old middle new : List ℕ) → IsRead name text pieces first old middle → mark ≡ codes "t" ++ decimal identity → IfOk r (λ o. IfSome o (λ next. IsPutBehind name text mark first next middle new)) → IfOk r (λ o. IfSome o (λ next. IsTakenBy name text pieces identity next old new))
+taken_is (Ok o) name text pieces identity first mark old middle new read is behind = taken_at o name text pieces identity first mark old middle new read is behind
+taken_is (Err fault) name text pieces identity first mark old middle new read is behind = behind

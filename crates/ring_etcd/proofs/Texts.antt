@@ -1,7 +1,10 @@
 -- The texts of requests from those of their parts.
 use Rattle.std.proofs.Common.{◌≡◌, ℕ, List, ◌++◌, subst}
 use Rattle.std.specs.Prelude.{codes}
-use Rattle.ring_etcd.specs.private.Requests.{compare_text, entry_text, failure_text, success_text, switch_text}
+use Rattle.ring_etcd.specs.private.Requests.{compare_text, entry_text, failure_text, first_text, free_text, success_text, switch_text}
+
+pub first_is : (key value from to free text : List ℕ) → free ≡ free_text key from to → text ≡ codes "{" ++ (free ++ (codes ",\"success\":[{\"request_put\":{\"key\":\"" ++ (key ++ (codes "\",\"value\":\"" ++ (value ++ (codes "\"}}],\"failure\":[{\"request_range\":{\"key\":\"" ++ (key ++ (codes "\"}},{\"request_range\":{\"key\":\"" ++ (key ++ codes "\"}}]}"))))))))) → text ≡ first_text key value from to
+first_is key value from to free text is_free whole = subst (λ (f : List ℕ). text ≡ codes "{" ++ (f ++ (codes ",\"success\":[{\"request_put\":{\"key\":\"" ++ (key ++ (codes "\",\"value\":\"" ++ (value ++ (codes "\"}}],\"failure\":[{\"request_range\":{\"key\":\"" ++ (key ++ (codes "\"}},{\"request_range\":{\"key\":\"" ++ (key ++ codes "\"}}]}")))))))))) is_free whole
 
 pub entry_is : (base_key base key value compare failure text : List ℕ) → compare ≡ compare_text base_key base key → failure ≡ failure_text base_key key → text ≡ codes "{" ++ (compare ++ (codes ",\"success\":[{\"request_put\":{\"key\":\"" ++ (key ++ (codes "\",\"value\":\"" ++ (value ++ (codes "\"}}]," ++ (failure ++ codes "}"))))))) → text ≡ entry_text base_key base key value
 entry_is base_key base key value compare failure text is_compare is_failure whole =

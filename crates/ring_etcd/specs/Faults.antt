@@ -3,8 +3,6 @@ use Rattle.ring_etcd.specs.declared.engine.EngineFault.{EngineFault}
 use Rattle.ring_etcd.specs.declared.engine.EngineFault.TheVariants as engine
 use Rattle.ring_etcd.specs.declared.place.EtcdFault.{EtcdFault}
 use Rattle.ring_etcd.specs.declared.place.EtcdFault.TheVariants as etcd
-use Rattle.ring_etcd.specs.declared.reading.ReadFault.{ReadFault}
-use Rattle.ring_etcd.specs.declared.reading.ReadFault.TheVariants as reading
 use Rattle.ring_etcd.specs.declared.store.AskFault.{AskFault}
 use Rattle.ring_etcd.specs.declared.store.AskFault.TheVariants as ask
 
@@ -15,11 +13,6 @@ engine_fault_of ask.NoAnswer = engine.NoAnswer
 abbrev pub fault_of_ask : AskFault → EtcdFault
 fault_of_ask ask.NoMemory = etcd.NoMemory
 fault_of_ask ask.NoAnswer = etcd.NoAnswer
-
-abbrev pub fault_of_read : ReadFault → EtcdFault
-fault_of_read reading.NoMemory = etcd.NoMemory
-fault_of_read reading.NoAnswer = etcd.NoAnswer
-fault_of_read reading.Damaged = etcd.Damaged
 
 abbrev pub fault_of_engine : EngineFault → EtcdFault
 fault_of_engine engine.NoMemory = etcd.NoMemory

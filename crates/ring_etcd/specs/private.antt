@@ -1,4 +1,3 @@
-pub mod Faults
 pub mod Http
 pub mod Keys
 pub mod Paging

@@ -5,7 +5,7 @@ ghost use Rattle.ring_etcd.specs.Bases.{base_text};
 use std::alloc::{AllocError, Global};
 
 /// The text that counts, by its identity, and how many pieces it has.
-#[derive(Clone, Copy, Debug, PartialEq, Eq)]
+#[derive(Clone, Copy, PartialEq, Eq)]
 pub(crate) struct Base {
     pub(crate) text: u64,
     pub(crate) pieces: u64,
@@ -38,9 +38,12 @@ impl Base {
 
 // The base that a value names in this or another spelling.
 fn read(value: &[u8]) -> Option<Base> {
-    let value = str::from_utf8(value).ok()?;
+    let Ok(value) = str::from_utf8(value) else {
+        return None;
+    };
     let (text, pieces) = value.strip_prefix("ringd 1 ")?.split_once(' ')?;
-    let text = text.parse().ok()?;
-    let pieces = pieces.parse().ok()?;
-    Some(Base { text, pieces })
+    match (text.parse(), pieces.parse()) {
+        (Ok(text), Ok(pieces)) => Some(Base { text, pieces }),
+        _ => None,
+    }
 }

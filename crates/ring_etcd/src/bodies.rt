@@ -4,11 +4,11 @@ ghost use Rattle.base64.specs.Engines.{standard};
 ghost use Rattle.base64.specs.GeneralPurpose.{encode_of};
 ghost use Rattle.ring_etcd.specs.Keys.{entry_key, piece_key};
 ghost use Rattle.ring_etcd.specs.Bases.{base_text};
-ghost use Rattle.ring_etcd.specs.private.Keys.{after_entries_key, after_pieces_key, after_texts_key, base_key, before_text_key, before_texts_key, ids_key, lease_key};
+ghost use Rattle.ring_etcd.specs.private.Keys.{after_parts_key, after_texts_key, base_key, before_text_key, before_texts_key, ids_key, lease_key, part_key};
 ghost use Rattle.ring_etcd.specs.private.Requests.{claim_text, entry_text, first_text, get_text, put_text, range_text, renew_text, switch_text};
 
 use crate::base::Base;
-use crate::keys::{Keys, encoded};
+use crate::keys::{AFTER_TEXTS, BASE, BEFORE_TEXTS, ENTRIES, IDS, Keys, LEASE, PIECES, encoded};
 use crate::requests;
 use crate::requests::Slot;
 use std::alloc::{AllocError, Global};
@@ -37,7 +37,7 @@ impl Keys {
         ensures { IfOk result (λ body. string_bytes body
             ≡ put_text (encode_of standard (ids_key (string_bytes self.now.name))) []) }
     {
-        let key = self.ids()?;
+        let key = self.key(IDS)?;
         requests::put(self.alloc(), key.as_str(), "")
     }
 
@@ -46,7 +46,7 @@ impl Keys {
         ensures { IfOk result (λ body. string_bytes body
             ≡ get_text (encode_of standard (base_key (string_bytes self.now.name)))) }
     {
-        let key = self.base()?;
+        let key = self.key(BASE)?;
         requests::get(self.alloc(), key.as_str())
     }
 
@@ -59,10 +59,10 @@ impl Keys {
             (encode_of standard (after_texts_key (string_bytes self.now.name)))) }
     {
         let alloc = self.alloc();
-        let key = self.base()?;
+        let key = self.key(BASE)?;
         let value = encoded_base(alloc, base)?;
-        let from = self.before_texts()?;
-        let to = self.after_texts()?;
+        let from = self.key(BEFORE_TEXTS)?;
+        let to = self.key(AFTER_TEXTS)?;
         requests::put_first(
             alloc,
             key.as_str(),
@@ -83,7 +83,7 @@ impl Keys {
             ≡ put_text (encode_of standard (piece_key (string_bytes self.now.name) text number))
             (encode_of standard piece.now)) }
     {
-        let key = self.piece(text, number)?;
+        let key = self.part(PIECES, text, number)?;
         let value = encoded(self.alloc(), piece)?;
         requests::put(self.alloc(), key.as_str(), value.as_str())
     }
@@ -102,9 +102,9 @@ impl Keys {
             (encode_of standard entry.now)) }
     {
         let alloc = self.alloc();
-        let base_key = self.base()?;
+        let base_key = self.key(BASE)?;
         let counts = encoded_base(alloc, base)?;
-        let key = self.entry(base.text, number)?;
+        let key = self.part(ENTRIES, base.text, number)?;
         let value = encoded(alloc, entry)?;
         let slot = Slot {
             base_key: base_key.as_str(),
@@ -131,11 +131,11 @@ impl Keys {
             (encode_of standard (before_text_key (string_bytes self.now.name) new.text))) }
     {
         let alloc = self.alloc();
-        let base_key = self.base()?;
+        let base_key = self.key(BASE)?;
         let counts = encoded_base(alloc, old)?;
-        let key = self.entry(old.text, number)?;
+        let key = self.part(ENTRIES, old.text, number)?;
         let value = encoded_base(alloc, new)?;
-        let from = self.before_texts()?;
+        let from = self.key(BEFORE_TEXTS)?;
         let to = self.before_text(new.text)?;
         let slot = Slot {
             base_key: base_key.as_str(),
@@ -145,25 +145,20 @@ impl Keys {
         requests::switch(alloc, slot, value.as_str(), from.as_str(), to.as_str())
     }
 
-    /// Reads the entries after a text, from a number on.
-    pub(crate) fn entries_request(&self, text: u64, number: u64) -> Result<String, AllocError>
+    /// Reads the pieces of a text, or the entries after it, from a number on.
+    pub(crate) fn page_request(
+        &self,
+        part: &str,
+        text: u64,
+        number: u64,
+    ) -> Result<String, AllocError>
         ensures { IfOk result (λ body. string_bytes body
-            ≡ range_text (encode_of standard (entry_key (string_bytes self.now.name) text number))
-            (encode_of standard (after_entries_key (string_bytes self.now.name) text))) }
+            ≡ range_text
+            (encode_of standard (part_key part.now (string_bytes self.now.name) text number))
+            (encode_of standard (after_parts_key part.now (string_bytes self.now.name) text))) }
     {
-        let from = self.entry(text, number)?;
-        let end = self.after_entries(text)?;
-        requests::range(self.alloc(), from.as_str(), end.as_str())
-    }
-
-    /// Reads the pieces of a text, from a number on.
-    pub(crate) fn pieces_request(&self, text: u64, number: u64) -> Result<String, AllocError>
-        ensures { IfOk result (λ body. string_bytes body
-            ≡ range_text (encode_of standard (piece_key (string_bytes self.now.name) text number))
-            (encode_of standard (after_pieces_key (string_bytes self.now.name) text))) }
-    {
-        let from = self.piece(text, number)?;
-        let end = self.after_pieces(text)?;
+        let from = self.part(part, text, number)?;
+        let end = self.after_parts(part, text)?;
         requests::range(self.alloc(), from.as_str(), end.as_str())
     }
 
@@ -172,7 +167,7 @@ impl Keys {
         ensures { IfOk result (λ body. string_bytes body
             ≡ get_text (encode_of standard (lease_key (string_bytes self.now.name)))) }
     {
-        let key = self.lease()?;
+        let key = self.key(LEASE)?;
         requests::get(self.alloc(), key.as_str())
     }
 
@@ -182,7 +177,7 @@ impl Keys {
             ≡ renew_text (encode_of standard (lease_key (string_bytes self.now.name)))
             (encode_of standard (decimal process))) }
     {
-        let key = self.lease()?;
+        let key = self.key(LEASE)?;
         let value = encoded_number(self.alloc(), process)?;
         requests::renew(self.alloc(), key.as_str(), value.as_str())
     }
@@ -194,7 +189,7 @@ impl Keys {
             ≡ claim_text (encode_of standard (lease_key (string_bytes self.now.name)))
             (decimal revision) (encode_of standard (decimal process))) }
     {
-        let key = self.lease()?;
+        let key = self.key(LEASE)?;
         let value = encoded_number(self.alloc(), process)?;
         requests::claim(self.alloc(), key.as_str(), revision, value.as_str())
     }

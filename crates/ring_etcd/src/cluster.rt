@@ -1,6 +1,5 @@
 //! The members of a cluster, which are asked in turn until one of them answers.
 ghost use Rattle.std.specs.Prelude.{◌≡◌, IfOk, OnErr};
-ghost use Rattle.serde_json.specs.View.{view};
 ghost use Rattle.ring_etcd.specs.Hearing.{Hears, Reads};
 
 use crate::gateway::{Gateway, NoReply};
@@ -21,14 +20,8 @@ const WAIT_MILLIS: u64 = 300;
 const PAUSE_MILLIS: u64 = 50;
 
 /// A request got no reply that answers it. It may have been carried out or not.
-#[derive(Clone, Copy, Debug, PartialEq, Eq)]
+#[derive(Clone, Copy)]
 pub(crate) struct NoAnswer;
-
-impl From<NoReply> for NoAnswer {
-    fn from(_silence: NoReply) -> NoAnswer {
-        NoAnswer
-    }
-}
 
 /// The members of a cluster, one of which may be connected. Replies of another cluster are not
 /// believed.
@@ -53,10 +46,10 @@ impl<R: Net<Stream = TcpStream> + Clock + AllocGlobal + Drop> Cluster<R> {
         ensures { IfOk result (λ cluster. cluster.heard ≡ 0) }
     {
         let mut each = Vec::new(rt.alloc());
-        let last = Vec::new(rt.alloc());
         for member in members.split(',') {
             each.push(String::from_str(rt.alloc(), member)?)?;
         }
+        let last = Vec::new(rt.alloc());
         Ok(Cluster {
             rt,
             members: each,
@@ -109,7 +102,9 @@ impl<R: Net<Stream = TcpStream> + Clock + AllocGlobal + Drop> Cluster<R> {
             self.old.heard self.new.heard self.new.last.items) }
         ensures err { OnErr result (self.new.heard ≡ self.old.heard) }
     {
-        let text = self.reply_to(path, body)?;
+        let Ok(text) = self.reply_to(path, body) else {
+            return Err(NoAnswer);
+        };
         self.hear(text)
     }
 
@@ -159,7 +154,7 @@ impl<R: Net<Stream = TcpStream> + Clock + AllocGlobal + Drop> Cluster<R> {
         if !self.is_of_cluster(&reply) {
             return Err(NoAnswer);
         }
-        answer_of(alloc, &reply)
+        T::read(alloc, &reply)
     }
 
     // Whether a reply is from the cluster that answered first.
@@ -189,10 +184,9 @@ impl<R: Net<Stream = TcpStream> + Clock + AllocGlobal + Drop> Cluster<R> {
         let Some(member) = self.members.get(self.at) else {
             return Err(NoReply);
         };
-        let addresses = member
-            .as_str()
-            .to_socket_addrs(&self.rt)
-            .map_err(|_| NoReply)?;
+        let Ok(addresses) = member.as_str().to_socket_addrs(&self.rt) else {
+            return Err(NoReply);
+        };
         for address in addresses {
             if let Ok(stream) = connected(&self.rt, &address) {
                 return Ok(Gateway::new(self.alloc(), stream));
@@ -216,14 +210,4 @@ fn connected<R: Net<Stream = TcpStream>>(rt: &R, address: &SocketAddr) -> io::Re
 fn identity_in(reply: &Value) -> Option<u64> {
     let text = reply.pointer("/header/cluster_id").and_then(Value::as_str)?;
     text.parse().ok()
-}
-
-// What a reply says.
-fn answer_of<T: Answer>(alloc: Global, reply: &Value) -> Result<T, NoAnswer>
-    ensures { IfOk result (λ answer. T.says (view reply.now) answer) }
-{
-    match T::read(alloc, reply) {
-        Ok(answer) => Ok(answer),
-        Err(_) => Err(NoAnswer),
-    }
 }

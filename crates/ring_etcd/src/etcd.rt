@@ -4,6 +4,7 @@ ghost use Rattle.std.specs.Prelude.{◌≡◌, ◌++◌, ◌∷◌, [], IfOk, On
 use crate::base::Base;
 use crate::engine::{Engine, EngineFault};
 use crate::reading::BATCH;
+use crate::replies::Revision;
 use crate::store::{AskFault, Put, Store};
 use ring_journal::{Batch, LONGEST_BATCH};
 use std::alloc::AllocError;
@@ -130,8 +131,8 @@ impl<R: Net<Stream = TcpStream> + Clock + AllocGlobal + Drop> Etcd<R> {
         ensures err { OnErr result (self.new ≡ self.old) }
     {
         let number = self.next();
-        let value = self.entry_of(entry)?;
         self.more.reserve(1)?;
+        let value = self.entry_of(entry)?;
         match self.store.put_entry(self.base, number, &value)? {
             Put::Ours => {
                 self.more.push_reserved(Snapshot::of(entry));
@@ -158,7 +159,7 @@ impl<R: Net<Stream = TcpStream> + Clock + AllocGlobal + Drop> Engine for Etcd<R>
 
     fn begin(&mut self, text: &Batch) -> Result<(), EngineFault> {
         let number = self.next();
-        let identity = self.store.identity()?;
+        let Revision(identity) = self.store.identity()?;
         let base = self.base;
         self.base = self.store.put_text(base, number, identity, text.bytes())?;
         self.first = Snapshot::of(text);

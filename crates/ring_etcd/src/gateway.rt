@@ -4,7 +4,7 @@ ghost use Rattle.std.specs.Io.KnownBytes.{Appends};
 ghost use Rattle.ring_etcd.specs.private.Http.{request_text};
 
 use bytes::{Buf, BytesMut};
-use http1::{BodySize, Client, Event, Header, Limits, WriteError};
+use http1::{BodySize, Client, Event, Header, Limits};
 use httparse::spans::EMPTY_HEADER_SPAN;
 use std::alloc::Global;
 use std::io::{Read, Write};
@@ -17,14 +17,8 @@ const PIECE: usize = 65536;
 
 /// A request got no reply that can be read: the connection failed, or the reply was no reply of
 /// HTTP, was too long, or had another status than 200.
-#[derive(Clone, Copy, Debug, PartialEq, Eq)]
+#[derive(Clone, Copy)]
 pub(crate) struct NoReply;
-
-impl From<WriteError> for NoReply {
-    fn from(_error: WriteError) -> NoReply {
-        NoReply
-    }
-}
 
 // What a step of reading a reply came to.
 #[derive(Clone, Copy)]
@@ -111,10 +105,16 @@ impl<S: Read + Write + Drop> Gateway<S> {
         ];
         let size = BodySize::Known(body.len() as u64);
         let (client, output) = (&mut self.client, &mut self.output);
-        client.write_request(output, b"POST", path.as_bytes(), &headers, size)?;
-        client.write_data(output, body.as_bytes())?;
-        client.write_end(output, &[])?;
-        Ok(())
+        let Ok(()) = client.write_request(output, b"POST", path.as_bytes(), &headers, size) else {
+            return Err(NoReply);
+        };
+        let Ok(()) = client.write_data(output, body.as_bytes()) else {
+            return Err(NoReply);
+        };
+        match client.write_end(output, &[]) {
+            Ok(()) => Ok(()),
+            Err(_) => Err(NoReply),
+        }
     }
 
     // Takes the next part of the reply, and adds the bytes of its body. Reads from the stream if
@@ -122,10 +122,9 @@ impl<S: Read + Write + Drop> Gateway<S> {
     fn receive(&mut self, reply: &mut Vec<u8>) -> Result<Step, NoReply> {
         let mut spans = [EMPTY_HEADER_SPAN; 64];
         let input = &mut self.input;
-        let progress = self
-            .client
-            .read(input.as_slice(), &mut spans)
-            .map_err(|_| NoReply)?;
+        let Ok(progress) = self.client.read(input.as_slice(), &mut spans) else {
+            return Err(NoReply);
+        };
         let is_short = matches!(progress.event, Event::NeedMore);
         let step = match progress.event {
             Event::Data(span) => add(reply, span.of(input.as_slice()))?,
@@ -143,7 +142,9 @@ impl<S: Read + Write + Drop> Gateway<S> {
 
     // Reads bytes from the stream.
     fn fill(&mut self) -> Result<(), NoReply> {
-        self.input.reserve(PIECE).map_err(|_| NoReply)?;
+        let Ok(()) = self.input.reserve(PIECE) else {
+            return Err(NoReply);
+        };
         match self.input.read_from(&mut self.stream) {
             Ok(0) | Err(_) => Err(NoReply),
             Ok(_) => Ok(()),
@@ -158,6 +159,8 @@ fn add(reply: &mut Vec<u8>, part: &[u8]) -> Result<Step, NoReply>
     if part.len() > LONGEST_REPLY - reply.len().min(LONGEST_REPLY) {
         return Err(NoReply);
     }
-    reply.extend_from_slice(part).map_err(|_| NoReply)?;
-    Ok(Step::Goes)
+    match reply.extend_from_slice(part) {
+        Ok(()) => Ok(Step::Goes),
+        Err(_) => Err(NoReply),
+    }
 }

@@ -12,11 +12,27 @@
 ghost use Rattle.std.specs.Prelude.{◌≡◌, IfOk, string_bytes};
 ghost use Rattle.base64.specs.Engines.{standard};
 ghost use Rattle.base64.specs.GeneralPurpose.{encode_of};
-ghost use Rattle.ring_etcd.specs.Keys.{entry_key, piece_key};
-ghost use Rattle.ring_etcd.specs.private.Keys.{after_entries_key, after_pieces_key, after_texts_key, base_key, before_text_key, before_texts_key, ids_key, lease_key};
+ghost use Rattle.ring_etcd.specs.private.Keys.{after_parts_key, before_text_key, journal_key, part_key};
 
 use base64::engine::general_purpose::STANDARD;
 use std::alloc::{AllocError, Global};
+
+/// What the keys that a journal has once have after its name.
+pub(crate) const IDS: &str = "ids";
+
+pub(crate) const LEASE: &str = "lease";
+
+pub(crate) const BASE: &str = "base";
+
+/// What is before the keys of all texts, and after them.
+pub(crate) const BEFORE_TEXTS: &str = "t/";
+
+pub(crate) const AFTER_TEXTS: &str = "t0";
+
+/// The parts of a text that have numbers, as the keys name them.
+pub(crate) const PIECES: &str = "p";
+
+pub(crate) const ENTRIES: &str = "e";
 
 /// Bytes in base 64, as the gateway takes a key or a value.
 pub(crate) fn encoded(alloc: Global, bytes: &[u8]) -> Result<String, AllocError>
@@ -47,93 +63,33 @@ impl Keys {
         self.alloc
     }
 
-    /// Returns the key whose puts give identities.
-    pub(crate) fn ids(&self) -> Result<String, AllocError>
+    /// Returns the key of the journal that has this after its name.
+    pub(crate) fn key(&self, rest: &str) -> Result<String, AllocError>
         ensures { IfOk result (λ key. string_bytes key
-            ≡ encode_of standard (ids_key (string_bytes self.now.name))) }
+            ≡ encode_of standard (journal_key (string_bytes self.now.name) rest.now)) }
     {
         let name = self.name.as_str();
-        let key = format!(in self.alloc; "ring/{name}/ids")?;
+        let key = format!(in self.alloc; "ring/{name}/{rest}")?;
         encoded(self.alloc, key.as_bytes())
     }
 
-    /// Returns the key of the lease.
-    pub(crate) fn lease(&self) -> Result<String, AllocError>
+    /// Returns the key of a piece of a text, or of an entry after it.
+    pub(crate) fn part(&self, part: &str, text: u64, number: u64) -> Result<String, AllocError>
         ensures { IfOk result (λ key. string_bytes key
-            ≡ encode_of standard (lease_key (string_bytes self.now.name))) }
+            ≡ encode_of standard (part_key part.now (string_bytes self.now.name) text number)) }
     {
         let name = self.name.as_str();
-        let key = format!(in self.alloc; "ring/{name}/lease")?;
+        let key = format!(in self.alloc; "ring/{name}/t/{text:020}/{part}/{number:020}")?;
         encoded(self.alloc, key.as_bytes())
     }
 
-    /// Returns the key of the base.
-    pub(crate) fn base(&self) -> Result<String, AllocError>
+    /// Returns a key that is after those of all pieces of a text, or of all entries after it.
+    pub(crate) fn after_parts(&self, part: &str, text: u64) -> Result<String, AllocError>
         ensures { IfOk result (λ key. string_bytes key
-            ≡ encode_of standard (base_key (string_bytes self.now.name))) }
+            ≡ encode_of standard (after_parts_key part.now (string_bytes self.now.name) text)) }
     {
         let name = self.name.as_str();
-        let key = format!(in self.alloc; "ring/{name}/base")?;
-        encoded(self.alloc, key.as_bytes())
-    }
-
-    /// Returns the key of an entry after a text.
-    pub(crate) fn entry(&self, text: u64, number: u64) -> Result<String, AllocError>
-        ensures { IfOk result (λ key. string_bytes key
-            ≡ encode_of standard (entry_key (string_bytes self.now.name) text number)) }
-    {
-        let name = self.name.as_str();
-        let key = format!(in self.alloc; "ring/{name}/t/{text:020}/e/{number:020}")?;
-        encoded(self.alloc, key.as_bytes())
-    }
-
-    /// Returns a key that is after those of all entries after a text.
-    pub(crate) fn after_entries(&self, text: u64) -> Result<String, AllocError>
-        ensures { IfOk result (λ key. string_bytes key
-            ≡ encode_of standard (after_entries_key (string_bytes self.now.name) text)) }
-    {
-        let name = self.name.as_str();
-        let key = format!(in self.alloc; "ring/{name}/t/{text:020}/e0")?;
-        encoded(self.alloc, key.as_bytes())
-    }
-
-    /// Returns the key of a piece of a text.
-    pub(crate) fn piece(&self, text: u64, number: u64) -> Result<String, AllocError>
-        ensures { IfOk result (λ key. string_bytes key
-            ≡ encode_of standard (piece_key (string_bytes self.now.name) text number)) }
-    {
-        let name = self.name.as_str();
-        let key = format!(in self.alloc; "ring/{name}/t/{text:020}/p/{number:020}")?;
-        encoded(self.alloc, key.as_bytes())
-    }
-
-    /// Returns a key that is after those of all pieces of a text.
-    pub(crate) fn after_pieces(&self, text: u64) -> Result<String, AllocError>
-        ensures { IfOk result (λ key. string_bytes key
-            ≡ encode_of standard (after_pieces_key (string_bytes self.now.name) text)) }
-    {
-        let name = self.name.as_str();
-        let key = format!(in self.alloc; "ring/{name}/t/{text:020}/p0")?;
-        encoded(self.alloc, key.as_bytes())
-    }
-
-    /// Returns a key that is before those of all texts.
-    pub(crate) fn before_texts(&self) -> Result<String, AllocError>
-        ensures { IfOk result (λ key. string_bytes key
-            ≡ encode_of standard (before_texts_key (string_bytes self.now.name))) }
-    {
-        let name = self.name.as_str();
-        let key = format!(in self.alloc; "ring/{name}/t/")?;
-        encoded(self.alloc, key.as_bytes())
-    }
-
-    /// Returns a key that is after those of all texts.
-    pub(crate) fn after_texts(&self) -> Result<String, AllocError>
-        ensures { IfOk result (λ key. string_bytes key
-            ≡ encode_of standard (after_texts_key (string_bytes self.now.name))) }
-    {
-        let name = self.name.as_str();
-        let key = format!(in self.alloc; "ring/{name}/t0")?;
+        let key = format!(in self.alloc; "ring/{name}/t/{text:020}/{part}0")?;
         encoded(self.alloc, key.as_bytes())
     }
 

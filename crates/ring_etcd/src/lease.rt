@@ -3,14 +3,10 @@ ghost use Rattle.std.specs.Prelude.{◌≡◌, ◌==◌, ◌+◌, ◌≤◌, ◌
 ghost use Rattle.ring_etcd.specs.Done.{IsDone};
 ghost use Rattle.ring_etcd.specs.Hearing.{Hears, HearsSince};
 ghost use Rattle.ring_etcd.specs.Leases.{HasLooked, MayClaim, SameLooks};
-ghost use Rattle.ring_etcd.specs.private.Replies.{IsRevision, IsSeen};
 
-use crate::cluster::Cluster;
-use crate::keys::Keys;
 use crate::place::EtcdFault;
-use crate::replies::{Claimed, Revision, Seen};
-use crate::requests::{PUT, RANGE, TXN};
-use crate::store::AskFault;
+use crate::replies::{Revision, Seen};
+use crate::store::Store;
 use std::marker::Model;
 use std::net::{Net, TcpStream};
 use std::time::Clock;
@@ -32,8 +28,7 @@ const LOOK_MILLIS: u64 = 300;
 /// also see the number of replies that were heard, and the text of the last one.
 #[derive(Drop)]
 pub struct Lease<R> {
-    cluster: Cluster<R>,
-    keys: Keys,
+    store: Store<R>,
     // the number that this process puts; no other process has it
     process: u64,
     // the revision of the last put that the last look found; 0 if there was none
@@ -50,8 +45,8 @@ impl<R> Model for Lease<R> {
     ghost view = { λ a. record {
       revision = a.revision;
       looks = a.looks;
-      heard = a.cluster.heard;
-      last = a.cluster.last.items;
+      heard = a.store.cluster.heard;
+      last = a.store.cluster.last.items;
     } };
 }
 
@@ -61,12 +56,10 @@ impl<R: Net<Stream = TcpStream> + Clock + AllocGlobal + Copy + Drop> Lease<R> {
     pub fn new(rt: &R, members: &str, name: &str) -> Result<Lease<R>, EtcdFault>
         ensures { IfOk result (λ lease. (lease.revision ≡ 0) × (lease.looks ≡ 0)) }
     {
-        let keys = Keys::new(rt.alloc(), name)?;
-        let mut cluster = Cluster::new(*rt, members)?;
-        let process = new_number(&mut cluster, &keys)?;
+        let mut store = Store::new(*rt, members, name)?;
+        let Revision(process) = store.identity()?;
         Ok(Lease {
-            cluster,
-            keys,
+            store,
             process,
             revision: 0,
             looks: 0,
@@ -83,8 +76,8 @@ impl<R: Net<Stream = TcpStream> + Clock + AllocGlobal + Copy + Drop> Lease<R> {
         ensures same { SameLooks self.old self.new }
         ensures err { OnErr result (self.new.heard ≡ self.old.heard) }
     {
-        match self.put_again() {
-            Ok(is_held) => Ok(is_held),
+        match self.store.renew_lease(self.process) {
+            Ok(held) => Ok(held.0),
             Err(fault) => Err(fault.into()),
         }
     }
@@ -107,10 +100,11 @@ impl<R: Net<Stream = TcpStream> + Clock + AllocGlobal + Copy + Drop> Lease<R> {
         ensures heard { self.old.heard ≤ self.new.heard }
         ensures err { OnErr result (SameLooks self.old self.new) }
     {
-        let revision = self.look()?;
+        let Seen(revision) = self.store.look_at_lease()?;
         let looks = looks_after(self.revision, self.looks, revision);
         let is_claimed = may_claim(revision, looks)
-            && (self.put_claim(revision)? || self.put_again()?);
+            && (self.store.claim_lease(revision, self.process)?.0
+                || self.store.renew_lease(self.process)?.0);
         self.revision = revision;
         self.looks = looks;
         Ok(is_claimed)
@@ -126,7 +120,7 @@ impl<R: Net<Stream = TcpStream> + Clock + AllocGlobal + Copy + Drop> Lease<R> {
             (HearsSince IsDone self.old.heard self.new.heard self.new.last) }
     {
         for _ in 0..u64::MAX {
-            self.cluster.pause(LOOK_MILLIS);
+            self.store.pause(LOOK_MILLIS);
             match self.claim() {
                 Ok(true) => return Ok(()),
                 Ok(false) | Err(EtcdFault::NoAnswer) => {}
@@ -135,62 +129,6 @@ impl<R: Net<Stream = TcpStream> + Clock + AllocGlobal + Copy + Drop> Lease<R> {
         }
         Err(EtcdFault::NoAnswer)
     }
-
-    // Puts the key if it has the value of this process. Returns whether that was carried out, as
-    // the reply says that was heard.
-    fn put_again(&mut self) -> Result<bool, AskFault>
-        ensures held { IfOk result (λ is_held.
-            Hears (λ json. IsTrue is_held ↔ IsDone json)
-            self.old.heard self.new.heard self.new.last) }
-        ensures same { SameLooks self.old self.new }
-        ensures err { OnErr result (self.new.heard ≡ self.old.heard) }
-    {
-        let body = self.keys.renewal_request(self.process)?;
-        let Claimed(is_held) = self.cluster.ask(TXN, body.as_str())?;
-        Ok(is_held)
-    }
-
-    // Looks at the key. Returns the revision of its last put, or 0 if nothing is there, as the
-    // reply says that was heard.
-    fn look(&mut self) -> Result<u64, AskFault>
-        ensures looked { IfOk result (λ revision.
-            Hears (λ json. IsSeen json revision)
-            self.old.heard self.new.heard self.new.last) }
-        ensures same { SameLooks self.old self.new }
-        ensures err { OnErr result (self.new.heard ≡ self.old.heard) }
-    {
-        let body = self.keys.look_request()?;
-        let Seen(revision) = self.cluster.ask(RANGE, body.as_str())?;
-        Ok(revision)
-    }
-
-    // Puts the key if its last put still has this revision. Returns whether that was carried out,
-    // as the reply says that was heard.
-    fn put_claim(&mut self, revision: u64) -> Result<bool, AskFault>
-        ensures claimed { IfOk result (λ is_claimed.
-            Hears (λ json. IsTrue is_claimed ↔ IsDone json)
-            self.old.heard self.new.heard self.new.last) }
-        ensures same { SameLooks self.old self.new }
-        ensures err { OnErr result (self.new.heard ≡ self.old.heard) }
-    {
-        let body = self.keys.claim_request(revision, self.process)?;
-        let Claimed(is_claimed) = self.cluster.ask(TXN, body.as_str())?;
-        Ok(is_claimed)
-    }
-}
-
-// Returns a number that no other process has: the revision of a put, as the reply says that was
-// heard.
-fn new_number<R>(cluster: &mut Cluster<R>, keys: &Keys) -> Result<u64, AskFault>
-where
-    R: Net<Stream = TcpStream> + Clock + AllocGlobal + Drop,
-    ensures { IfOk result (λ number.
-        Hears (λ json. IsRevision json number)
-        cluster.old.heard cluster.new.heard cluster.new.last.items) }
-{
-    let body = keys.identity_request()?;
-    let Revision(number) = cluster.ask(PUT, body.as_str())?;
-    Ok(number)
 }
 
 // How many looks in a row found a revision that one more look found, `LOOKS` at most.

@@ -1,13 +1,10 @@
 //! Looking at a journal in etcd, which another process may have.
-ghost use Rattle.std.specs.Prelude.{◌≡◌, ℕ, IfOk, IfSome, string_bytes};
+ghost use Rattle.std.specs.Prelude.{◌≡◌, ℕ, IfOk, IsTrue, OnOk, string_bytes};
 ghost use Rattle.ring_etcd.specs.Hearing.{Reads};
 ghost use Rattle.ring_etcd.specs.Readings.{Counts, IsFound};
 
 use crate::base::Base;
-use crate::cluster::Cluster;
-use crate::keys::Keys;
-use crate::place::{EtcdFault, EtcdPlace, READINGS, base_of};
-use crate::reading::ReadFault;
+use crate::place::{EtcdFault, EtcdPlace, READINGS, found_base};
 use crate::store::Store;
 use std::net::{Net, TcpStream};
 use std::time::Clock;
@@ -26,38 +23,47 @@ impl<R: Net<Stream = TcpStream> + Clock + AllocGlobal + Copy + Drop> EtcdPlace<R
         ensures { IfOk result (λ found. (text : ℕ) × (pieces : ℕ)
             × IsFound name.now text pieces found.items) }
     {
-        let keys = Keys::new(rt.alloc(), name)?;
-        let mut store = Store::new(Cluster::new(*rt, members)?, keys);
-        for _ in 0..READINGS {
-            let Some(value) = store.base()? else {
-                return Err(EtcdFault::Damaged);
-            };
-            let base = base_of(rt.alloc(), &value)?;
-            if let Some(found) = found_at(&mut store, base)? {
-                return Ok(found);
-            }
-        }
-        Err(EtcdFault::TakenOver)
+        let mut store = Store::new(*rt, members, name)?;
+        let mut found = Vec::new(rt.alloc());
+        find(&mut store, &mut found)?;
+        Ok(found)
     }
 }
 
-// Returns the bytes of the text of a base and of the entries after it, or `None` if the base
-// doesn't count any more. The last reply that was heard says that it counts.
-fn found_at<R>(store: &mut Store<R>, base: Base) -> Result<Option<Vec<u8>>, EtcdFault>
+// Finds the bytes of the text that counts and of the entries after it.
+fn find<R>(store: &mut Store<R>, found: &mut Vec<u8>) -> Result<(), EtcdFault>
+where
+    R: Net<Stream = TcpStream> + Clock + AllocGlobal + Drop,
+    ensures { OnOk result ((text : ℕ) × (pieces : ℕ)
+        × IsFound (string_bytes store.old.keys.name) text pieces found.new.items) }
+{
+    for _ in 0..READINGS {
+        let Some(base) = found_base(store)? else {
+            return Err(EtcdFault::Damaged);
+        };
+        if find_at(store, base, found)? {
+            return Ok(());
+        }
+    }
+    Err(EtcdFault::TakenOver)
+}
+
+// Finds the bytes of the text of a base and of the entries after it. Returns whether the base still
+// counts. If it does, the last reply that was heard says so.
+fn find_at<R>(store: &mut Store<R>, base: Base, found: &mut Vec<u8>) -> Result<bool, EtcdFault>
 where
     R: Net<Stream = TcpStream> + Clock + AllocGlobal + Drop,
     ensures keys { store.new.keys ≡ store.old.keys }
-    ensures found { IfOk result (λ found. IfSome found (λ found.
-        IsFound (string_bytes store.old.keys.name) base.text base.pieces found.items)) }
-    ensures last { IfOk result (λ found. IfSome found (λ _.
-        Reads (λ json. Counts base.text base.pieces json) store.new.cluster.last.items)) }
+    ensures found { IfOk result (λ counts. IsTrue counts
+        → IsFound (string_bytes store.old.keys.name) base.text base.pieces found.new.items) }
+    ensures last { IfOk result (λ counts. IsTrue counts
+        → Reads (λ json. Counts base.text base.pieces json) store.new.cluster.last.items) }
 {
-    let mut found = Vec::new(store.alloc());
-    match store.read(base, &mut found) {
+    found.clear();
+    match store.read(base, found) {
         // Entries that were deleted before they were read are not in a page, and nothing else says so.
-        Ok(_next) if store.counts(base)? => Ok(Some(found)),
-        Ok(_next) => Ok(None),
-        Err(ReadFault::Damaged) if !store.counts(base)? => Ok(None),
-        Err(fault) => Err(fault.into()),
+        Ok(_next) => Ok(store.counts(base)?),
+        Err(EtcdFault::Damaged) if !store.counts(base)? => Ok(false),
+        Err(fault) => Err(fault),
     }
 }

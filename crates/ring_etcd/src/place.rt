@@ -4,12 +4,10 @@ ghost use Rattle.ring_etcd.specs.Readings.{IsTaken, IsTakenBy};
 ghost use Rattle.ring_etcd.specs.Bases.{base_text};
 
 use crate::base::Base;
-use crate::cluster::Cluster;
 use crate::engine::EngineFault;
 use crate::etcd::Etcd;
-use crate::keys::Keys;
 use crate::medium::{EtcdMedium, Standing};
-use crate::reading::ReadFault;
+use crate::replies::{Revision, There};
 use crate::store::{AskFault, Store};
 use ring_journal::{Batch, LONGEST_BATCH};
 use std::alloc::{AllocError, Global};
@@ -55,21 +53,6 @@ impl From<AskFault> for EtcdFault {
         match fault {
             AskFault::NoMemory => EtcdFault::NoMemory,
             AskFault::NoAnswer => EtcdFault::NoAnswer,
-        }
-    }
-}
-
-impl From<ReadFault> for EtcdFault {
-    ghost use Rattle.std.specs.Prelude.{◌≡◌};
-    ghost use Rattle.ring_etcd.specs.Faults.{fault_of_read};
-
-    ghost from_gives = { λ read fault. fault ≡ fault_of_read read };
-
-    fn from(fault: ReadFault) -> EtcdFault {
-        match fault {
-            ReadFault::NoMemory => EtcdFault::NoMemory,
-            ReadFault::NoAnswer => EtcdFault::NoAnswer,
-            ReadFault::Damaged => EtcdFault::Damaged,
         }
     }
 }
@@ -130,23 +113,17 @@ impl<R: Net<Stream = TcpStream> + Clock + AllocGlobal + Copy + Drop> EtcdPlace<R
     pub fn take(rt: &R, members: &str, name: &str) -> Result<EtcdPlace<R>, EtcdFault>
         ensures { IfOk result (IsTaken name.now) }
     {
-        let keys = Keys::new(rt.alloc(), name)?;
-        let mut store = Store::new(Cluster::new(*rt, members)?, keys);
-        let identity = store.identity()?;
-        for _ in 0..READINGS {
-            let base = current(&mut store)?;
-            let mut found = Vec::new(rt.alloc());
-            if let Some(next) = taken(&mut store, base, identity, &mut found)? {
-                return Ok(EtcdPlace {
-                    store,
-                    base,
-                    next,
-                    identity,
-                    found,
-                });
-            }
-        }
-        Err(EtcdFault::TakenOver)
+        let mut store = Store::new(*rt, members, name)?;
+        let Revision(identity) = store.identity()?;
+        let mut found = Vec::new(rt.alloc());
+        let (base, next) = taken_over(&mut store, identity, &mut found)?;
+        Ok(EtcdPlace {
+            store,
+            base,
+            next,
+            identity,
+            found,
+        })
     }
 
     /// Returns the bytes of the journal, of which there are none from then on.
@@ -182,27 +159,63 @@ impl<R: Net<Stream = TcpStream> + Clock + AllocGlobal + Copy + Drop> EtcdPlace<R
     }
 }
 
-/// Returns the base that counts. If the journal was never begun, it is begun by an empty text. No
-/// process has the identity 0, so this is no process's text.
-///
-/// Returns `Damaged` if there is no base but a piece or an entry, as is tested: the base was lost.
-pub(crate) fn current<R>(store: &mut Store<R>) -> Result<Base, EtcdFault>
+// Reads the journal and puts an entry that takes over after it, until that is done while one text
+// counts. Returns the base of that text, and the number after that entry.
+fn taken_over<R>(
+    store: &mut Store<R>,
+    identity: u64,
+    found: &mut Vec<u8>,
+) -> Result<(Base, u64), EtcdFault>
+where
+    R: Net<Stream = TcpStream> + Clock + AllocGlobal + Drop,
+    ensures keys { store.new.keys ≡ store.old.keys }
+    ensures taken { IfOk result (λ taken.
+        IsTakenBy (string_bytes store.old.keys.name) taken.0.text taken.0.pieces identity taken.1
+        [] found.new.items) }
+{
+    for _ in 0..READINGS {
+        let base = current(store)?;
+        found.clear();
+        if let Some(next) = taken(store, base, identity, found)? {
+            return Ok((base, next));
+        }
+    }
+    Err(EtcdFault::TakenOver)
+}
+
+// Returns the base that counts. If the journal was never begun, it is begun by an empty text. No
+// process has the identity 0, so this is no process's text.
+//
+// Returns `Damaged` if there is no base but a piece or an entry, as is tested: the base was lost.
+fn current<R>(store: &mut Store<R>) -> Result<Base, EtcdFault>
 where
     R: Net<Stream = TcpStream> + Clock + AllocGlobal + Drop,
     ensures { store.new.keys ≡ store.old.keys }
 {
-    if let Some(value) = store.base()? {
-        return base_of(store.alloc(), &value);
+    if let Some(base) = found_base(store)? {
+        return Ok(base);
     }
     store.put_base(Base { text: 0, pieces: 0 })?;
-    match store.base()? {
-        Some(value) => base_of(store.alloc(), &value),
+    match found_base(store)? {
+        Some(base) => Ok(base),
         None => Err(EtcdFault::Damaged),
     }
 }
 
-/// Returns the base with this value.
-pub(crate) fn base_of(alloc: Global, value: &[u8]) -> Result<Base, EtcdFault>
+/// Returns the base that counts, or `None` if there is none.
+pub(crate) fn found_base<R>(store: &mut Store<R>) -> Result<Option<Base>, EtcdFault>
+where
+    R: Net<Stream = TcpStream> + Clock + AllocGlobal + Drop,
+    ensures { store.new.keys ≡ store.old.keys }
+{
+    match store.base()? {
+        There(Some(value)) => Ok(Some(base_of(store.alloc(), &value)?)),
+        There(None) => Ok(None),
+    }
+}
+
+// The base with this value.
+fn base_of(alloc: Global, value: &[u8]) -> Result<Base, EtcdFault>
     ensures { IfOk result (λ base. value.now ≡ base_text base.text base.pieces) }
 {
     match Base::of(alloc, value)? {
@@ -228,8 +241,8 @@ where
 {
     let mark = format!(in store.alloc(); "t{identity}")?;
     match store.read(base, found) {
-        Ok(next) => Ok(store.take_over(base, next, mark.as_str().as_bytes(), found)?),
-        Err(ReadFault::Damaged) if current(store)? != base => Ok(None),
-        Err(fault) => Err(fault.into()),
+        Ok(next) => store.take_over(base, next, mark.as_str().as_bytes(), found),
+        Err(EtcdFault::Damaged) if current(store)? != base => Ok(None),
+        Err(fault) => Err(fault),
     }
 }

@@ -8,10 +8,11 @@ ghost use Rattle.ring_etcd.specs.private.Paging.{keys_of, values_of};
 ghost use Rattle.ring_etcd.specs.private.Taking.{IsPutBehind};
 
 use crate::base::Base;
-use crate::replies::Pair;
+use crate::keys::{ENTRIES, PIECES};
+use crate::place::EtcdFault;
+use crate::replies::{Page, Pair};
 use crate::requests::PAGE;
-use crate::store::{AskFault, Put, Store};
-use std::alloc::AllocError;
+use crate::store::{Put, Store};
 use std::net::{Net, TcpStream};
 use std::time::Clock;
 
@@ -21,45 +22,9 @@ pub(crate) const BATCH: u8 = b'b';
 
 pub(crate) const TAKES: u8 = b't';
 
-/// Why a journal could not be read.
-#[derive(Clone, Copy, Debug, PartialEq, Eq)]
-pub(crate) enum ReadFault {
-    /// An allocation failed.
-    NoMemory,
-    /// No answer came.
-    NoAnswer,
-    /// What is there is no journal of this version, or not whole.
-    Damaged,
-}
-
-impl From<AllocError> for ReadFault {
-    ghost use Rattle.std.specs.Prelude.{◌≡◌};
-    ghost use Rattle.ring_etcd.specs.declared.reading.ReadFault.TheVariants.{NoMemory};
-
-    ghost from_gives = { λ _ fault. fault ≡ NoMemory };
-
-    fn from(_error: AllocError) -> ReadFault {
-        ReadFault::NoMemory
-    }
-}
-
-impl From<AskFault> for ReadFault {
-    ghost use Rattle.std.specs.Prelude.{◌≡◌};
-    ghost use Rattle.ring_etcd.specs.private.Faults.{read_fault_of};
-
-    ghost from_gives = { λ asked fault. fault ≡ read_fault_of asked };
-
-    fn from(fault: AskFault) -> ReadFault {
-        match fault {
-            AskFault::NoMemory => ReadFault::NoMemory,
-            AskFault::NoAnswer => ReadFault::NoAnswer,
-        }
-    }
-}
-
 /// Adds the bytes of an entry to those that were found before it. An entry by which a process takes
 /// over has none.
-pub(crate) fn add_entry(entry: &[u8], found: &mut Vec<u8>) -> Result<(), ReadFault>
+pub(crate) fn add_entry(entry: &[u8], found: &mut Vec<u8>) -> Result<(), EtcdFault>
     ensures { OnOk result (IsSomeAnd (added entry.now)
         (λ bytes. found.new.items ≡ found.old.items ++ bytes)) }
 {
@@ -69,29 +34,29 @@ pub(crate) fn add_entry(entry: &[u8], found: &mut Vec<u8>) -> Result<(), ReadFau
             Ok(())
         }
         Some((&TAKES, _)) => Ok(()),
-        _ => Err(ReadFault::Damaged),
+        _ => Err(EtcdFault::Damaged),
     }
 }
 
 // The number after this one.
-fn after(number: u64) -> Result<u64, ReadFault>
+fn after(number: u64) -> Result<u64, EtcdFault>
     ensures { IfOk result (λ next. next ≡ number + 1) }
 {
     match number.checked_add(1) {
         Some(next) => Ok(next),
-        None => Err(ReadFault::Damaged),
+        None => Err(EtcdFault::Damaged),
     }
 }
 
 impl<R: Net<Stream = TcpStream> + Clock + AllocGlobal + Drop> Store<R> {
     /// Reads the text of a base and the entries after it. Returns the number of the next entry.
-    pub(crate) fn read(&mut self, base: Base, found: &mut Vec<u8>) -> Result<u64, ReadFault>
+    pub(crate) fn read(&mut self, base: Base, found: &mut Vec<u8>) -> Result<u64, EtcdFault>
         ensures keys { self.new.keys ≡ self.old.keys }
         ensures read { IfOk result (λ next. IsRead (string_bytes self.old.keys.name)
             base.text base.pieces next found.old.items found.new.items) }
     {
         if self.read_pieces(base, found)? != base.pieces {
-            return Err(ReadFault::Damaged);
+            return Err(EtcdFault::Damaged);
         }
         self.read_entries(base, 1, found)
     }
@@ -103,14 +68,14 @@ impl<R: Net<Stream = TcpStream> + Clock + AllocGlobal + Drop> Store<R> {
         base: Base,
         first: u64,
         found: &mut Vec<u8>,
-    ) -> Result<u64, ReadFault>
+    ) -> Result<u64, EtcdFault>
         ensures keys { self.new.keys ≡ self.old.keys }
         ensures read { IfOk result (λ next. AreEntries (string_bytes self.old.keys.name)
             base.text first next found.old.items found.new.items) }
     {
         let mut next = first;
         for _ in 0..u64::MAX {
-            let page = self.entries(base.text, next)?;
+            let Page { pairs: page } = self.page(ENTRIES, base.text, next)?;
             next = self.add_entries(base.text, next, &page, found)?;
             // A page with room for more is the last one. An empty page may never come while another
             // process puts entries.
@@ -118,24 +83,24 @@ impl<R: Net<Stream = TcpStream> + Clock + AllocGlobal + Drop> Store<R> {
                 return Ok(next);
             }
         }
-        Err(ReadFault::Damaged)
+        Err(EtcdFault::Damaged)
     }
 
     // Reads the pieces of the text of a base. Returns how many there are.
-    fn read_pieces(&mut self, base: Base, found: &mut Vec<u8>) -> Result<u64, ReadFault>
+    fn read_pieces(&mut self, base: Base, found: &mut Vec<u8>) -> Result<u64, EtcdFault>
         ensures keys { self.new.keys ≡ self.old.keys }
         ensures read { IfOk result (λ number. ArePieces (string_bytes self.old.keys.name)
             base.text number found.old.items found.new.items) }
     {
         let mut next = 0;
         for _ in 0..u64::MAX {
-            let page = self.pieces(base.text, next)?;
+            let Page { pairs: page } = self.page(PIECES, base.text, next)?;
             if page.is_empty() {
                 return Ok(next);
             }
             next = self.add_pieces(base.text, next, &page, found)?;
         }
-        Err(ReadFault::Damaged)
+        Err(EtcdFault::Damaged)
     }
 
     // Adds the bytes of entries, which have the numbers from `next` on. Returns the number after
@@ -146,7 +111,7 @@ impl<R: Net<Stream = TcpStream> + Clock + AllocGlobal + Drop> Store<R> {
         mut next: u64,
         page: &[Pair],
         found: &mut Vec<u8>,
-    ) -> Result<u64, ReadFault>
+    ) -> Result<u64, EtcdFault>
         ensures number { IfOk result (λ after. after ≡ next + length page.now) }
         ensures keys { OnOk result (keys_of page.now
             ≡ codes_from (entry_code (string_bytes self.now.keys.name) text) next
@@ -155,8 +120,8 @@ impl<R: Net<Stream = TcpStream> + Clock + AllocGlobal + Drop> Store<R> {
             (AreAdded (values_of page.now) found.old.items found.new.items) }
     {
         for pair in page {
-            if !self.is_entry(pair, text, next)? {
-                return Err(ReadFault::Damaged);
+            if !self.is_part(pair, ENTRIES, text, next)? {
+                return Err(EtcdFault::Damaged);
             }
             add_entry(&pair.value, found)?;
             next = after(next)?;
@@ -171,7 +136,7 @@ impl<R: Net<Stream = TcpStream> + Clock + AllocGlobal + Drop> Store<R> {
         mut next: u64,
         page: &[Pair],
         found: &mut Vec<u8>,
-    ) -> Result<u64, ReadFault>
+    ) -> Result<u64, EtcdFault>
         ensures number { IfOk result (λ after. after ≡ next + length page.now) }
         ensures keys { OnOk result (keys_of page.now
             ≡ codes_from (piece_code (string_bytes self.now.keys.name) text) next
@@ -180,8 +145,8 @@ impl<R: Net<Stream = TcpStream> + Clock + AllocGlobal + Drop> Store<R> {
             (found.new.items ≡ found.old.items ++ joined (values_of page.now)) }
     {
         for pair in page {
-            if !self.is_piece(pair, text, next)? {
-                return Err(ReadFault::Damaged);
+            if !self.is_part(pair, PIECES, text, next)? {
+                return Err(EtcdFault::Damaged);
             }
             found.extend_from_slice(&pair.value)?;
             next = after(next)?;
@@ -199,7 +164,7 @@ impl<R: Net<Stream = TcpStream> + Clock + AllocGlobal + Drop> Store<R> {
         mut next: u64,
         mark: &[u8],
         found: &mut Vec<u8>,
-    ) -> Result<Option<u64>, ReadFault>
+    ) -> Result<Option<u64>, EtcdFault>
         ensures keys { self.new.keys ≡ self.old.keys }
         ensures put { IfOk result (λ put. IfSome put (λ after.
             IsPutBehind (string_bytes self.old.keys.name) base.text mark.now next after

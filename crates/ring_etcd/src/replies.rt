@@ -8,6 +8,7 @@ ghost use Rattle.ring_etcd.specs.private.Paging.{ArePairs, IsPair};
 ghost use Rattle.ring_etcd.specs.private.Replies.{IsRevisionAt, base_in};
 ghost use Rattle.ring_etcd.specs.private.Saying.{Says};
 
+use crate::cluster::NoAnswer;
 use base64::engine::general_purpose::STANDARD;
 use serde_json::Value;
 use std::alloc::Global;
@@ -17,18 +18,14 @@ const ENTRY: &str = "/responses/0/response_range/kvs/0/value";
 
 const BASE: &str = "/responses/1/response_range/kvs/0/value";
 
-/// A reply that says nothing that was asked for.
-#[derive(Clone, Copy, Debug, PartialEq, Eq)]
-pub(crate) struct Unread;
-
 /// What a reply can be read as.
 pub(crate) trait Answer: Sized {
     ghost use Rattle.serde_json.specs.Data.{Data};
 
     ghost says: { Data → Self → Type 0 };
 
-    /// Returns what a reply says, or `Unread` if it says nothing of the kind.
-    fn read(alloc: Global, reply: &Value) -> Result<Self, Unread>
+    /// Returns what a reply says, or `NoAnswer` if it says nothing of the kind.
+    fn read(alloc: Global, reply: &Value) -> Result<Self, NoAnswer>
         ensures { IfOk result (λ answer. says (view reply.now) answer) };
 }
 
@@ -47,17 +44,17 @@ pub(crate) enum Said {
 impl Answer for Said {
     ghost says = { Says };
 
-    fn read(alloc: Global, reply: &Value) -> Result<Said, Unread> {
+    fn read(alloc: Global, reply: &Value) -> Result<Said, NoAnswer> {
         if is_done(reply) {
             return Ok(Said::Done);
         }
         if reply.pointer("/responses/1/response_range").is_none() {
-            return Err(Unread);
+            return Err(NoAnswer);
         }
         let entry = value_at(alloc, reply, ENTRY)?;
         match value_at(alloc, reply, BASE) {
             Ok(base) => Ok(Said::Found { entry, base }),
-            Err(unread) => Err(unread),
+            Err(silence) => Err(silence),
         }
     }
 }
@@ -86,7 +83,7 @@ fn array_at<'v>(reply: &'v Value, path: &str) -> Option<&'v Vec<Value>>
 }
 
 // The bytes that are in base 64 at a place of a reply; `None` if no text is there.
-fn value_at(alloc: Global, reply: &Value, path: &str) -> Result<Option<Vec<u8>>, Unread>
+fn value_at(alloc: Global, reply: &Value, path: &str) -> Result<Option<Vec<u8>>, NoAnswer>
     ensures { IfOk result (λ found.
         option_map (λ bytes. bytes.items) found ≡ bytes_at path.now (view reply.now)) }
 {
@@ -95,7 +92,7 @@ fn value_at(alloc: Global, reply: &Value, path: &str) -> Result<Option<Vec<u8>>,
     };
     match STANDARD.decode(alloc, text.as_bytes()) {
         Ok(bytes) => Ok(Some(bytes)),
-        Err(_) => Err(Unread),
+        Err(_) => Err(NoAnswer),
     }
 }
 
@@ -108,24 +105,24 @@ impl Answer for Revision {
 
     ghost says = { λ reply revision. IsRevision reply revision.0 };
 
-    fn read(_alloc: Global, reply: &Value) -> Result<Revision, Unread> {
+    fn read(_alloc: Global, reply: &Value) -> Result<Revision, NoAnswer> {
         match revision_at(reply, "/header/revision") {
             Ok(revision) => Ok(Revision(revision)),
-            Err(unread) => Err(unread),
+            Err(silence) => Err(silence),
         }
     }
 }
 
 // The revision at a place of a reply.
-fn revision_at(reply: &Value, path: &str) -> Result<u64, Unread>
+fn revision_at(reply: &Value, path: &str) -> Result<u64, NoAnswer>
     ensures { IfOk result (λ revision. IsRevisionAt path.now (view reply.now) revision) }
 {
     let Some(text) = reply.pointer(path).and_then(Value::as_str) else {
-        return Err(Unread);
+        return Err(NoAnswer);
     };
     match text.parse::<u64>() {
         Ok(revision) => Ok(revision),
-        Err(_) => Err(Unread),
+        Err(_) => Err(NoAnswer),
     }
 }
 
@@ -138,16 +135,16 @@ impl Answer for Seen {
 
     ghost says = { λ reply seen. IsSeen reply seen.0 };
 
-    fn read(_alloc: Global, reply: &Value) -> Result<Seen, Unread> {
+    fn read(_alloc: Global, reply: &Value) -> Result<Seen, NoAnswer> {
         if reply.pointer("/header/revision").is_none() {
-            return Err(Unread);
+            return Err(NoAnswer);
         }
         if reply.pointer("/kvs/0").is_none() {
             return Ok(Seen(0));
         }
         match revision_at(reply, "/kvs/0/mod_revision") {
             Ok(revision) => Ok(Seen(revision)),
-            Err(unread) => Err(unread),
+            Err(silence) => Err(silence),
         }
     }
 }
@@ -162,16 +159,16 @@ impl Answer for There {
 
     ghost says = { λ reply there. IsValue reply (option_map (λ bytes. bytes.items) there.0) };
 
-    fn read(alloc: Global, reply: &Value) -> Result<There, Unread> {
+    fn read(alloc: Global, reply: &Value) -> Result<There, NoAnswer> {
         if reply.pointer("/header/revision").is_none() {
-            return Err(Unread);
+            return Err(NoAnswer);
         }
         if reply.pointer("/kvs/0").is_none() {
             return Ok(There(None));
         }
         match value_at(alloc, reply, "/kvs/0/value") {
             Ok(Some(value)) => Ok(There(Some(value))),
-            _ => Err(Unread),
+            _ => Err(NoAnswer),
         }
     }
 }
@@ -186,10 +183,10 @@ impl Answer for Claimed {
 
     ghost says = { λ reply claimed. IsTrue claimed.0 ↔ IsDone reply };
 
-    fn read(_alloc: Global, reply: &Value) -> Result<Claimed, Unread> {
+    fn read(_alloc: Global, reply: &Value) -> Result<Claimed, NoAnswer> {
         let is_claimed = is_done(reply);
         if !is_claimed && reply.pointer("/responses/0/response_range").is_none() {
-            return Err(Unread);
+            return Err(NoAnswer);
         }
         Ok(Claimed(is_claimed))
     }
@@ -214,9 +211,9 @@ impl Answer for Page {
 
     ghost says = { λ reply page. ArePairs (pairs_in reply) page.pairs.items };
 
-    fn read(alloc: Global, reply: &Value) -> Result<Page, Unread> {
+    fn read(alloc: Global, reply: &Value) -> Result<Page, NoAnswer> {
         if reply.pointer("/header/revision").is_none() {
-            return Err(Unread);
+            return Err(NoAnswer);
         }
         match array_at(reply, "/kvs") {
             Some(found) => {
@@ -231,34 +228,34 @@ impl Answer for Page {
 }
 
 // The pairs that the items of a range are, in their order.
-fn pairs_of(alloc: Global, found: &[Value]) -> Result<Vec<Pair>, Unread>
+fn pairs_of(alloc: Global, found: &[Value]) -> Result<Vec<Pair>, NoAnswer>
     ensures { IfOk result (λ pairs. ArePairs (map view found.now) pairs.items) }
 {
     let mut pairs = Vec::new(alloc);
     for item in found {
         let pair = pair_of(alloc, item)?;
         let Ok(()) = pairs.push(pair) else {
-            return Err(Unread);
+            return Err(NoAnswer);
         };
     }
     Ok(pairs)
 }
 
 // The pair that an item of a range is.
-fn pair_of(alloc: Global, item: &Value) -> Result<Pair, Unread>
+fn pair_of(alloc: Global, item: &Value) -> Result<Pair, NoAnswer>
     ensures { IfOk result (λ pair. IsPair (view item.now) pair) }
 {
     let Some(key) = text_at(item, "/key") else {
-        return Err(Unread);
+        return Err(NoAnswer);
     };
     let Some(value) = value_at(alloc, item, "/value")? else {
-        return Err(Unread);
+        return Err(NoAnswer);
     };
     match String::from_str(alloc, key) {
         Ok(key) => Ok(Pair { key, value }),
         Err(_) => {
             drop(value);
-            Err(Unread)
+            Err(NoAnswer)
         }
     }
 }

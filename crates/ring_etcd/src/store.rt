@@ -1,28 +1,29 @@
 //! What is asked of etcd, and what it said.
-ghost use Rattle.std.specs.Prelude.{◌≡◌, ◌↔◌, Some, IfOk, IsTrue, option_map, string_bytes};
+ghost use Rattle.std.specs.Prelude.{◌≡◌, ◌↔◌, Some, IfOk, IsTrue, OnErr, option_map, string_bytes};
 ghost use Rattle.base64.specs.Engines.{standard};
 ghost use Rattle.base64.specs.GeneralPurpose.{encode_of};
+ghost use Rattle.ring_etcd.specs.Done.{IsDone};
 ghost use Rattle.ring_etcd.specs.Found.{pairs_in};
-ghost use Rattle.ring_etcd.specs.Keys.{entry_key, piece_key};
 ghost use Rattle.ring_etcd.specs.Hearing.{Hears};
 ghost use Rattle.ring_etcd.specs.Readings.{Counts};
 ghost use Rattle.ring_etcd.specs.Bases.{base_text};
+ghost use Rattle.ring_etcd.specs.private.Keys.{part_key};
 ghost use Rattle.ring_etcd.specs.private.Paging.{ArePairs};
 ghost use Rattle.ring_etcd.specs.private.Putting.{IsPut, IsPutOver, IsSwitched};
-ghost use Rattle.ring_etcd.specs.private.Replies.{IsRevision, IsValue};
+ghost use Rattle.ring_etcd.specs.private.Replies.{IsRevision, IsSeen, IsValue};
 ghost use Rattle.ring_etcd.specs.private.Told.{IsToldPut, IsToldSwitched};
 
 use crate::base::Base;
 use crate::cluster::{Cluster, NoAnswer};
 use crate::keys::Keys;
-use crate::replies::{Page, Pair, Revision, Said, There};
+use crate::replies::{Answer, Claimed, Page, Pair, Revision, Said, Seen, There};
 use crate::requests::{PUT, RANGE, TXN};
 use std::alloc::{AllocError, Global};
 use std::net::{Net, TcpStream};
 use std::time::Clock;
 
 /// Why a question has no answer.
-#[derive(Clone, Copy, Debug, PartialEq, Eq)]
+#[derive(Clone, Copy)]
 pub(crate) enum AskFault {
     /// An allocation failed, and nothing was asked.
     NoMemory,
@@ -38,17 +39,6 @@ impl From<AllocError> for AskFault {
 
     fn from(_error: AllocError) -> AskFault {
         AskFault::NoMemory
-    }
-}
-
-impl From<NoAnswer> for AskFault {
-    ghost use Rattle.std.specs.Prelude.{◌≡◌};
-    ghost use Rattle.ring_etcd.specs.declared.store.AskFault.TheVariants.{NoAnswer};
-
-    ghost from_gives = { λ _ fault. fault ≡ NoAnswer };
-
-    fn from(_silence: NoAnswer) -> AskFault {
-        AskFault::NoAnswer
     }
 }
 
@@ -71,11 +61,14 @@ pub(crate) struct Store<R> {
 }
 
 impl<R: Net<Stream = TcpStream> + Clock + AllocGlobal + Drop> Store<R> {
-    /// Returns the journal of this name in a cluster. Nothing is asked yet.
-    pub(crate) fn new(cluster: Cluster<R>, keys: Keys) -> Store<R>
-        ensures { result.keys ≡ keys }
+    /// Returns the journal of this name. The members of etcd are HOST:PORT,HOST:PORT and so on.
+    /// Nothing is asked yet.
+    pub(crate) fn new(rt: R, members: &str, name: &str) -> Result<Store<R>, AllocError>
+        ensures { IfOk result (λ store. string_bytes store.keys.name ≡ name.now) }
     {
-        Store { cluster, keys }
+        let keys = Keys::new(rt.alloc(), name)?;
+        let cluster = Cluster::new(rt, members)?;
+        Ok(Store { cluster, keys })
     }
 
     /// Returns the allocator.
@@ -88,30 +81,43 @@ impl<R: Net<Stream = TcpStream> + Clock + AllocGlobal + Drop> Store<R> {
         self.cluster.pause(millis);
     }
 
+    /// Sends a request, and returns what the reply says that was heard.
+    pub(crate) fn ask<T: Answer + Drop>(&mut self, path: &str, body: &str) -> Result<T, AskFault>
+        ensures keys { self.new.keys ≡ self.old.keys }
+        ensures ok { IfOk result (λ answer.
+            Hears (λ json. T.says json answer)
+            self.old.cluster.heard self.new.cluster.heard
+            self.new.cluster.last.items) }
+        ensures err { OnErr result (self.new.cluster.heard ≡ self.old.cluster.heard) }
+    {
+        match self.cluster.ask(path, body) {
+            Ok(answer) => Ok(answer),
+            Err(NoAnswer) => Err(AskFault::NoAnswer),
+        }
+    }
+
     /// Returns a number that no process was given before: the revision of a put.
-    pub(crate) fn identity(&mut self) -> Result<u64, AskFault>
+    pub(crate) fn identity(&mut self) -> Result<Revision, AskFault>
         ensures keys { self.new.keys ≡ self.old.keys }
         ensures told { IfOk result (λ identity.
-            Hears (λ json. IsRevision json identity)
+            Hears (λ json. IsRevision json identity.0)
             self.old.cluster.heard self.new.cluster.heard
             self.new.cluster.last.items) }
     {
         let body = self.keys.identity_request()?;
-        let Revision(revision) = self.cluster.ask(PUT, body.as_str())?;
-        Ok(revision)
+        self.ask(PUT, body.as_str())
     }
 
     /// Returns the value of the base, or `None` if there is none, as the reply says that was heard.
-    pub(crate) fn base(&mut self) -> Result<Option<Vec<u8>>, AskFault>
+    pub(crate) fn base(&mut self) -> Result<There, AskFault>
         ensures keys { self.new.keys ≡ self.old.keys }
         ensures told { IfOk result (λ base.
-            Hears (λ json. IsValue json (option_map (λ bytes. bytes.items) base))
+            Hears (λ json. IsValue json (option_map (λ bytes. bytes.items) base.0))
             self.old.cluster.heard self.new.cluster.heard
             self.new.cluster.last.items) }
     {
         let body = self.keys.base_request()?;
-        let There(base) = self.cluster.ask(RANGE, body.as_str())?;
-        Ok(base)
+        self.ask(RANGE, body.as_str())
     }
 
     /// Returns whether this base counts, as the reply says that was heard.
@@ -123,7 +129,7 @@ impl<R: Net<Stream = TcpStream> + Clock + AllocGlobal + Drop> Store<R> {
             self.new.cluster.last.items) }
     {
         let value = base.value(self.alloc())?;
-        let there = self.base()?;
+        let There(there) = self.base()?;
         Ok(is_bytes(&there, value.as_str().as_bytes()))
     }
 
@@ -132,7 +138,7 @@ impl<R: Net<Stream = TcpStream> + Clock + AllocGlobal + Drop> Store<R> {
         ensures { self.new.keys ≡ self.old.keys }
     {
         let body = self.keys.first_base_request(base)?;
-        let _said: Said = self.cluster.ask(TXN, body.as_str())?;
+        let _said: Said = self.ask(TXN, body.as_str())?;
         Ok(())
     }
 
@@ -142,10 +148,9 @@ impl<R: Net<Stream = TcpStream> + Clock + AllocGlobal + Drop> Store<R> {
         text: u64,
         number: u64,
         piece: &[u8],
-    ) -> Result<(), AskFault> {
+    ) -> Result<Revision, AskFault> {
         let body = self.keys.piece_request(text, number, piece)?;
-        let Revision(_) = self.cluster.ask(PUT, body.as_str())?;
-        Ok(())
+        self.ask(PUT, body.as_str())
     }
 
     /// Puts an entry after the text of a base, if nothing is at its number and the base counts.
@@ -166,7 +171,7 @@ impl<R: Net<Stream = TcpStream> + Clock + AllocGlobal + Drop> Store<R> {
     {
         let counts = base.value(self.alloc())?;
         let body = self.keys.entry_request(base, number, entry)?;
-        let said = self.cluster.ask(TXN, body.as_str())?;
+        let said = self.ask(TXN, body.as_str())?;
         Ok(put_of(said, entry, counts.as_str().as_bytes()))
     }
 
@@ -183,52 +188,74 @@ impl<R: Net<Stream = TcpStream> + Clock + AllocGlobal + Drop> Store<R> {
     {
         let value = new.value(self.alloc())?;
         let body = self.keys.switch_request(old, number, new)?;
-        let said = self.cluster.ask(TXN, body.as_str())?;
+        let said = self.ask(TXN, body.as_str())?;
         Ok(is_base(said, value.as_str().as_bytes()))
     }
 
-    /// Returns the first entries after a text, from a number on.
-    pub(crate) fn entries(&mut self, text: u64, number: u64) -> Result<Vec<Pair>, AskFault>
+    /// Returns the first pieces of a text, or entries after it, from a number on.
+    pub(crate) fn page(&mut self, part: &str, text: u64, number: u64) -> Result<Page, AskFault>
         ensures keys { self.new.keys ≡ self.old.keys }
-        ensures pairs { IfOk result (λ pairs.
-            Hears (λ json. ArePairs (pairs_in json) pairs.items)
+        ensures pairs { IfOk result (λ page.
+            Hears (λ json. ArePairs (pairs_in json) page.pairs.items)
             self.old.cluster.heard self.new.cluster.heard
             self.new.cluster.last.items) }
     {
-        let body = self.keys.entries_request(text, number)?;
-        let Page { pairs } = self.cluster.ask(RANGE, body.as_str())?;
-        Ok(pairs)
+        let body = self.keys.page_request(part, text, number)?;
+        self.ask(RANGE, body.as_str())
     }
 
-    /// Returns the first pieces of a text, from a number on.
-    pub(crate) fn pieces(&mut self, text: u64, number: u64) -> Result<Vec<Pair>, AskFault>
-        ensures keys { self.new.keys ≡ self.old.keys }
-        ensures pairs { IfOk result (λ pairs.
-            Hears (λ json. ArePairs (pairs_in json) pairs.items)
+    /// Returns whether a pair is the piece with this number of a text, or the entry after it.
+    pub(crate) fn is_part(
+        &self,
+        pair: &Pair,
+        part: &str,
+        text: u64,
+        number: u64,
+    ) -> Result<bool, AllocError>
+        ensures { IfOk result (λ is_part. IsTrue is_part ↔ (string_bytes pair.now.key
+            ≡ encode_of standard (part_key part.now (string_bytes self.now.keys.name) text number))) }
+    {
+        let key = self.keys.part(part, text, number)?;
+        Ok(pair.key.as_str() == key.as_str())
+    }
+
+    /// Puts the lease if it has the value of this process. Returns whether that was carried out, as
+    /// the reply says that was heard.
+    pub(crate) fn renew_lease(&mut self, process: u64) -> Result<Claimed, AskFault>
+        ensures held { IfOk result (λ held.
+            Hears (λ json. IsTrue held.0 ↔ IsDone json)
             self.old.cluster.heard self.new.cluster.heard
             self.new.cluster.last.items) }
+        ensures err { OnErr result (self.new.cluster.heard ≡ self.old.cluster.heard) }
     {
-        let body = self.keys.pieces_request(text, number)?;
-        let Page { pairs } = self.cluster.ask(RANGE, body.as_str())?;
-        Ok(pairs)
+        let body = self.keys.renewal_request(process)?;
+        self.ask(TXN, body.as_str())
     }
 
-    /// Returns whether a pair is the entry with this number after a text.
-    pub(crate) fn is_entry(&self, pair: &Pair, text: u64, number: u64) -> Result<bool, AskFault>
-        ensures { IfOk result (λ is_entry. IsTrue is_entry ↔ (string_bytes pair.now.key
-            ≡ encode_of standard (entry_key (string_bytes self.now.keys.name) text number))) }
+    /// Looks at the lease. Returns the revision of its last put, or 0 if nothing is there, as the
+    /// reply says that was heard.
+    pub(crate) fn look_at_lease(&mut self) -> Result<Seen, AskFault>
+        ensures looked { IfOk result (λ seen.
+            Hears (λ json. IsSeen json seen.0)
+            self.old.cluster.heard self.new.cluster.heard
+            self.new.cluster.last.items) }
+        ensures err { OnErr result (self.new.cluster.heard ≡ self.old.cluster.heard) }
     {
-        let key = self.keys.entry(text, number)?;
-        Ok(pair.key.as_str() == key.as_str())
+        let body = self.keys.look_request()?;
+        self.ask(RANGE, body.as_str())
     }
 
-    /// Returns whether a pair is the piece with this number of a text.
-    pub(crate) fn is_piece(&self, pair: &Pair, text: u64, number: u64) -> Result<bool, AskFault>
-        ensures { IfOk result (λ is_piece. IsTrue is_piece ↔ (string_bytes pair.now.key
-            ≡ encode_of standard (piece_key (string_bytes self.now.keys.name) text number))) }
+    /// Puts the lease if its last put still has this revision. Returns whether that was carried out,
+    /// as the reply says that was heard.
+    pub(crate) fn claim_lease(&mut self, revision: u64, process: u64) -> Result<Claimed, AskFault>
+        ensures claimed { IfOk result (λ claimed.
+            Hears (λ json. IsTrue claimed.0 ↔ IsDone json)
+            self.old.cluster.heard self.new.cluster.heard
+            self.new.cluster.last.items) }
+        ensures err { OnErr result (self.new.cluster.heard ≡ self.old.cluster.heard) }
     {
-        let key = self.keys.piece(text, number)?;
-        Ok(pair.key.as_str() == key.as_str())
+        let body = self.keys.claim_request(revision, process)?;
+        self.ask(TXN, body.as_str())
     }
 }
 

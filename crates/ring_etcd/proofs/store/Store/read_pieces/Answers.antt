@@ -16,7 +16,7 @@ pub loop-preserved : goal.loop-preserved
 loop-preserved g c = record {
   keys = c.in_ok-page.ensures.keys ∙ c.loop.invariant.keys;
   read = more_pieces (string_bytes c.args.self.now.keys.name) c.args.base.text c.loop.next c.in_ok-next.next c.args.found.now.items
-      c.loop.found.items c.add_pieces.new.found.items c.in_ok-page.ensures.pairs.reads.json c.in_ok-page.page.items c.deref.result.now
+      c.loop.found.items c.add_pieces.new.found.items c.in_ok-page.ensures.pairs.reads.json c.in_ok-page.field-0.pairs.items c.deref.result.now
       c.loop.invariant.read c.in_ok-page.ensures.pairs.reads.says c.deref.ensures.value c.in_ok-next.ensures.number
       (subst (λ (k : Keys). keys_of c.deref.result.now ≡ codes_from (piece_code (string_bytes k.name) c.args.base.text) c.loop.next (values_of c.deref.result.now))
       (c.in_ok-page.ensures.keys ∙ c.loop.invariant.keys) c.in_ok-next.ensures.keys)

@@ -1,5 +1,5 @@
 use Rattle.std.proofs.Common.{rules}
-use Rattle.ring_etcd.proofs.keys.Keys.base.Goals as goal
+use Rattle.ring_etcd.proofs.keys.Keys.key.Goals as goal
 
 pub returns : goal.returns
 returns c = search rules

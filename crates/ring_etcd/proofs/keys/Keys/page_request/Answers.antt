@@ -1,5 +1,5 @@
 use Rattle.std.proofs.Common.{rules}
-use Rattle.ring_etcd.proofs.keys.Keys.entries_request.Goals as goal
+use Rattle.ring_etcd.proofs.keys.Keys.page_request.Goals as goal
 
 pub returns : goal.returns
 returns c = search rules
