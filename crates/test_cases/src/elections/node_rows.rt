@@ -4,8 +4,7 @@ use crate::elections::nodes::{counts, envelope, offer, seated};
 use crate::elections::rings::{charter, identity};
 use crate::equal::equal;
 use ring_chang::Chang;
-use ring_election::RingElection;
-use ring_id::Side;
+use ring_id::{NodeId, Side};
 use ring_node::{Charter, Node, Packet, TakeFault};
 use std::alloc::Global;
 use std::process::Abort;
@@ -16,12 +15,7 @@ use std::sync::Arc;
 type Offer = (usize, Result<bool, TakeFault>);
 
 /// Each offer to a node comes to what it says. No node of these test cases makes a report.
-fn offers<E: RingElection>(
-    rt: &impl Abort,
-    node: &mut Node<E>,
-    sender: &Node<E>,
-    offers: &[Offer],
-) {
+fn offers(rt: &impl Abort, node: &mut Node<Chang>, sender: &Node<Chang>, offers: &[Offer]) {
     for (place, wanted) in offers {
         let envelope = envelope(rt, sender, *place).expect(rt, "nothing was sent there");
         let found = (*place, offer(rt, node, envelope));
@@ -30,8 +24,8 @@ fn offers<E: RingElection>(
 }
 
 /// The node at position 1, which has taken the first envelope of position 0.
-fn passed_on<E: RingElection>(rt: &impl Abort, alloc: Global, algorithm: E) -> Node<E> {
-    let charter = charter(rt, alloc, 1, algorithm, &[3, 1, 2]);
+fn passed_on(rt: &impl Abort, alloc: Global) -> Node<Chang> {
+    let charter = charter(rt, alloc, 1, Chang, &[3, 1, 2]);
     let first = seated(rt, alloc, &charter, 0);
     let mut second = seated(rt, alloc, &charter, 1);
     drop(charter);
@@ -41,7 +35,7 @@ fn passed_on<E: RingElection>(rt: &impl Abort, alloc: Global, algorithm: E) -> N
 }
 
 /// The packet and the index of the envelope of what a node has sent to the right at this place.
-fn sent<E: RingElection>(rt: &impl Abort, node: &Node<E>, place: usize) -> (Packet<E::Msg>, usize) {
+fn sent(rt: &impl Abort, node: &Node<Chang>, place: usize) -> (Packet<NodeId>, usize) {
     let envelope = envelope(rt, node, place).expect(rt, "nothing was sent there");
     let found = (envelope.packet(), envelope.index());
     drop(envelope);
@@ -51,7 +45,7 @@ fn sent<E: RingElection>(rt: &impl Abort, node: &Node<E>, place: usize) -> (Pack
 #[test]
 fn a_node_passes_a_greater_on_and_shows_what_it_has_received(rt: HostRuntime) {
     let (one, three) = (identity(&rt, 1), identity(&rt, 3));
-    let second = passed_on(&rt, rt.alloc(), Chang);
+    let second = passed_on(&rt, rt.alloc());
     equal(&rt, "taken and sent", counts(&second), (1, 2));
     let both = [sent(&rt, &second, 0), sent(&rt, &second, 1)];
     equal(
@@ -72,30 +66,30 @@ fn a_node_passes_a_greater_on_and_shows_what_it_has_received(rt: HostRuntime) {
     drop(second);
 }
 
-/// A link is taken in order and once.
-fn takes_in_order<E: RingElection>(rt: &impl Abort, alloc: Global, algorithm: E) {
-    let second = passed_on(rt, alloc, algorithm);
-    let mut third = seated(rt, alloc, second.charter(), 2);
+#[test]
+fn a_link_is_taken_in_order_and_once(rt: HostRuntime) {
+    let second = passed_on(&rt, rt.alloc());
+    let mut third = seated(&rt, rt.alloc(), second.charter(), 2);
     let rows = [
         (1, Err(TakeFault::Gap)),
         (0, Ok(false)),
         (0, Err(TakeFault::Repeat)),
         (1, Ok(false)),
     ];
-    offers(rt, &mut third, &second, &rows);
+    offers(&rt, &mut third, &second, &rows);
     drop(second);
     let found = counts(&third);
     drop(third);
-    equal(rt, "taken and sent", found, (2, 2));
+    equal(&rt, "taken and sent", found, (2, 2));
 }
 
 /// What another has sent is strange to the node at this position that has received nothing.
-fn is_strange<E: RingElection>(
+fn is_strange(
     rt: &impl Abort,
     alloc: Global,
-    charter: &Arc<Charter<E>>,
+    charter: &Arc<Charter<Chang>>,
     position: usize,
-    sender: &Node<E>,
+    sender: &Node<Chang>,
 ) {
     let strange = Err(TakeFault::Stranger);
     let mut node = seated(rt, alloc, charter, position);
@@ -103,18 +97,13 @@ fn is_strange<E: RingElection>(
     drop(node);
 }
 
-/// What goes to another position, or is of another term, is strange.
-fn takes_no_stranger<E: RingElection>(rt: &impl Abort, alloc: Global, algorithm: E) {
-    let second = passed_on(rt, alloc, algorithm);
-    is_strange(rt, alloc, second.charter(), 0, &second);
-    let later = charter(rt, alloc, 2, algorithm, &[3, 1, 2]);
-    is_strange(rt, alloc, &later, 2, &second);
+#[test]
+fn a_packet_to_another_position_or_of_another_term_is_strange(rt: HostRuntime) {
+    let alloc = rt.alloc();
+    let second = passed_on(&rt, alloc);
+    is_strange(&rt, alloc, second.charter(), 0, &second);
+    let later = charter(&rt, alloc, 2, Chang, &[3, 1, 2]);
+    is_strange(&rt, alloc, &later, 2, &second);
     drop(later);
     drop(second);
-}
-
-#[test]
-fn a_link_is_taken_in_order_and_once_and_another_is_a_stranger(rt: HostRuntime) {
-    takes_in_order(&rt, rt.alloc(), Chang);
-    takes_no_stranger(&rt, rt.alloc(), Chang);
 }

@@ -2,6 +2,7 @@
 
 use crate::equal::equal;
 use crate::memory::TWICE;
+use ring_chang::Chang;
 use ring_election::RingElection;
 use ring_id::{NoMemory, Side};
 use ring_node::{Charter, Envelope, Node, TakeFault};
@@ -45,17 +46,17 @@ pub fn envelope<E: RingElection>(
 }
 
 /// How many packets a node has taken from the left, and sent to the right.
-pub fn counts<E: RingElection>(node: &Node<E>) -> (usize, usize) {
+pub fn counts(node: &Node<Chang>) -> (usize, usize) {
     (node.taken(Side::Left), node.sent(Side::Right))
 }
 
 /// Offers an envelope, and once more if an allocation fails. Returns whether the node makes a
 /// report, or the fault for which it does not take the envelope. Then the envelope comes back, and
 /// the node stays as it was.
-pub fn offer<E: RingElection>(
+pub fn offer(
     rt: &impl Abort,
-    node: &mut Node<E>,
-    envelope: Envelope<E>,
+    node: &mut Node<Chang>,
+    envelope: Envelope<Chang>,
 ) -> Result<bool, TakeFault> {
     let before = (counts(node), envelope.index());
     let packet = envelope.packet();

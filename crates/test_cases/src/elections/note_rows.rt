@@ -2,11 +2,10 @@
 //! over. News by the group's place are judged alike.
 
 use crate::elections::rings::{identity, name};
-use crate::elections::worlds::{begun_on, delivery};
+use crate::elections::worlds::{begun_on, delivery, end, seen};
 use crate::equal::equal;
 use crate::memory::TWICE;
 use ring_chang::Chang;
-use ring_election::RingElection;
 use ring_id::{GroupName, NodeId, Refusal};
 use ring_node::{Charter, Report};
 use ring_terms::{Book, Noting};
@@ -16,7 +15,7 @@ use std::process::Abort;
 use std::sync::Arc;
 
 /// A member joins. A call that ran out of memory is made once more, as are all that follow.
-fn join<E: RingElection>(rt: &impl Abort, book: &mut Book<E>, group: GroupName, node: NodeId) {
+fn join(rt: &impl Abort, book: &mut Book<Chang>, group: GroupName, node: NodeId) {
     let joined = match book.join(group, node) {
         Err(Refusal::NoMemory) => book.join(group, node),
         joined => joined,
@@ -25,10 +24,10 @@ fn join<E: RingElection>(rt: &impl Abort, book: &mut Book<E>, group: GroupName, 
 }
 
 /// A book with a group of 3, 1 and 2, which has no term.
-fn book<E: RingElection>(rt: &impl Abort, alloc: Global, group: GroupName, kind: E) -> Book<E> {
+fn book(rt: &impl Abort, alloc: Global, group: GroupName) -> Book<Chang> {
     let mut book = Book::new(alloc);
-    let created = match book.create(alloc, group, kind) {
-        Err(Refusal::NoMemory) => book.create(alloc, group, kind),
+    let created = match book.create(alloc, group, Chang) {
+        Err(Refusal::NoMemory) => book.create(alloc, group, Chang),
         created => created,
     };
     equal(rt, "a group", created, Ok(()));
@@ -39,12 +38,12 @@ fn book<E: RingElection>(rt: &impl Abort, alloc: Global, group: GroupName, kind:
 }
 
 /// A term starts.
-fn start<E: RingElection>(
+fn start(
     rt: &impl Abort,
     alloc: Global,
-    book: &mut Book<E>,
+    book: &mut Book<Chang>,
     group: GroupName,
-) -> Arc<Charter<E>> {
+) -> Arc<Charter<Chang>> {
     match book.start(alloc, group) {
         Ok(charter) => charter,
         Err(refusal) => {
@@ -55,9 +54,9 @@ fn start<E: RingElection>(
 }
 
 /// The first report that comes of a world.
-fn first_report<E: RingElection>(rt: &impl Abort, world: &mut World<E>) -> Report<E> {
+fn first_report(rt: &impl Abort, world: &mut World<Chang>) -> Report<Chang> {
     for _ in 0..8 {
-        let (position, side) = world.ready().expect(rt, "nothing is in flight");
+        let (position, side) = seen(world).0.expect(rt, "nothing is in flight");
         match delivery(rt, world, position, side) {
             Delivery::Moved(Some(report)) => return report,
             other => drop(other),
@@ -67,28 +66,23 @@ fn first_report<E: RingElection>(rt: &impl Abort, world: &mut World<E>) -> Repor
 }
 
 /// The report of a book's first term, from a run of its own: that of the member with the number 3.
-fn first_term<E: RingElection>(
+fn first_term(
     rt: &impl Abort,
     alloc: Global,
-    book: &mut Book<E>,
+    book: &mut Book<Chang>,
     group: GroupName,
-) -> Report<E> {
+) -> Report<Chang> {
     let charter = start(rt, alloc, book, group);
     let mut world = begun_on(rt, alloc, &charter);
     drop(charter);
     let report = first_report(rt, &mut world);
-    drop(world);
+    end(world);
     equal(rt, "the member", report.member().get(), 3);
     report
 }
 
 /// The leaders of a group's terms are these.
-fn leaders_are<E: RingElection>(
-    rt: &impl Abort,
-    alloc: Global,
-    book: &Book<E>,
-    leaders: &[Option<NodeId>],
-) {
+fn leaders_are(rt: &impl Abort, alloc: Global, book: &Book<Chang>, leaders: &[Option<NodeId>]) {
     let terms = match book.terms(alloc, name(rt)) {
         Ok(terms) => terms,
         Err(refusal) => {
@@ -101,11 +95,11 @@ fn leaders_are<E: RingElection>(
 }
 
 /// A book makes this of a report, and the leaders of the group's terms are these then.
-fn notes<E: RingElection>(
+fn notes(
     rt: &impl Abort,
     alloc: Global,
-    book: &mut Book<E>,
-    report: &Report<E>,
+    book: &mut Book<Chang>,
+    report: &Report<Chang>,
     noting: Noting,
     leaders: &[Option<NodeId>],
 ) {
@@ -114,12 +108,7 @@ fn notes<E: RingElection>(
 }
 
 /// A book makes this of the news of a report by the place of its group, whose term is the report's.
-fn informs<E: RingElection>(
-    rt: &impl Abort,
-    book: &mut Book<E>,
-    report: &Report<E>,
-    noting: Noting,
-) {
+fn informs(rt: &impl Abort, book: &mut Book<Chang>, report: &Report<Chang>, noting: Noting) {
     let charter = report.charter();
     let group = charter.group();
     let place = book.place(group).expect(rt, "no such group");
@@ -129,37 +118,32 @@ fn informs<E: RingElection>(
     equal(rt, "news", informed, noting);
 }
 
-/// News by the group's place, and then a report of the same.
-fn comes_by_place<E: RingElection>(rt: &impl Abort, alloc: Global, algorithm: E) {
-    let group = name(rt);
-    let mut book = book(rt, alloc, group, algorithm);
-    let report = first_term(rt, alloc, &mut book, group);
-    informs(rt, &mut book, &report, Noting::Noted);
-    informs(rt, &mut book, &report, Noting::Known);
+#[test]
+fn news_by_the_place_of_its_group_is_news_once(rt: HostRuntime) {
+    let (group, alloc) = (name(&rt), rt.alloc());
+    let mut book = book(&rt, alloc, group);
+    let report = first_term(&rt, alloc, &mut book, group);
+    informs(&rt, &mut book, &report, Noting::Noted);
+    informs(&rt, &mut book, &report, Noting::Known);
     let leaders = [NodeId::new(3)];
-    notes(rt, alloc, &mut book, &report, Noting::Known, &leaders);
+    notes(&rt, alloc, &mut book, &report, Noting::Known, &leaders);
     drop(report);
     drop(book);
 }
 
-/// A report that comes twice in its term, and once in the next.
-fn comes_late<E: RingElection>(rt: &impl Abort, alloc: Global, algorithm: E) {
-    let group = name(rt);
-    let mut book = book(rt, alloc, group, algorithm);
-    let report = first_term(rt, alloc, &mut book, group);
-    leaders_are(rt, alloc, &book, &[None]);
-    let leaders = [NodeId::new(3)];
-    notes(rt, alloc, &mut book, &report, Noting::Noted, &leaders);
-    notes(rt, alloc, &mut book, &report, Noting::Known, &leaders);
-    drop(start(rt, alloc, &mut book, group));
-    let leaders = [NodeId::new(3), None];
-    notes(rt, alloc, &mut book, &report, Noting::Stale, &leaders);
-    drop(report);
-    drop(book);
-}
-
+/// The report comes twice in its term, and once in the next.
 #[test]
 fn a_report_is_news_once_and_stale_later(rt: HostRuntime) {
-    comes_by_place(&rt, rt.alloc(), Chang);
-    comes_late(&rt, rt.alloc(), Chang);
+    let (group, alloc) = (name(&rt), rt.alloc());
+    let mut book = book(&rt, alloc, group);
+    let report = first_term(&rt, alloc, &mut book, group);
+    leaders_are(&rt, alloc, &book, &[None]);
+    let leaders = [NodeId::new(3)];
+    notes(&rt, alloc, &mut book, &report, Noting::Noted, &leaders);
+    notes(&rt, alloc, &mut book, &report, Noting::Known, &leaders);
+    drop(start(&rt, alloc, &mut book, group));
+    let leaders = [NodeId::new(3), None];
+    notes(&rt, alloc, &mut book, &report, Noting::Stale, &leaders);
+    drop(report);
+    drop(book);
 }

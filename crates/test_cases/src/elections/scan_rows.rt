@@ -1,24 +1,27 @@
 //! Plain scans of the links of a world. Before every delivery they agree with the world's own count
 //! and bits.
 
-use crate::elections::worlds::{begun, deliver};
+use crate::elections::rings::charter;
+use crate::elections::worlds::{begun_on, deliver, end, seen};
 use crate::equal::equal;
 use ring_any::Any;
 use ring_election::RingElection;
 use ring_id::Side;
+use ring_node::Node;
+use ring_roster::Roster;
 use ring_world::World;
 use std::alloc::Global;
 use std::process::Abort;
 
-/// Looks at each link of a world, in order, by the lists of its two nodes. Returns the first link
+/// Looks at each link of a ring, in order, by the lists of its two nodes. Returns the first link
 /// with something in flight, the link for delivery `done`, and how many packets are in flight. By
 /// turns that link is the first one and the last one with something in flight.
 fn scanned<E: RingElection>(
     rt: &impl Abort,
-    world: &World<E>,
+    ring: &Roster,
+    nodes: &[Node<E>],
     done: u32,
 ) -> (Option<(usize, Side)>, Option<(usize, Side)>, u128) {
-    let (ring, nodes) = (world.charter().roster(), world.nodes());
     let mut first = None;
     let mut last = None;
     let mut pending: u128 = 0;
@@ -26,13 +29,11 @@ fn scanned<E: RingElection>(
         let receiver = nodes.get(position).expect(rt, "no such node");
         for side in [Side::Left, Side::Right] {
             let from = ring.neighbour(position, side);
-            let sent = nodes
-                .get(from)
-                .expect(rt, "no such node")
-                .sent(side.other());
-            let waiting = sent.saturating_sub(receiver.taken(side)) as u128;
-            pending = pending.saturating_add(waiting);
+            let sender = nodes.get(from).expect(rt, "no such node");
+            let sent = sender.sent(side.other());
+            let waiting = sent.saturating_sub(receiver.taken(side));
             if waiting > 0 {
+                pending = pending.saturating_add(waiting as u128);
                 last = Some((position, side));
                 first = first.or(last);
             }
@@ -44,11 +45,16 @@ fn scanned<E: RingElection>(
 
 /// Delivers at the first link and at the last by turns until nothing is in flight. Before each
 /// delivery the scans agree with the world. Returns the number of deliveries.
-fn compared<E: RingElection>(rt: &impl Abort, world: &mut World<E>, most: u32) -> u32 {
+fn compared<E: RingElection>(
+    rt: &impl Abort,
+    ring: &Roster,
+    world: &mut World<E>,
+    most: u32,
+) -> u32 {
     for done in 0..most {
-        let (first, next, pending) = scanned(rt, world, done);
-        let told = (world.ready(), world.pending());
-        equal(rt, "what scans see", told, (first, pending));
+        let (first, next, pending) = scanned(rt, ring, world.nodes(), done);
+        let wanted = (first, pending, u128::from(done));
+        equal(rt, "what scans see", seen(world), wanted);
         let Some((position, side)) = next else {
             return done;
         };
@@ -65,9 +71,11 @@ fn scans_agree<E: RingElection>(
     kind: E,
     deliveries: u32,
 ) {
-    let mut world = begun(rt, alloc, kind, numbers);
-    let made = compared(rt, &mut world, 999);
-    drop(world);
+    let charter = charter(rt, alloc, 1, kind, numbers);
+    let mut world = begun_on(rt, alloc, &charter);
+    let made = compared(rt, charter.roster(), &mut world, 999);
+    end(world);
+    drop(charter);
     equal(rt, "deliveries", made, deliveries);
 }
 

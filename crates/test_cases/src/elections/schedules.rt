@@ -1,6 +1,6 @@
 //! Two worked schedules on 3, 1, 2: what is in flight after each delivery.
 
-use crate::elections::worlds::{begun, deliver};
+use crate::elections::worlds::{begun, deliver, end, seen};
 use crate::equal::equal;
 use ring_any::{Any, AnyMsg};
 use ring_election::RingElection;
@@ -69,14 +69,14 @@ fn goes<E: Digits>(rt: &impl Abort, alloc: Global, kind: E, legs: &[Leg]) -> usi
     equal(rt, "in flight", in_flight(rt, &world), [2, 3, 1]);
     let mut first = 0usize;
     for (position, wanted, links) in legs {
-        let is_ready = world.ready() == Some((*position, Side::Left));
+        let is_ready = seen(&world).0 == Some((*position, Side::Left));
         first = first.saturating_add(is_ready as usize);
         let done = deliver(rt, &mut world, *position, Side::Left);
         let found = (done, in_flight(rt, &world));
         equal(rt, "a delivery, and in flight", found, (*wanted, *links));
     }
-    equal(rt, "the ready link", world.ready(), None);
-    drop(world);
+    equal(rt, "the ready link", seen(&world).0, None);
+    end(world);
     first
 }
 

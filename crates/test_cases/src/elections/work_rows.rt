@@ -1,7 +1,7 @@
 //! How much work a ring takes. Every ring becomes quiet, with a leader that all know, within the
 //! algorithm's bound on messages and one announcement for each position.
 
-use crate::elections::worlds::{begun, drained};
+use crate::elections::worlds::{begun, drained, end, seen};
 use crate::equal::equal;
 use crate::memory::add;
 use ring_any::Any;
@@ -22,7 +22,7 @@ fn scattered(rt: &impl Abort, alloc: Global, size: u16) -> Vec<u32> {
 
 /// Nothing is in flight in a world, and all know this leader.
 fn all_know<E: RingElection>(rt: &impl Abort, world: &World<E>, leader: u32) {
-    equal(rt, "in flight", world.pending(), 0);
+    equal(rt, "in flight", seen(world).1, 0);
     for node in world.nodes() {
         equal(rt, "a leader", node.known(), NodeId::new(leader));
     }
@@ -41,9 +41,9 @@ fn messages<E: RingElection>(
     drained(rt, &mut world, u32::MAX);
     all_know(rt, &world, leader);
     let delivered = world.delivered();
-    drop(world);
-    assert!(rt; delivered >= u128::from(size), "an announcement is missing");
-    delivered.saturating_sub(u128::from(size))
+    end(world);
+    let messages = delivered.checked_sub(u128::from(size));
+    messages.expect(rt, "an announcement is missing")
 }
 
 /// For each kind and size: all know this leader, with at most `bound` messages.

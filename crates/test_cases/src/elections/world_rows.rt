@@ -2,10 +2,9 @@
 //! cut. More deliveries and cuts are in `tests/rows`.
 
 use crate::elections::rings::identity;
-use crate::elections::worlds::{begun, counts, cut, deliver, drained, pass, passages};
+use crate::elections::worlds::{Seen, begun, cut, deliver, drained, end, pass, passages, seen};
 use crate::equal::equal;
 use ring_chang::Chang;
-use ring_election::RingElection;
 use ring_id::{NodeId, Refusal, Side};
 use ring_world::{Passage, PassagesEnd, World};
 use std::alloc::Global;
@@ -24,14 +23,12 @@ enum Step {
     Cut(usize, Side, Result<(), Refusal>),
     /// A drain of at most this number of deliveries makes this many.
     Drain(u32, u32),
-    /// This many packets are in flight or stuck, and this many were delivered.
-    Counts(u128, u128),
-    /// This link is the first with something in flight, if there is one.
-    Ready(Option<(usize, Side)>),
+    /// The world shows this.
+    Shows(Seen),
 }
 
 /// A call comes to what its step says.
-fn goes<E: RingElection>(rt: &impl Abort, world: &mut World<E>, step: &Step) {
+fn goes(rt: &impl Abort, world: &mut World<Chang>, step: &Step) {
     match step {
         Step::Deliver(position, side, wanted) => {
             let done = deliver(rt, world, *position, *side);
@@ -48,38 +45,33 @@ fn goes<E: RingElection>(rt: &impl Abort, world: &mut World<E>, step: &Step) {
             equal(rt, "a cut", done, (*answer, answer.is_ok()));
         }
         Step::Drain(most, made) => equal(rt, "deliveries", drained(rt, world, *most), *made),
-        Step::Counts(pending, delivered) => {
-            equal(rt, "counts", counts(world), (*pending, *delivered));
-        }
-        Step::Ready(link) => equal(rt, "the ready link", world.ready(), *link),
+        Step::Shows(wanted) => equal(rt, "what a world shows", seen(world), *wanted),
     }
 }
 
 /// The steps on 3, 1, 2, one after another, come to what they say.
-fn all_go<E: RingElection>(rt: &impl Abort, alloc: Global, algorithm: E, steps: &[Step]) {
-    let mut world = begun(rt, alloc, algorithm, &[3, 1, 2]);
+fn all_go(rt: &impl Abort, alloc: Global, steps: &[Step]) {
+    let mut world = begun(rt, alloc, Chang, &[3, 1, 2]);
     for step in steps {
         goes(rt, &mut world, step);
     }
-    drop(world);
+    end(world);
 }
 
 #[test]
 fn a_link_gives_one_packet_and_is_idle_then(rt: HostRuntime) {
     let steps = [
-        Step::Counts(3, 0),
-        Step::Ready(Some((0, Side::Left))),
+        Step::Shows((Some((0, Side::Left)), 3, 0)),
         Step::Deliver(0, Side::Left, Passage::Moved(None)),
         Step::Deliver(0, Side::Left, Passage::Idle),
         Step::Deliver(2, Side::Right, Passage::Refused(Refusal::OneWay)),
-        Step::Counts(2, 1),
+        Step::Shows((Some((1, Side::Left)), 2, 1)),
         Step::Drain(6, 6),
-        Step::Counts(1, 7),
+        Step::Shows((Some((0, Side::Left)), 1, 7)),
         Step::Drain(100, 1),
-        Step::Counts(0, 8),
-        Step::Ready(None),
+        Step::Shows((None, 0, 8)),
     ];
-    all_go(&rt, rt.alloc(), Chang, &steps);
+    all_go(&rt, rt.alloc(), &steps);
 }
 
 #[test]
@@ -93,9 +85,9 @@ fn a_passage_tells_the_leader_alone(rt: HostRuntime) {
         Step::Pass(2, Side::Left, Passage::Moved(None)),
         Step::Pass(0, Side::Left, Passage::Moved(NodeId::new(3))),
         Step::Pass(1, Side::Left, Passage::Moved(NodeId::new(3))),
-        Step::Counts(1, 6),
+        Step::Shows((Some((2, Side::Left)), 1, 6)),
     ];
-    all_go(&rt, rt.alloc(), Chang, &steps);
+    all_go(&rt, rt.alloc(), &steps);
 }
 
 #[test]
@@ -107,9 +99,9 @@ fn passages_end_where_a_leader_is_told(rt: HostRuntime) {
         Step::Passages(100, 1, PassagesEnd::Told(1, leader)),
         Step::Passages(100, 1, PassagesEnd::Told(2, leader)),
         Step::Passages(100, 1, PassagesEnd::Quiet),
-        Step::Counts(0, 8),
+        Step::Shows((None, 0, 8)),
     ];
-    all_go(&rt, rt.alloc(), Chang, &steps);
+    all_go(&rt, rt.alloc(), &steps);
 }
 
 #[test]
@@ -119,14 +111,13 @@ fn a_cut_link_keeps_what_stands_there(rt: HostRuntime) {
         Step::Cut(2, Side::Left, Ok(())),
         Step::Cut(2, Side::Left, Ok(())),
         Step::Deliver(2, Side::Left, Passage::Idle),
-        Step::Counts(3, 0),
+        Step::Shows((Some((0, Side::Left)), 3, 0)),
         Step::Drain(100, 2),
-        Step::Counts(2, 2),
-        Step::Ready(None),
+        Step::Shows((None, 2, 2)),
         Step::Cut(1, Side::Right, Err(Refusal::OneWay)),
         Step::Cut(2, Side::Left, Ok(())),
         Step::Cut(2, Side::Left, Ok(())),
-        Step::Counts(2, 2),
+        Step::Shows((None, 2, 2)),
     ];
-    all_go(&rt, rt.alloc(), Chang, &steps);
+    all_go(&rt, rt.alloc(), &steps);
 }

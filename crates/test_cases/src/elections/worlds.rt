@@ -1,4 +1,7 @@
 //! Worlds of the test cases, and calls of them. If an allocation fails, the call is made once more.
+//!
+//! Each call of a world, and each drop, proves anew what the world's traffic has. So test cases read
+//! worlds by `seen` and drop them by `end`.
 ghost use Rattle.std.specs.Prelude.{◌<◌, length};
 
 use crate::drain;
@@ -38,9 +41,18 @@ pub fn begun<E: RingElection>(
     begun_on(rt, alloc, &charter(rt, alloc, 1, algorithm, numbers))
 }
 
-/// How many packets a world has in flight or stuck, and how many it has delivered.
-pub fn counts<E: RingElection>(world: &World<E>) -> (u128, u128) {
-    (world.pending(), world.delivered())
+/// The link of a world on which a drain would deliver next, if something is in flight. Then how many
+/// packets are in flight or stuck, and how many were delivered.
+pub type Seen = (Option<(usize, Side)>, u128, u128);
+
+/// What a world shows.
+pub fn seen<E: RingElection>(world: &World<E>) -> Seen {
+    (world.ready(), world.pending(), world.delivered())
+}
+
+/// Drops a world.
+pub fn end<E: RingElection>(world: World<E>) {
+    drop(world);
 }
 
 /// Stops the test if a world has no such position.
@@ -58,10 +70,10 @@ fn deliver_once<E: RingElection>(
     side: Side,
 ) -> Delivery<E> {
     assert_has(rt, world, position);
-    let before = counts(world);
+    let before = seen(world);
     let delivery = world.deliver(position, side);
     if matches!(delivery, Delivery::Refused(_)) {
-        equal(rt, "counts", counts(world), before);
+        equal(rt, "after a refusal", seen(world), before);
     }
     delivery
 }
