@@ -5,6 +5,7 @@ ghost use Rattle.std.specs.Prelude.{◌<◌};
 use crate::elections::workers::gates::{Answers, EndGate};
 use crate::elections::workers::items::{Ring, charter, first_packet, stores};
 use crate::memory::TWICE;
+use ring_chang::Chang;
 use ring_election::RingElection;
 use ring_inbox::{ReceiverPass, SenderPass, inbox};
 use ring_node::Node;
@@ -116,13 +117,13 @@ fn handed<E: RingElection, R: Abort + Wait + Clock + Copy>(
 }
 
 /// Why a worker ends whose inbox has no senders left. Its own pass is to another inbox.
-pub fn why_alone<E: RingElection, R: Abort + Wait + Clock>(rt: &R, alloc: Global) -> Why {
-    let Place { receiver, senders } = Place::<E>::opened(rt, alloc, 1, 1);
+pub fn why_alone<R: Abort + Wait + Clock>(rt: &R, alloc: Global) -> Why {
+    let Place { receiver, senders } = Place::<Chang>::opened(rt, alloc, 1, 1);
     drop(senders);
     let Place {
         receiver: other,
         senders,
-    } = Place::<E>::opened(rt, alloc, 1, 1);
+    } = Place::<Chang>::opened(rt, alloc, 1, 1);
     let place = Place { receiver, senders };
     let handed = worked(rt, alloc, 0, place, &OpenGate, Filed::Noted);
     let why = handed.why;

@@ -6,7 +6,6 @@ use crate::elections::workers::gates::EndGate;
 use crate::elections::workers::items::{Ring, stores};
 use crate::equal::equal;
 use ring_chang::Chang;
-use ring_election::RingElection;
 use ring_id::Refusal;
 use ring_workers::{Filed, Item, Why};
 use ring_world::Settlement;
@@ -32,14 +31,13 @@ const NEWER: Ring = (2, &[1, 2]);
 type End = (Why, Settlement, usize, u64, usize, usize);
 
 /// The end of a worker on its course. Its nodes are judged by the charter of a ring.
-fn ended<E: RingElection, R: Abort + Wait + Clock + Copy>(
+fn ended<R: Abort + Wait + Clock + Copy>(
     rt: &R,
     alloc: Global,
-    algorithm: E,
     course: &Course,
     ring: Ring,
 ) -> End {
-    let run = ran(rt, alloc, algorithm, course, ring);
+    let run = ran(rt, alloc, Chang, course, ring);
     let end = (
         run.why,
         run.settlement,
@@ -81,7 +79,7 @@ fn a_worker_settles_its_ring_and_counts_what_it_drops(rt: HostRuntime) {
             stop,
             filed: Filed::Noted,
         };
-        let end = ended(&rt, rt.alloc(), Chang, &course, ring);
+        let end = ended(&rt, rt.alloc(), &course, ring);
         let wanted = (Why::Stopped, settlement, nodes, dropped, 0, 0);
         equal(&rt, "the end", (stop, end), (stop, wanted));
     }
@@ -101,7 +99,7 @@ fn a_halted_worker_has_not_handled_all(rt: HostRuntime) {
             stop: 0,
             filed: Filed::Noted,
         };
-        let end = ended(&rt, rt.alloc(), Chang, &course, RING);
+        let end = ended(&rt, rt.alloc(), &course, RING);
         let wanted = (halt, Why::Halted, Settlement::Incomplete);
         equal(&rt, "the end at an item", (halt, end.0, end.1), wanted);
     }
@@ -123,15 +121,15 @@ fn a_refused_report_stays_with_the_worker(rt: HostRuntime) {
             stop: ITEMS,
             filed: Filed::Refused(refusal),
         };
-        let end = ended(&rt, rt.alloc(), Chang, &course, ring);
+        let end = ended(&rt, rt.alloc(), &course, ring);
         equal(&rt, "why, and reports", (end.0, end.4), (why, unfiled));
     }
 }
 
 /// Worker 1 stops at its first item. Returns how many calls of its gate had the worker's own
 /// number, and how many had another.
-fn told<E: RingElection, R: Abort + Wait + Clock + Copy>(rt: &R, alloc: Global) -> (u64, u64) {
-    let mut place = Place::<E>::opened(rt, alloc, 1, 3);
+fn told<R: Abort + Wait + Clock + Copy>(rt: &R, alloc: Global) -> (u64, u64) {
+    let mut place = Place::<Chang>::opened(rt, alloc, 1, 3);
     let mut own = place.senders.pop().expect(rt, "three passes");
     assert!(rt; stores(rt, &mut own, Item::Stop));
     let gate = EndGate::new(*rt, 1, 0, 0, own);
@@ -145,12 +143,12 @@ fn told<E: RingElection, R: Abort + Wait + Clock + Copy>(rt: &R, alloc: Global) 
 /// Each of the two calls is about the worker that took the item.
 #[test]
 fn the_gate_is_told_the_workers_own_number(rt: HostRuntime) {
-    let told = told::<Chang, HostRuntime>(&rt, rt.alloc());
+    let told = told(&rt, rt.alloc());
     equal(&rt, "what the gate was told", told, (2, 0));
 }
 
 #[test]
 fn a_worker_without_senders_ends_closed(rt: HostRuntime) {
-    let why = why_alone::<Chang, HostRuntime>(&rt, rt.alloc());
+    let why = why_alone(&rt, rt.alloc());
     equal(&rt, "why", why, Why::Closed);
 }

@@ -7,15 +7,11 @@
 use crate::elections::workers::courses::{Comes, Course, Run, ran};
 use crate::elections::workers::items::Ring;
 use crate::equal::equal;
-use ring_election::RingElection;
 use ring_lelann::LeLann;
 use ring_node::Node;
 use ring_workers::{Filed, Why};
 use ring_world::Settlement;
-use std::alloc::Global;
 use std::process::Abort;
-use std::sync::Wait;
-use std::time::Clock;
 
 /// The ring of the test case.
 const RING: Ring = (1, &[3, 1, 2]);
@@ -36,7 +32,7 @@ const COURSE: Course = Course {
 /// It has all nodes of the ring, or ran out of memory in the middle of the charter and has each
 /// node that it had seated by then. Of each such node one packet waits: a node of LeLann's sends it
 /// when it is seated.
-fn is_whole_or_starved<E: RingElection>(rt: &impl Abort, run: &Run<E>) {
+fn is_whole_or_starved(rt: &impl Abort, run: &Run<LeLann>) {
     let settlement = match run.why {
         Why::Starved => Settlement::Incomplete,
         _ => Settlement::Settled,
@@ -53,7 +49,7 @@ fn is_whole_or_starved<E: RingElection>(rt: &impl Abort, run: &Run<E>) {
 }
 
 /// Whether the receipts of this node are a prefix of those of the node at its position.
-fn begins_its_peer<E: RingElection>(node: &Node<E>, whole: &[Node<E>]) -> bool {
+fn begins_its_peer(node: &Node<LeLann>, whole: &[Node<LeLann>]) -> bool {
     for peer in whole {
         if peer.position() == node.position() {
             return peer.receipts().starts_with(node.receipts());
@@ -63,7 +59,7 @@ fn begins_its_peer<E: RingElection>(node: &Node<E>, whole: &[Node<E>]) -> bool {
 }
 
 /// The receipts of each node of one run are a prefix of those of a run without a failed allocation.
-fn is_first_part<E: RingElection>(rt: &impl Abort, part: &Run<E>, whole: &Run<E>) {
+fn is_first_part(rt: &impl Abort, part: &Run<LeLann>, whole: &Run<LeLann>) {
     equal(rt, "why the whole run ended", whole.why, Why::Stopped);
     is_whole_or_starved(rt, whole);
     is_whole_or_starved(rt, part);
@@ -74,23 +70,15 @@ fn is_first_part<E: RingElection>(rt: &impl Abort, part: &Run<E>, whole: &Run<E>
 
 /// At least one of two runs meets no failed allocation. If the other run is starved, the receipts
 /// of its nodes are prefixes of the whole receipts.
-fn handles_a_first_part<E: RingElection, R: Abort + Wait + Clock + Copy>(
-    rt: &R,
-    alloc: Global,
-    algorithm: E,
-) {
-    let first = ran(rt, alloc, algorithm, &COURSE, RING);
-    let second = ran(rt, alloc, algorithm, &COURSE, RING);
+#[test]
+fn a_starved_worker_has_handled_a_first_part(rt: HostRuntime) {
+    let first = ran(&rt, rt.alloc(), LeLann, &COURSE, RING);
+    let second = ran(&rt, rt.alloc(), LeLann, &COURSE, RING);
     if first.why == Why::Starved {
-        is_first_part(rt, &first, &second);
+        is_first_part(&rt, &first, &second);
     } else {
-        is_first_part(rt, &second, &first);
+        is_first_part(&rt, &second, &first);
     }
     drop(first);
     drop(second);
-}
-
-#[test]
-fn a_starved_worker_has_handled_a_first_part(rt: HostRuntime) {
-    handles_a_first_part(&rt, rt.alloc(), LeLann);
 }

@@ -6,7 +6,6 @@ use crate::elections::workers::courses::{Place, moved, worked};
 use crate::elections::workers::gates::{LOOKS, Meeting, wait_for_a_look};
 use crate::elections::workers::items::{charter, stores};
 use crate::equal::equal;
-use ring_election::RingElection;
 use ring_inbox::SenderPass;
 use ring_node::{Charter, Node};
 use ring_peterson::Peterson;
@@ -26,7 +25,7 @@ const WORKERS: usize = 2;
 const ITEMS: u64 = 30;
 
 /// Puts the word to stop, until it is stored.
-fn stop<E: RingElection, R: Wait + Clock>(rt: &R, to: &mut SenderPass<Item<E>>) {
+fn stop<R: Wait + Clock>(rt: &R, to: &mut SenderPass<Item<Peterson>>) {
     for _ in 0..LOOKS {
         if stores(rt, to, Item::Stop) {
             return;
@@ -36,11 +35,11 @@ fn stop<E: RingElection, R: Wait + Clock>(rt: &R, to: &mut SenderPass<Item<E>>) 
 }
 
 /// Waits until the workers have handled all items, and stops them.
-fn watch<E: RingElection, R: Abort + Wait + Clock>(
+fn watch<R: Abort + Wait + Clock>(
     rt: &R,
     gate: &Meeting<R>,
-    zero: &mut SenderPass<Item<E>>,
-    one: &mut SenderPass<Item<E>>,
+    zero: &mut SenderPass<Item<Peterson>>,
+    one: &mut SenderPass<Item<Peterson>>,
 ) {
     assert!(rt; gate.waits_for(ITEMS));
     stop(rt, zero);
@@ -49,12 +48,12 @@ fn watch<E: RingElection, R: Abort + Wait + Clock>(
 
 /// A place with two passes to its own inbox, and one more pass to that inbox. The inbox has this
 /// capacity, and holds the item by which a charter begins.
-fn begun<E: RingElection, R: Abort + Wait>(
+fn begun<R: Abort + Wait>(
     rt: &R,
     alloc: Global,
-    charter: &Arc<Charter<E>>,
+    charter: &Arc<Charter<Peterson>>,
     capacity: usize,
-) -> (Place<E>, SenderPass<Item<E>>)
+) -> (Place<Peterson>, SenderPass<Item<Peterson>>)
     requires { 0 < capacity }
 {
     let mut place = Place::opened(rt, alloc, capacity, WORKERS + 1);
