@@ -8,7 +8,7 @@ use ring_chang::{Chang, fitting, work_is_triangular};
 use ring_election::{RingElection, one_winner};
 use ring_hirschberg::{Hirschberg, messages_are_few, phases_are_few};
 use ring_id::{NodeId, Side};
-use ring_lelann::{LeLann, work_is_square};
+use ring_lelann::{LeLann, LeLannState, work_is_square};
 use ring_peterson::{Peterson, rounds_shrink};
 use std::alloc::Global;
 use std::process::Abort;
@@ -19,18 +19,12 @@ type Row<'a> = (&'a [u32], usize, usize, u32);
 
 /// The election on each ring comes to what its row says.
 fn elect<E: RingElection>(rt: &impl Abort, alloc: Global, algorithm: E, rows: &[Row]) {
-    for row in rows {
-        let mut course = Course::started(rt, alloc, algorithm, row.0);
-        let messages = course.settled(rt);
-        let decisions = course.decisions();
+    for (numbers, messages, bound, decisions) in rows {
+        let mut course = Course::started(rt, alloc, algorithm, *numbers);
+        let found = (*numbers, course.settled(rt), course.decisions());
         drop(course);
-        equal(
-            rt,
-            "an election",
-            (row.0, messages, decisions),
-            (row.0, row.1, row.3),
-        );
-        assert!(rt; messages <= row.2, "{messages} is above {}", row.2);
+        equal(rt, "an election", found, (*numbers, *messages, *decisions));
+        assert!(rt; *messages <= *bound, "the bound is below the messages");
     }
 }
 
@@ -93,16 +87,11 @@ fn the_last_position_alone_decides_by_peterson(rt: HostRuntime) {
     equal(&rt, "two ways, and the greatest", ways, (false, false));
 }
 
-/// A node receives these messages, each from its side, and has decided so after each.
-fn receives<E: RingElection>(
-    rt: &impl Abort,
-    algorithm: E,
-    state: &mut E::State,
-    messages: &[(Side, E::Msg, Option<NodeId>)],
-) {
+/// A node of LeLann receives these messages, each from its side, and has decided so after each.
+fn receives(rt: &impl Abort, state: &mut LeLannState, messages: &[(Side, NodeId, Option<NodeId>)]) {
     for (from, message, decision) in messages {
-        let received = algorithm.receive(state, *from, *message).is_ok();
-        let found = (received, algorithm.decision(state));
+        let received = LeLann.receive(state, *from, *message).is_ok();
+        let found = (received, LeLann.decision(state));
         equal(rt, "received, and decided", found, (true, *decision));
     }
 }
@@ -118,7 +107,7 @@ fn a_node_of_lelann_shows_what_it_has_seen(rt: HostRuntime) {
         (Side::Left, me, Some(me)),
     ];
     let (mut state, _) = LeLann.start(rt.alloc(), me);
-    receives(&rt, LeLann, &mut state, &messages);
+    receives(&rt, &mut state, &messages);
     equal(&rt, "seen", state.seen(), [second, third].as_slice());
     drop(state);
 }

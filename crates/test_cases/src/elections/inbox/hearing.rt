@@ -4,6 +4,7 @@ ghost use Rattle.std.specs.Prelude.{◌≡◌, ◌+◌, ◌<◌, [], ◌∷◌, 
 ghost use Rattle.ring_inbox.specs.Inbox.{items_of};
 
 use super::alone;
+use super::one_thread::tries;
 use crate::equal::equal;
 use ring_inbox::{Put, ReceiverPass, SenderPass, TryTake};
 use std::process::Abort;
@@ -20,6 +21,16 @@ fn store<R: Abort + Wait>(rt: &R, sender: &mut SenderPass<u64>, item: u64)
         Put::Full(_) => unreachable!(),
         Put::Gone(_) => panic!(rt; "the receiver is there"),
     }
+}
+
+// The item comes back, since there is no room. So it is not stored, as a later put has to know.
+fn finds_no_room<R: Abort + Wait>(rt: &R, sender: &mut SenderPass<u64>, item: u64)
+    ensures { sender.new ≡ sender.old }
+{
+    let Put::Full(back) = sender.put(rt, item) else {
+        panic!(rt; "there is room, or no receiver");
+    };
+    equal(rt, "the item", back, item);
 }
 
 // The next item, which is there, since the receiver hears a sender of which not all is taken.
@@ -46,15 +57,14 @@ fn a_pass_that_heard_another_knows_of_items_and_of_room(rt: HostRuntime) {
     let (receiver, mut sender) = alone(&rt, rt.alloc());
     store(&rt, &mut sender, 5);
     store(&rt, &mut sender, 6);
-    // the proof of the last call uses that the item is not stored
-    assert_eq!(rt; sender.put(&rt, 7), Put::Full(7));
+    finds_no_room(&rt, &mut sender, 7);
     let (receiver, item) = take_heard(&rt, receiver, &mut sender);
     equal(&rt, "the first item", item, 5);
     let mut receiver = sender.hear(receiver);
     store(&rt, &mut sender, 7);
-    for wanted in [TryTake::Taken(0, 6), TryTake::Taken(0, 7), TryTake::Empty] {
-        equal(&rt, "what is taken", receiver.try_take(&rt), wanted);
-    }
+    tries(&rt, &mut receiver, TryTake::Taken(0, 6));
+    tries(&rt, &mut receiver, TryTake::Taken(0, 7));
+    tries(&rt, &mut receiver, TryTake::Empty);
     drop(receiver);
     drop(sender);
 }

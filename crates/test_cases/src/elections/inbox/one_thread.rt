@@ -32,8 +32,8 @@ fn takes<R: Abort + Wait>(rt: &R, receiver: &mut ReceiverPass<u64>, wanted: Take
     equal(rt, "a take", receiver.take(rt), wanted);
 }
 
-// A take that does not wait comes to this.
-fn tries<R: Abort + Wait>(rt: &R, receiver: &mut ReceiverPass<u64>, wanted: TryTake<u64>) {
+/// A take that does not wait comes to this.
+pub fn tries<R: Abort + Wait>(rt: &R, receiver: &mut ReceiverPass<u64>, wanted: TryTake<u64>) {
     equal(rt, "what there is", receiver.try_take(rt), wanted);
 }
 
