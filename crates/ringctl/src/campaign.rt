@@ -8,7 +8,7 @@ ghost use Rattle.ringctl.specs.Campaigns.{IsJoined, IsOfTerm};
 use crate::client::Client;
 use crate::fault::Fault;
 use crate::reply::Reply;
-use crate::session::say;
+use crate::session::show;
 use std::alloc::Global;
 use std::io::{Read, Write};
 use std::net::TcpStream;
@@ -64,17 +64,6 @@ where
         return show(rt, reply);
     }
     Err(end_of(rt.alloc(), reply))
-}
-
-// Prints a reply as it came.
-fn show(rt: &impl Print, reply: Reply<'_>) -> Result<(), Fault> {
-    match reply {
-        Reply::Done(line) => say(rt, line),
-        Reply::Refused(word) => match println!(rt; "no {word}") {
-            Ok(()) => Ok(()),
-            Err(_) => Err(Fault::Write),
-        },
-    }
 }
 
 // Returns the fault of a reply that ends the campaign: that of a refusal, or of another service.

@@ -59,13 +59,7 @@ where
     R: Print,
     S: Read + Write + Drop,
 {
-    match client.ask("", line)? {
-        Reply::Done(reply) => say(rt, reply),
-        Reply::Refused(word) => match println!(rt; "no {word}") {
-            Ok(()) => Ok(()),
-            Err(_) => Err(Fault::Write),
-        },
-    }
+    show(rt, client.ask("", line)?)
 }
 
 fn prompt(rt: &impl Print, at_terminal: bool) -> Result<(), Fault> {
@@ -75,6 +69,17 @@ fn prompt(rt: &impl Print, at_terminal: bool) -> Result<(), Fault> {
     match print!(rt; "{PROMPT}") {
         Ok(()) => Ok(()),
         Err(_) => Err(Fault::Write),
+    }
+}
+
+/// Prints a reply as it came, without its place.
+pub fn show(rt: &impl Print, reply: Reply<'_>) -> Result<(), Fault> {
+    match reply {
+        Reply::Done(line) => say(rt, line),
+        Reply::Refused(word) => match println!(rt; "no {word}") {
+            Ok(()) => Ok(()),
+            Err(_) => Err(Fault::Write),
+        },
     }
 }
 
