@@ -75,11 +75,10 @@ impl<S: Read + Write + Drop> Client<S> {
     pub fn ask(&mut self, word: &str, others: &str) -> Result<Reply<'_>, Fault> {
         self.send(word, others)?;
         self.reply.clear();
-        let Ok(_) = read_bounded(&mut self.reader, &mut self.reply) else {
-            return Err(Fault::NoService);
-        };
-        let reply = self.reply.as_str().strip_suffix('\n').and_then(reply_in);
-        reply.ok_or(Fault::NoService)
+        match self.hear()? {
+            Some(reply) => Ok(reply),
+            None => Err(Fault::NoService),
+        }
     }
 
     /// Sends a line as `ask` does, and returns the line of the reply. A refusal is a fault.
@@ -146,7 +145,9 @@ fn connect_at<R: Net<Stream = TcpStream>>(rt: &R, address: &str) -> Option<TcpSt
 
 // Connects to the first address of `HOST:PORT` that answers.
 fn connect<R: Net<Stream = TcpStream>>(rt: &R, address: &str) -> Option<TcpStream> {
-    let addresses = address.to_socket_addrs(rt).ok()?;
+    let Ok(addresses) = address.to_socket_addrs(rt) else {
+        return None;
+    };
     for address in addresses {
         let patience = Duration::from_secs(PATIENCE);
         if let Ok(stream) = TcpStream::connect_timeout(rt, &address, patience) {
