@@ -42,8 +42,8 @@ where
 struct Watcher {
     alloc: Global,
     group: String,
-    // The group and the member that is asked, as a line names them; `None` before one is chosen.
-    member: Option<String>,
+    // The group and the member that is asked, as a line names them; empty before one is chosen.
+    member: String,
     // The number of members that were chosen so far.
     turn: usize,
     // The last reply to `who`.
@@ -57,7 +57,7 @@ impl Watcher {
         Ok(Watcher {
             alloc,
             group: String::from_str(alloc, group)?,
-            member: None,
+            member: String::new(alloc),
             turn: 0,
             seen: String::new(alloc),
             told: Told::nothing(),
@@ -85,7 +85,7 @@ impl Watcher {
         R: Print,
         S: Read + Write + Drop,
     {
-        if self.member.is_none() {
+        if self.member.is_empty() {
             self.choose(client)?;
         }
         if self.has_changed(client)? {
@@ -101,17 +101,18 @@ impl Watcher {
         if count > 0 {
             let place = (self.turn % count).saturating_add(1);
             self.turn = self.turn.wrapping_add(1);
-            self.member = match reply.split(' ').nth(place) {
-                Some(member) => Some(self.named(number_in(member))?),
-                None => None,
-            };
+            if let Some(member) = reply.split(' ').nth(place) {
+                self.name(number_in(member))?;
+            }
         }
         Ok(())
     }
 
-    // Returns the group and the number of a member, as a line names them.
-    fn named(&self, number: &str) -> Result<String, AllocError> {
-        format!(in self.alloc; "{} {number}", self.group)
+    // Keeps the group and the number of the member that is asked, as a line names them.
+    fn name(&mut self, number: &str) -> Result<(), AllocError> {
+        self.member.push_str(self.group.as_str())?;
+        self.member.push(' ')?;
+        self.member.push_str(number)
     }
 
     // Returns whether the member's reply differs from that of the last look.
@@ -119,14 +120,14 @@ impl Watcher {
         &mut self,
         client: &mut Client<S>,
     ) -> Result<bool, Fault> {
-        let Some(member) = &self.member else {
+        if self.member.is_empty() {
             return Ok(false);
-        };
-        match client.ask("who ", member.as_str())? {
+        }
+        match client.ask("who ", self.member.as_str())? {
             Reply::Done(reply) => self.see(reply),
             Reply::Refused("no-term") => Ok(false),
             Reply::Refused("not-in-term") => {
-                self.member = None;
+                self.member.clear();
                 Ok(false)
             }
             Reply::Refused(word) => Err(Fault::refused(self.alloc, word)),
