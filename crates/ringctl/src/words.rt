@@ -177,14 +177,18 @@ fn order_of(
     words: &[&str],
     seconds: Option<u32>,
 ) -> Result<Option<Order>, AllocError> {
-    match (words, seconds) {
-        ([], None) => Ok(Some(Order::Session)),
-        (["watch", group], _) => watch_order(alloc, group, seconds),
-        (["campaign", group, member], None) => {
+    if let ["watch", group] = words {
+        return watch_order(alloc, group, seconds);
+    }
+    if seconds.is_some() {
+        return Ok(None);
+    }
+    match words {
+        [] => Ok(Some(Order::Session)),
+        ["campaign", group, member] => {
             Ok(campaign_order(line_of(alloc, &["join", group, member])?))
         }
-        (_, None) => Ok(ask_order(line_of(alloc, words)?)),
-        _ => Ok(None),
+        _ => Ok(ask_order(line_of(alloc, words)?)),
     }
 }
 
