@@ -22,16 +22,12 @@ pub fn number_in(word: &str) -> &str {
 pub fn read_term(text: &str) -> Option<Term> {
     let (number, leader) = text.split_once(':')?;
     let number = number.parse().ok()?;
-    if leader == "-" {
-        return Some(Term {
-            number,
-            leader: None,
-        });
-    }
-    Some(Term {
-        number,
-        leader: Some(read_identity(leader)?),
-    })
+    let leader = if leader == "-" {
+        None
+    } else {
+        Some(read_identity(leader)?)
+    };
+    Some(Term { number, leader })
 }
 
 // Returns the member in a number, or in a number and a weight.
