@@ -10,6 +10,7 @@ there. A change without a reply is there whole, with all changes before it, or n
 
 import contextlib
 import errno
+import functools
 import itertools
 import subprocess
 import zlib
@@ -41,8 +42,8 @@ GROUP = b"group-of-16-byte"
 # calls that a rewriting makes.
 MANY, LONG = 1500, 6000
 REWRITING = ("unlink", "open", "write", "fsync", "rename")
-# How many lines are sent at once.
-AT_ONCE = 100
+# In how many parts the changes are sent, each at once.
+PARTS = 15
 CONFIG, UNREADABLE = b"ringd: config unreadable\n", b"ringd: journal unreadable\n"
 FAILED = b"ringd: journal failed\n"
 # What the program may say if such a call fails.
@@ -65,7 +66,7 @@ def text_of(changes):
     return b"".join(lines)
 
 
-def steps(many=MANY):
+def steps(many):
     """The lines that the client asks, each with its reply. The last `many` are sent some at once."""
     for line, reply in [(b"create b lelann", b"ok"), (b"join b 2", b"ok"), (b"join b 3/7", b"ok"),
                         (b"join b 3", b"no member"), (b"start b", b"term 1"), (b"leave b 2", b"ok"),
@@ -117,6 +118,22 @@ def shown_by(server):
     return shown
 
 
+@functools.cache
+def lines_of(many):
+    """The same lines, each with its reply."""
+    return tuple(steps(many))
+
+
+@functools.cache
+def states_of(many):
+    """What the groups show after each number of these lines, none included."""
+    groups, states = Groups(), []
+    for line, reply in lines_of(many):
+        states.append(groups.shown())
+        groups.after(line, reply)
+    return [*states, groups.shown()]
+
+
 def talk(server, lines, many):
     """Asks the lines, as far as the session goes, and the last `many` of them some at once. The answer is how many
     replies came, and how many lines were sent."""
@@ -127,7 +144,7 @@ def talk(server, lines, many):
             sent += 1
             expect(line, client.ask(line), reply)
         while sent < len(lines):
-            some = lines[sent:sent + AT_ONCE]
+            some = lines[sent:sent + many // PARTS]
             sent += len(some)
             client.socket.sendall(b"".join(line + b"\n" for line, _ in some))
             for line, reply in some:
@@ -143,18 +160,10 @@ def expect(line, seen, wanted):
         raise Bad(f"{line!r} is answered {seen!r}, and not {wanted!r}")
 
 
-def expect_states(shown, lines, told, sent):
+def expect_states(shown, many, told, sent):
     """Sees that the groups are as after some of the lines: at least those that were answered, and at most those that
     were sent."""
-    groups = Groups()
-    seen = []
-    for count, (line, reply) in enumerate(lines[:sent + 1]):
-        if count >= told:
-            seen.append(groups.shown())
-        groups.after(line, reply)
-    if sent == len(lines):
-        seen.append(groups.shown())
-    if shown not in seen:
+    if shown not in states_of(many)[told:sent + 1]:
         raise Bad(f"{told} lines were answered, {sent} were sent, and a restart shows {shown}")
 
 
@@ -185,7 +194,7 @@ def expect_end(server, call, how):
 def goes_wrong(library, program, call, number, how, error, many=MANY):
     """One run of `run` with a journal in which that call goes wrong, and a restart after it; whether such a call was
     made."""
-    lines = list(steps(many))
+    lines = lines_of(many)
     wrong = {call: number, "how": how, **({"error": error} if error else {})}
     name = errno.errorcode.get(error, "")
     journal = text_of(BEFORE + SPARED) + TORN + bytes(ZEROS)
@@ -197,7 +206,7 @@ def goes_wrong(library, program, call, number, how, error, many=MANY):
         if not was_made and told != len(lines):
             raise Bad(f"{told} of {len(lines)} lines were answered, and no call went wrong")
         server.start_anew()
-        expect_states(shown_by(server), lines, told, sent)
+        expect_states(shown_by(server), many, told, sent)
         return was_made
 
 
@@ -254,7 +263,7 @@ def lacks_while_serving(library, program, number, many):
     """One run of `run` in which that growth is refused while it serves many changes, and a restart after it: whether a
     growth was refused, or `None` if there was none. The program may end: if the growth is one of its last threads, before
     it answers a line, and if it is one of its journal."""
-    lines = list(steps(many))
+    lines = lines_of(many)
     with serving(library, program, ["run"], f"run, growth {number} of {many} changes", journal=text_of(BEFORE),
                  growth=number) as server:
         if not server.listens():
@@ -270,7 +279,7 @@ def lacks_while_serving(library, program, number, many):
         if not serves and not lacked:
             raise Bad(f"{told} of {len(lines)} lines were answered, and it says {error!r}")
         server.start_anew()
-        expect_states(shown_by(server), lines, told, sent)
+        expect_states(shown_by(server), many, told, sent)
         return True if was_told else None
 
 

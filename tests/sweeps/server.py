@@ -46,10 +46,10 @@ class Client:
 
     def reply(self):
         """The next reply."""
-        while b"\n" not in self.told[self.taken :]:
+        while (end := self.told.find(b"\n", self.taken)) < 0:
             if not self.more():
                 raise Lost
-        line = self.told[self.taken : self.told.index(b"\n", self.taken)]
+        line = self.told[self.taken : end]
         self.taken += len(line) + 1
         return line
 
