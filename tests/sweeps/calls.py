@@ -37,7 +37,7 @@ ASK_AGAIN = {
 # Tests that start threads, and end whichever growth is refused.
 THREADED = {
     "test_cases_tests": SHARED + STARVED,
-    "test_server_tests": ("listening::a_failed_", "running::a_run_says_", "running::a_spent_guest_"),
+    "test_server_tests": ("running::a_spent_guest_",),
 }
 # Tests in which each growth is refused, without a gap: worked cases of a mux, a node, a book, a table, a service and
 # a worker.

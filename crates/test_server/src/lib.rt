@@ -1,6 +1,6 @@
-//! Tests of the server. They show the line of each fault, the output after a failed accept or
-//! write, the numbers of sessions, and who serves them. They show the capacity of an inbox, the end
-//! of a run whose journal fails, and the counts and notes next to the table.
+//! Tests of the server. They show what no check of the built program can: the line of each fault,
+//! the numbers of sessions, who serves them, the capacity of an inbox, and which of the last answers
+//! the service remembers. Faults of sockets, files and memory are in `tests/sweeps`.
 #![tactic(auto)]
 
 #[cfg(test)]
@@ -9,8 +9,6 @@ mod equal;
 mod fault;
 #[cfg(test)]
 mod listening;
-#[cfg(test)]
-mod resuming;
 #[cfg(test)]
 mod running;
 #[cfg(test)]

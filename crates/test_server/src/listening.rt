@@ -1,6 +1,6 @@
 use crate::equal::equal;
-use crate::trial::{Idler, NoClients, client, hear_all, listener, send_numbers};
-use ring_accept::{ProgramFault, accept_all};
+use crate::trial::{Idler, client, hear_all, listener, send_numbers};
+use ring_accept::accept_all;
 use ring_config::Config;
 use ring_lines::DripOut;
 use ring_server::accept_loop;
@@ -20,54 +20,6 @@ const CONFIG: Config = Config {
 
 // The first line.
 const LINE: &str = "listening 127.0.0.1:7400\n";
-
-// The same at another port.
-const OTHER_LINE: &str = "listening 127.0.0.1:80\n";
-
-// Each run: the first line, the number of accepts, the write call that fails, the output, and the
-// fault that ends it.
-const FAILED_RUNS: [(&str, u32, u64, &[u8], ProgramFault); 5] = [
-    (
-        LINE,
-        1,
-        0,
-        b"listening 127.0.0.1:7400\n",
-        ProgramFault::Accept,
-    ),
-    (OTHER_LINE, 1, 1, b"", ProgramFault::Write),
-    (OTHER_LINE, 1, 5, b"list", ProgramFault::Write),
-    (
-        OTHER_LINE,
-        1,
-        24,
-        b"listening 127.0.0.1:80\n",
-        ProgramFault::Accept,
-    ),
-    (
-        OTHER_LINE,
-        0,
-        30,
-        b"listening 127.0.0.1:80\nclosed",
-        ProgramFault::Write,
-    ),
-];
-
-// Of `connections` accepts each fails, and so does the write call with the number `fault_at`. A run
-// that ran out of memory is repeated.
-#[test]
-fn a_failed_accept_or_write_is_told_after_the_first_line(rt: HostRuntime) {
-    for (line, connections, fault_at, told, fault) in FAILED_RUNS {
-        let mut out = DripOut::new(rt.alloc(), 64, fault_at).expect(&rt, "no writer");
-        let mut served = Err(ProgramFault::NoMemory);
-        for _ in 0..2 {
-            if served == Err(ProgramFault::NoMemory) {
-                served = accept_loop(&rt, NoClients, &CONFIG, connections, line, &mut out);
-            }
-        }
-        equal(&rt, "a run", (served, out.taken()), (Err(fault), told));
-        drop(out);
-    }
-}
 
 // Each of three clients, one after another, has its session.
 #[test]

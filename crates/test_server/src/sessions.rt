@@ -4,9 +4,7 @@ use crate::equal::equal;
 use crate::trial::{client, hear_all, listener};
 use ring_accept::ClientHandler;
 use ring_config::Config;
-use ring_server::{
-    Front, Seat, SessionHandler, Watch, close, front, open, open_gated, session_handlers,
-};
+use ring_server::{Front, Seat, SessionHandler, Watch, close, front, open_gated, session_handlers};
 use ring_table::Table;
 use ring_workers::{Gate, Pass};
 use std::net::{Net, OpenListener, Shutdown, TcpListener, TcpStream};
@@ -95,17 +93,9 @@ where
     drop(handler);
 }
 
-/// How many begins wait for the one worker when a service is closed that has served such clients.
-///
-/// If the service is gated, the worker waits at its first item until the last client has left, and
-/// ends.
-pub fn waiting_after<R>(
-    rt: &R,
-    config: &Config,
-    watch: &Arc<Watch>,
-    is_gated: bool,
-    asked: &[(&[u8], &[u8])],
-) -> usize
+// How many begins wait for the one worker when a service is closed that has served such clients. The
+// worker waits at its first item until the last client has left, and ends.
+fn waiting_after<R>(rt: &R, config: &Config, asked: &[(&[u8], &[u8])]) -> usize
 where
     R: Abort
         + Threads
@@ -120,23 +110,22 @@ where
         + Net<Stream = TcpStream, Listener = TcpListener>,
 {
     let alloc = rt.alloc();
-    let other = Arc::try_clone(watch).expect(rt, "no watch");
+    let watch = Watch::new(alloc, 1).expect(rt, "no watch");
+    let watch = Arc::new(alloc, watch).expect(rt, "no watch");
+    let other = Arc::try_clone(&watch).expect(rt, "no watch");
     let gate = LastItem {
         rt: *rt,
-        has_entered: AtomicBool::new(!is_gated),
+        has_entered: AtomicBool::new(false),
         may_end: AtomicBool::new(false),
     };
     let gate = Arc::new(alloc, gate).expect(rt, "no gate");
-    let opened = if is_gated {
-        let theirs = Arc::try_clone(&gate).expect(rt, "no gate");
-        open_gated(rt, config, 1, Table::new(alloc), other, theirs)
-    } else {
-        open(rt, config, 1, Table::new(alloc), other)
-    };
+    let theirs = Arc::try_clone(&gate).expect(rt, "no gate");
+    let opened = open_gated(rt, config, 1, Table::new(alloc), other, theirs);
     let (service, seats) = opened.expect(rt, "no service");
-    serves(rt, front(&service), watch, seats, &gate.has_entered, asked);
+    serves(rt, front(&service), &watch, seats, &gate.has_entered, asked);
     gate.may_end.store(true, Ordering::SeqCst);
     drop(gate);
+    drop(watch);
     let closing = close(rt, service);
     let waiting = closing.waiting.len();
     drop(closing);
@@ -190,10 +179,7 @@ const INBOXES: [(Config, usize); 3] = [
 fn an_inbox_holds_what_the_configuration_says(rt: HostRuntime) {
     let asked = [(ONE, ONE_TOLD), (FIVE, FIVE_TOLD)];
     for (config, left) in INBOXES {
-        let watch = Watch::new(rt.alloc(), 1).expect(&rt, "no watch");
-        let watch = Arc::new(rt.alloc(), watch).expect(&rt, "no watch");
-        let waiting = waiting_after(&rt, &config, &watch, true, &asked);
-        drop(watch);
+        let waiting = waiting_after(&rt, &config, &asked);
         let inbox = config.inbox;
         equal(
             &rt,

@@ -1,23 +1,10 @@
 //! Parts that tests of the server share: listeners, clients, and handlers that note who served.
 use ring_accept::{Acceptor, ClientHandler};
-use std::io;
 use std::io::{Read, Write};
-use std::net::{Ipv4Addr, Net, OpenListener, SocketAddr, TcpListener, TcpStream};
+use std::net::{Ipv4Addr, Net, SocketAddr, TcpListener, TcpStream};
 use std::process::Abort;
 use std::sync::{Mutex, Wait};
 use std::time::Clock;
-
-/// A listener whose accept fails.
-#[derive(Drop)]
-pub struct NoClients;
-
-impl OpenListener for NoClients {
-    type Stream = TcpStream;
-
-    fn accept(&self) -> io::Result<(TcpStream, SocketAddr)> {
-        Err(io::Error::other("no accept"))
-    }
-}
 
 /// A listener on a free port, and its address.
 pub fn listener<R>(rt: &R) -> (TcpListener, SocketAddr)
