@@ -25,7 +25,9 @@ def wrong_configurations_are_told(program):
     for text in (b"", text_of(port, workers=0), text_of(port, workers=9), text_of(port, inbox=0),
                  text_of(port, inbox=65537), text_of(0), text_of(65536), text_of(f'"{port}"'),
                  text_of(port) + b"x = 1\n", text_of(port) + b"port = 1\n", text_of(port) + b"#\xff\n",
-                 text_of(port, workers="2.0"), text_of(port, workers="true"), text_of(port, inbox=-1),
+                 text_of(port, workers="2.0"), text_of(port, workers="true"), text_of(port, inbox=-1), text_of(-port),
+                 text_of(4294974696), text_of(f"{port}.0"), text_of(port).rstrip() + b" # \xff\n",
+                 text_of(port).replace(b" =", b":"),
                  text_of(port, inbox="[1024]"), b"[ring]\n" + text_of(port), b"workers: 2\n",
                  b"inbox = 1024\nport = 7400\n", b"workers = 2\nport = 7400\n", b"workers = 2\ninbox = 1\n",
                  text_of(0) + b"#" * (65535 - len(text_of(0))) + b"\n"):

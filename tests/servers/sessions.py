@@ -102,9 +102,12 @@ def a_line_without_an_end_is_one(program):
 
 @check
 def lines_of_no_command_are_refused(program):
-    lines = b"\nhello\ndeliver a 1 left\ndrain a 1\npending a\ngroups \n" + b"x" * 200 + b"\ngroups\n"
+    lines = [b"", b"hello", b"deliver a 1 left", b"deliver a 7 left", b"cut a 4294967295 right", b"drain a 1",
+             b"drain a 1000000000", b"drain a 1000000001", b"pending a", b"groups ", b"join a 07", b"who a 1/9", b"x" * 129,
+             b"x" * 200]
     with program.serving(1) as port:
-        same("replies", Client(port).told(lines), b"no bad-line\n" * 7 + b"groups\n")
+        replies = Client(port).told(b"".join(line + b"\n" for line in [*lines, b"groups"]))
+        same("replies", replies, b"no bad-line\n" * len(lines) + b"groups\n")
 
 
 @check

@@ -1,6 +1,8 @@
-"""Checks of the command line, of standard input and of standard output."""
+"""Checks of standard input and of standard output."""
 
 import os
+import socket
+import subprocess
 
 from checking import listed
 from serving import PATIENCE, Client, Differs, ended, free_port, same, text_of
@@ -52,24 +54,32 @@ def a_standard_input_that_cannot_be_read_ends_a_replay_at_once(program):
 
 
 @check
-def refused_words_are_told_with_the_usage(program):
-    for words in ((), ("serve",), ("serve", "x"), ("serve", "--connections", "2"),
-                  ("serve", "x", "--connections", "0"), ("serve", "x", "--connections", "65"),
-                  ("serve", "x", "--connections", "x"), ("serve", "x", "y", "--connections", "2"),
-                  ("run",), ("run", "x", "--sessions", "0"), ("run", "x", "--sessions", "129"),
-                  ("run", "x", "--idle", "86401"), ("run", "x", "--connections", "2"),
-                  ("run", "x", "--journal", "etcd://x"),
-                  ("--help",), ("serve", "--help"), ("run", "--help"), ("help", "run"), ("run", b"\xff")):
-        program.fails(2, None, *words)
+def a_replay_replies_before_it_reads_on(program):
+    for pieces in ([(b"create a chang\n", b"ok\n"), (b"join a 3\n", b"ok\n"), (b"groups\n", b"groups a\n")],
+                   [(b"create a chang\njoin a 3\ngro", b"ok\nok\n"), (b"ups", b""),
+                    (b"\n\nwho", b"groups a\nno bad-line\n")]):
+        with ended(program.start("replay", stdin=subprocess.PIPE)) as run:
+            for piece, replies in pieces:
+                run.stdin.write(piece)
+                run.stdin.flush()
+                same("replies", b"".join(run.stdout.readline() for _ in range(replies.count(b"\n"))), replies)
+            out, told = run.communicate(timeout=PATIENCE)
+            rest = b"no bad-line\n" if piece.endswith(b"who") else b""
+            same("the rest, standard error and status", (out, told, run.returncode), (rest, b"", 0))
 
 
 @check
-def the_version_is_told(program):
-    for word in ("--version", "-V"):
-        with ended(program.start(word)) as run:
-            out, told = run.communicate(timeout=PATIENCE)
-            same("standard error", told, b"")
-            same("standard output", out, b"ringd 1.0.0\n")
-            same("status", run.returncode, 0)
-    with open("/dev/full", "wb") as full:
-        program.fails(1, b"ringd: write failed\n", "--version", stdout=full)
+def replies_to_one_read_may_be_longer_than_a_page(program):
+    """A page has room for 65536 bytes, and is written by one call. Such a socket shows each call."""
+    names = [b"%c%c" % (97 + number // 10, 97 + number % 10) for number in range(100)]
+    lines = b"".join(b"create %s chang\n" % name for name in names) + b"groups\n" * 400
+    ours, theirs = socket.socketpair(socket.AF_UNIX, socket.SOCK_SEQPACKET)
+    with ours, ended(program.start("replay", stdin=subprocess.PIPE, stdout=theirs)) as run:
+        theirs.close()
+        run.stdin.write(lines)
+        run.stdin.close()
+        ours.settimeout(PATIENCE)
+        written = list(iter(lambda: ours.recv(1 << 20), b""))
+    same("replies", b"".join(written), b"ok\n" * 100 + (b" ".join([b"groups", *names]) + b"\n") * 400)
+    if not 60000 < max(map(len, written)) <= 65536:
+        raise Differs(f"the longest of {len(written)} writes has {max(map(len, written))} bytes")
