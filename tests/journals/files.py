@@ -81,6 +81,18 @@ def a_term_of_a_ring_of_256_has_a_line_for_each_member(program, file):
 
 
 @check
+def the_longest_line_is_read_and_written_again(program, file):
+    name, members = b"abcdefghijklmnop", (b"4294967295/65535", b"4294967294/65535")
+    changes = [b"create %s chang" % name, *(b"join %s %s" % (name, it) for it in members), *[b"start %s" % name] * 1000,
+               *(b"know %s 1000 %s %s" % (name, it, members[0]) for it in members)]
+    file.write_bytes(text_of_changes(changes))
+    with living(program, file) as life:
+        say(life, b"who %s 4294967294\n" % name, b"leader 1000 4294967295/65535\n")
+    same("the text of the journal", whole_text(file.read_bytes()), text_of_changes(changes, 2))
+    same("the longest line", max(map(len, text_of_changes(changes).splitlines())), 70)
+
+
+@check
 def questions_and_refusals_write_nothing(program, file):
     with living(program, file) as life:
         say(life, b"create a chang\njoin a 1\nstart a\n", b"ok\nok\nterm 1\n")
@@ -109,7 +121,8 @@ def a_long_journal_grows_by_zeros(program, file):
 
 @check
 def a_journal_without_lines_begins_anew(program, file):
-    for found in (b"", bytes(70), bytes(200000), first_line(1), first_line(9) + bytes(100)):
+    for found in (b"", bytes(3), bytes(70), bytes(200000), first_line(1), first_line(9) + bytes(100),
+                  first_line(1) + b"know a 1 4 3/9 #b71d08a4", first_line(1) + b"know a 1 4 3/9\0#b71d08a4\n\0\0"):
         file.write_bytes(found)
         with living(program, file) as life:
             say(life, b"groups\ncreate a chang\n", b"groups\nok\n")
@@ -122,7 +135,8 @@ def a_torn_tail_is_dropped(program, file):
     changes = [b"create a chang", b"join a 5", b"join a 7"]
     text, next_text = text_of_changes(changes, 9), text_of_changes(changes, 10)
     for tail in (b"j", b"join a 8", b"join a 8 #12345678", b"\0" * 9 + b"join a 8 #12345678\n", b"\0\n", b"#",
-                 b"join a 8\0#00000000\n" * 3, bytes(AHEAD - 1) + b"x", b"x" * 70000, b"create b"):
+                 b"join a 8\0#00000000\n" * 3, bytes(AHEAD - 1) + b"x", b"x" * 70000, b"create b",
+                 b"know a 1 5 7 #b71d08a4", b"know a 1 5 7\0#b71d08a4\n\0\0"):
         for zeros in (0, 1, AHEAD):
             file.write_bytes(text + tail + bytes(zeros))
             with living(program, file) as life:

@@ -160,6 +160,7 @@ def can_run(program, user):
 def another_version_is_refused(program, file):
     text = text_of_changes(CHANGES)
     for found in (b"ringd journal 2 life 1\n", text.replace(b"journal 1", b"journal 2", 1), b"ringd journal 1\n",
+                  b"ringd journal 2 life 1 #ee26e62a\n", b"ringd journal 1 \n", bytes(6) + text[len(first_line(1)):],
                   b"\n" + text, b" " + text, text[1:], text[:5], text[:5] + bytes(90), text[:len(WORDS) - 1],
                   text[len(first_line(1)):]):
         file.write_bytes(found)
@@ -185,14 +186,15 @@ def a_journal_whose_first_bytes_became_zeros_is_refused(program, file):
 @check
 def a_damaged_number_of_a_life_is_found(program, file):
     rest = text_of_changes(CHANGES)[len(first_line(1)):]
-    for word in (b"", b"1", b"1 ", b"2 #00000000", b"x", b"-1", b"+1", b" 1"):
+    for word in (b"", b"1", b"1 ", b"2 #00000000", b"3 #ee26e62a", b"1 #EE26E62A", b"x", b"-1", b"+1", b" 1"):
         for end in (b"\n", b"\n" + rest, b"\r\n" + rest, b"", bytes(90)):
             file.write_bytes(WORDS + word + end)
             refused(program, file, bad_at(len(WORDS)), repr(word + end[:9]))
     for word in (b"0", b"01", b"007", b"+7", b"%d" % (MOST_LIVES + 1), b"4294967297", b"9" * 40, b"1 1"):
         file.write_bytes(marked(WORDS + word, 0)[0] + rest)
         refused(program, file, bad_at(len(WORDS)), repr(word))
-    for first in (first_line(7)[:-1], first_line(7)[:-2] + b"\n", first_line(7)[:-1] + b" \n", first_line(7)[:-1] + b"\0\n"):
+    for first in (first_line(7)[:-1], first_line(7)[:-2] + b"\n", first_line(7)[:-1] + b" \n", first_line(7)[:-1] + b"\0\n",
+                  first_line(1)[:-5] + bytes(3)):
         file.write_bytes(first + rest * (first[-1] == 10 and b"\0" not in first))
         refused(program, file, bad_at(len(WORDS)), repr(first))
 
@@ -251,9 +253,11 @@ def lines_that_are_moved_are_found(program, file):
 def changes_that_can_not_come_there_are_found(program, file):
     before = text_of_changes(CHANGES)
     for change in (b"create a chang", b"create c bully", b"create c", b"join a 8", b"join a 8/1", b"join c 1",
-                   b"join a 07", b"join a 1/0", b"join a 0", b"leave a 5", b"leave a 8/0", b"leave a 4294967296",
+                   b"join a 07", b"join a 1/0", b"join a 0", b"leave a 5", b"leave a 8/0", b"leave a 4294967296", b"leave c 1",
                    b"start b ", b"start c", b"know a 1 8 5/9", b"know a 2 8 8", b"know a 2 9 5/9", b"know a 2 8 5",
                    b"know a 3 8 5/9", b"know a 2 5 5/9", b"know b 1 1 1", b"know a 2 8", b"know a 2 8 5/9 5/9", b"",
+                   b"know", b"know a 0 8 5/9", b"know a 1001 8 5/9", b"know a 65538 8 5/9", b"know A 2 8 5/9",
+                   b"know a 2 8/0 5/9", b"know c 1 8 5/9",
                    b"who a 8", b"members a", b"groups", b"drain a 1", b"know a 02 8 5/9", b"JOIN a 3", b"x" * 200,
                    b"create " + b"x" * 17 + b" chang"):
         file.write_bytes(text_of_changes([*CHANGES, change, b"create z chang"]))
@@ -262,6 +266,10 @@ def changes_that_can_not_come_there_are_found(program, file):
         file.write_bytes(text_of_changes([*CHANGES, change]))
         with living(program, file):
             pass
+    for before, change in (([], b"join a 1"), ([], b"leave a 1"), ([], b"start a"), ([b"create a chang"], b"start a"),
+                           ([*CHANGES, b"know a 2 8 5/9"], b"know a 2 8 5/9")):
+        file.write_bytes(text_of_changes([*before, change]))
+        refused(program, file, bad_at(len(text_of_changes(before))), repr(change))
 
 
 @check
@@ -269,7 +277,8 @@ def marks_have_one_spelling(program, file):
     before = text_of_changes(CHANGES)
     line, _ = marked(b"join b 12", 0)
     right = text_of_changes([*CHANGES, b"join b 12"])[len(before):]
-    for wrong in (line, right.upper(), right.replace(b" #", b"#"), right.replace(b" #", b"  #"), right[:-2] + b"\n",
+    for wrong in (line, b"join b 12\n", right[len(b"join b 12"):], right.replace(b"join b", b"join a"),
+                  right.upper(), right.replace(b" #", b"#"), right.replace(b" #", b"  #"), right[:-2] + b"\n",
                   right.replace(b" #", b" "), right.replace(b" #", b" ##"), b" " + right, right[:-1] + b" \n"):
         if wrong != right:
             file.write_bytes(before + wrong)

@@ -4,7 +4,7 @@ import signal
 import time
 
 from checking import listed
-from journals.changes import text_of_changes
+from journals.changes import text_of_changes, whole_text
 from journals.lives import LONG, PAUSE, asked, client_of, living, say, until
 from processes import resident
 from serving import PATIENCE, Differs, same
@@ -30,6 +30,20 @@ def a_restart_finds_groups_members_and_leaders(program, file):
             b"groups a b\nmembers 1/9 2 5\nmembers 4 1 3 2/7\nterms 1:1/9\nterms 1:4\n")
         say(life, b"who a 5\ncreate a chang\njoin a 1\nleave a 4\n",
             b"no not-in-term\nno exists\nno member\nno not-member\n")
+
+
+@check
+def a_journal_with_each_kind_of_change_goes_on(program, file):
+    changes = [b"create a chang", b"join a 3/9", b"join a 4", b"start a", b"know a 1 4 3/9", b"leave a 3",
+               b"create b peterson", b"join b 1", b"start b", b"know b 1 1 1"]
+    file.write_bytes(text_of_changes(changes))
+    with living(program, file) as life:
+        say(life, b"who a 4\nmembers a\nterms b\n", b"leader 1 3/9\nmembers 4\nterms 1:1\n")
+        until(life, b"who a 3\n", b"leader 1 3/9\n", b"undecided 1\n")
+        say(life, b"join a 5\njoin a 5\nstart a\n", b"ok\nno member\nterm 2\n")
+    text = whole_text(file.read_bytes())
+    wanted = text_of_changes([*changes, b"know a 1 3/9 3/9", b"join a 5", b"start a"], 2)
+    same("the text of the journal", text[:len(wanted)], wanted)
 
 
 @check

@@ -2,13 +2,40 @@
 
 from checking import listed
 from journals.changes import text_of_changes, whole_text
-from journals.lives import asked, client_of, living, say, until
+from journals.lives import AHEAD, asked, client_of, living, say, until
 from journals.shortening import LEAST
 from serving import Differs, same
 
 CHECKS, check = listed()
 # How often members come and go.
 OFTEN = 2000
+# Changes, and the fewer ones that lead to the same groups. Changes that were undone before a start are left out.
+SHORT = [
+    # members that joined and left
+    ("create a chang,join a 1,leave a 1,join a 1/7,join a 2,leave a 1", "create a chang,join a 2"),
+    # groups without members
+    ("create b peterson,join b 1,leave b 1,create a lelann,join a 1,leave a 1", "create b peterson,create a lelann"),
+    # members who moved to the end
+    ("create a chang,join a 1,join a 2,join a 3,leave a 2,join a 2/9,leave a 1,join a 1",
+     "create a chang,join a 3,join a 2/9,join a 1"),
+    # a term, after which everybody leaves and comes back in another order
+    ("create a hirschberg,join a 1,join a 2,start a,know a 1 2 2,leave a 1,join a 1,leave a 2,join a 2,leave a 1,join a 1"
+     + ",join a 3,leave a 3" * 3,
+     "create a hirschberg,join a 1,join a 2,start a,know a 1 2 2,leave a 1,join a 1"),
+    # two terms, of which the second has a smaller ring
+    ("create a chang,join a 1,join a 2,join a 3,start a,know a 1 3 3,know a 1 1 3,leave a 2,join a 2,leave a 2,join a 5,"
+     "leave a 5,join a 6,leave a 6,leave a 3,start a,know a 2 1 1" + ",join a 7,leave a 7" * 5,
+     "create a chang,join a 1,join a 2,join a 3,start a,know a 1 1 3,know a 1 3 3,leave a 2,leave a 3,start a,know a 2 1 1"),
+    # two groups in turn
+    ("create a chang,create b peterson,join b 4,join a 4,start b,leave b 4,join b 4,leave b 4,join b 5,leave a 4,join a 4,"
+     "leave a 4,join a 4,leave a 4,know b 1 4 4" + ",join a 4,leave a 4" * 2,
+     "create a chang,create b peterson,join b 4,start b,know b 1 4 4,leave b 4,join b 5"),
+]
+# Changes that are left as they are: fewer lead to the same groups, but more than half as many.
+KEPT = [
+    "create a chang,join a 1,join a 2,join a 3,leave a 3",
+    "create a chang,join a 1,join a 2,start a,know a 1 2 2,know a 1 1 2,join a 3,leave a 3",
+]
 
 
 def see_text(file, text):
@@ -16,6 +43,24 @@ def see_text(file, text):
     found = file.read_bytes()
     same("the text of the journal", whole_text(found), text)
     same("bytes after the text that are no zeros", found[len(text):].strip(b"\0"), b"")
+
+
+def see_begun(program, file, found, left):
+    """Sees that a start which finds some changes begins the journal with those that are left. The members of a term may
+    come to know its leader after that."""
+    file.write_bytes(text_of_changes(found))
+    with living(program, file):
+        text = whole_text(file.read_bytes())
+    begun = text_of_changes(left, 2)
+    same("the text that a start begins with", text[:len(begun)], begun)
+    same("other changes after it", [line for line in text[len(begun):].splitlines() if not line.startswith(b"know ")], [])
+
+
+@check
+def a_start_leaves_out_what_was_undone(program, file):
+    for found, left in [*SHORT, *((left, left) for _, left in SHORT), *((kept, kept) for kept in KEPT)]:
+        see_begun(program, file, found.encode().split(b","), left.encode().split(b","))
+    see_begun(program, file, [], [])
 
 
 def see_starts(program, file, changes, questions, replies):
@@ -89,3 +134,25 @@ def a_running_service_keeps_its_journal_short(program, file):
         raise Differs("a running service left other changes in its journal than it has to")
     with living(program, file) as life, client_of(life) as client:
         same("members", asked(client, [("a", ("members",))]), ["members 4 1/9"])
+
+
+@check
+def a_running_service_writes_a_long_text_anew(program, file):
+    """The shorter text has more bytes than are ever written between two syncs."""
+    names = [b"group-of-%d-byte" % number for number in range(10, 18)]
+    few = [[b"create %s chang" % name, *(b"join %s %d/65535" % (name, 4294967040 + it) for it in range(256))] for name in names]
+    with living(program, file) as life:
+        for changes in few:
+            say(life, b"".join(change + b"\n" for change in changes), b"ok\n" * len(changes))
+        say(life, b"create a chang\n", b"ok\n")
+        for _ in range(2):
+            say(life, b"join a 4294967295/65535\nleave a 4294967295\n" * OFTEN, b"ok\n" * (2 * OFTEN))
+    begun = text_of_changes([*sum(few, []), b"create a chang"])
+    text = whole_text(file.read_bytes())
+    same("the text begins with the groups", text[:len(begun)], begun)
+    if not AHEAD < len(begun) < len(text) < LEAST + AHEAD:
+        raise Differs(f"the text has {len(text)} bytes, of which {len(begun)} are needed")
+    with living(program, file) as life:
+        wanted = b" ".join([b"members", *(b"%d/65535" % (4294967040 + it) for it in range(256))])
+        for name in names:
+            say(life, b"members %s\n" % name, wanted + b"\n")
