@@ -1,9 +1,9 @@
 use crate::equal::equal;
-use crate::lines::printing::lines_of;
 use crate::lines::texts::Text;
 use crate::memory::{TWICE, tells_of_memory, with_room};
 use ring_any::Any;
-use ring_grammar::parse_event;
+use ring_events::Reply;
+use ring_grammar::{parse_event, print_reply};
 use ring_mux::{Event, Mux};
 use ring_schedule::AnyTraffic;
 use std::alloc::Global;
@@ -43,6 +43,17 @@ fn events(rt: &impl Abort, alloc: Global) -> Vec<Event<Any>> {
         assert!(rt; events.push(event).is_ok());
     }
     events
+}
+
+// The lines of these replies.
+fn lines_of(rt: &impl Abort, alloc: Global, replies: &[Reply]) -> Text {
+    let mut lines = with_room(rt, alloc, 300);
+    for reply in replies {
+        equal(rt, "a reply", print_reply(reply, &mut lines), Ok(()));
+    }
+    let text = Text::of(&lines);
+    drop(lines);
+    text
 }
 
 // The lines by which a mux answers these events in one list. `None` if it ran out of memory.

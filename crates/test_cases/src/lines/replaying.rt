@@ -24,13 +24,14 @@ const ENDS: [(usize, usize); 8] = [
     (80, 57),
 ];
 
-// The input of a replay, the calls at which its ends fail, the number of read calls, its result and
-// the bytes that it writes. Its ends pass one byte a call.
+// The input of a replay, the calls at which its ends fail, the number of read calls, the bytes that
+// its writer has room for, its result and the bytes that it writes. Its ends pass one byte a call.
 #[derive(Clone, Copy)]
 struct Case<'a> {
     input: &'a [u8],
     read_fault: u64,
     reads: u32,
+    room: usize,
     write_fault: u64,
     answer: Result<u64, LineFault>,
     written: &'a [u8],
@@ -40,6 +41,7 @@ const WHOLE: Case<'static> = Case {
     input: LINES,
     read_fault: 0,
     reads: 1000,
+    room: 100,
     write_fault: 0,
     answer: Ok(8),
     written: REPLIES,
@@ -51,7 +53,7 @@ type Came = (Result<u64, LineFault>, Text);
 // A replay by these ends, or by a reader and a writer of std over them.
 fn replayed(rt: &impl Abort, alloc: Global, case: &Case, is_by_std: bool) -> Came {
     let mut reader = DripIn::new(case.input, case.read_fault);
-    let mut writer = drip_out(rt, alloc, 100, case.write_fault);
+    let mut writer = drip_out(rt, alloc, case.room, case.write_fault);
     let answer = if is_by_std {
         let writer = &mut ToWrite(&mut writer);
         replay(alloc, &mut FromRead(reader), writer, case.reads)
@@ -133,19 +135,27 @@ fn endless_input_is_answered_as_far_as_it_was_read(rt: HostRuntime) {
     }
 }
 
+// A writer that is full takes no byte, which is a failed write too.
 #[test]
 fn a_failed_write_leaves_a_front_of_the_replies(rt: HostRuntime) {
     for call in 1..=58u64 {
-        let case = Case {
+        let written = call as usize - 1;
+        let failing = Case {
             write_fault: call,
             answer: if call < 58 {
                 Err(LineFault::Write)
             } else {
                 Ok(8)
             },
-            written: front(call as usize - 1),
+            written: front(written),
             ..WHOLE
         };
-        comes(&rt, rt.alloc(), &case);
+        let full = Case {
+            write_fault: 0,
+            room: written,
+            ..failing
+        };
+        comes(&rt, rt.alloc(), &failing);
+        comes(&rt, rt.alloc(), &full);
     }
 }
