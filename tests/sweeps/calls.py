@@ -30,8 +30,7 @@ WORKED = (
 ASK_AGAIN = {
     "test_cases_tests": (
         "elections::pictures::", "elections::scan_rows::", "elections::settle_rows::", "elections::winners::",
-        "elections::work_rows::", "elections::world_rows::", "journal::faults::", "journal::lives::a_full_",
-        "journal::lives::a_table_", "journal::lives::the_", "lines::", *WORKED, *SHARED,
+        "elections::work_rows::", "elections::world_rows::", "journal::", "lines::", *WORKED, *SHARED,
     ),
 }
 # Tests that start threads, and end whichever growth is refused.

@@ -1,23 +1,46 @@
-//! Tests of the journal, by what they work on:
-//!
-//! - `journals`: media that fail
-//! - `shadows`: each file that a crash may leave of a small text
-//! - `file`: a real file
-//! - `changes` and `lines`: worked lines of changes
-//! - `faults`: worked journals that are refused, and those that a crash leaves
-//! - `compacting`: worked journals that are compacted at a start
-//! - `lives` and `rewriting`: worked journals that are carried on, fail, or are rewritten
-//!
-//! Another program computed the checks at the ends of lines.
+//! Tests of calls of the journal that no program makes, and of what no program shows.
+//! `tests/check-journal` has all other cases.
 
-mod changes;
-mod compacting;
-mod failing;
-mod faults;
-mod file;
-mod files;
-mod journals;
-mod lines;
-mod lives;
-mod rewriting;
-mod shadows;
+use crate::equal::equal;
+use crate::memory::with_room;
+use ring_change::{Check, Line, parse_change, print_line};
+use ring_journal::{Journal, MemoryMedium, RoomFault, is_line};
+use ring_recovery::{Alarm, Ending};
+
+#[test]
+fn a_line_is_put_into_a_list(rt: HostRuntime) {
+    let mut out = with_room(&rt, rt.alloc(), Line::LONGEST);
+    let change = parse_change(b"create a chang").expect(&rt, "no change");
+    let printed = print_line(&change, &mut Check::new(), &mut out);
+    equal(
+        &rt,
+        "printed, and the line",
+        (printed, out.as_slice()),
+        (Ok(()), b"create a chang #a1f44896"),
+    );
+}
+
+#[test]
+fn a_line_is_added_and_settled(rt: HostRuntime) {
+    let medium = MemoryMedium::new(with_room(&rt, rt.alloc(), 2));
+    let mut journal = Journal::new(rt.alloc(), medium);
+    assert!(rt; is_line(b"a"));
+    let added = match journal.add(b"a") {
+        Err(RoomFault::NoMemory) => journal.add(b"a"),
+        answer => answer,
+    };
+    let done = (added, journal.settle());
+    equal(&rt, "added, and settled", done, (Ok(()), Ok(())));
+    let memory = journal.medium();
+    let found = (memory.text(), memory.kept());
+    equal(&rt, "the text, and kept", found, (b"a\n", 2));
+    drop(journal);
+}
+
+#[test]
+fn the_first_ring_of_an_alarm_counts(rt: HostRuntime) {
+    let alarm = Alarm::new();
+    alarm.ring(&rt, Ending::Stopped);
+    alarm.ring(&rt, Ending::Failed);
+    equal(&rt, "the ending", alarm.wait(&rt), Ending::Stopped);
+}
