@@ -29,8 +29,8 @@ WORKED = (
 # Tests that ask once more, by crate and by the beginnings of their names: for each growth they have to pass.
 ASK_AGAIN = {
     "test_cases_tests": (
-        "elections::pictures::", "elections::scan_rows::", "elections::settle_rows::", "elections::winners::",
-        "elections::work_rows::", "elections::world_rows::", "journal::", "lines::", *WORKED, *SHARED,
+        "elections::pictures::", "elections::settle_rows::", "elections::winners::", "elections::world_rows::", "journal::",
+        "lines::", *WORKED, *SHARED,
     ),
 }
 # Tests that start threads, and end whichever growth is refused.

@@ -1,7 +1,7 @@
 //! Worked test cases of elections, each with the values that it must come to. A module has one
 //! subject: identities, rings, elections, Peterson's rounds, winners, pictures of elections, the
-//! words of the algorithms, a node, a world, its scans, its worked schedules, the settlement of
-//! nodes, reports, the work that rings take, inboxes, and workers. An election without nodes runs on
+//! words of the algorithms, a node, a world, its worked schedules, the settlement of nodes, reports,
+//! inboxes, and workers. An election without nodes runs on
 //! a `Course`, whose messages are taken one by one, whatever the algorithm.
 
 mod course;
@@ -16,11 +16,9 @@ mod reading_rows;
 mod rings;
 mod roster_rows;
 mod round_rows;
-mod scan_rows;
 mod schedules;
 mod settle_rows;
 mod winners;
-mod work_rows;
 mod workers;
 mod world_rows;
 mod worlds;

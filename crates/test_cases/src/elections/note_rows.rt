@@ -1,5 +1,5 @@
 //! What a book makes of a report: it is news once, known after that, and stale when its term is
-//! over. News by the group's place are judged alike.
+//! over.
 
 use crate::elections::rings::{identity, name};
 use crate::elections::worlds::{begun_on, delivery, end, seen};
@@ -105,30 +105,6 @@ fn notes(
 ) {
     equal(rt, "a report", book.note(report), noting);
     leaders_are(rt, alloc, book, leaders);
-}
-
-/// A book makes this of the news of a report by the place of its group, whose term is the report's.
-fn informs(rt: &impl Abort, book: &mut Book<Chang>, report: &Report<Chang>, noting: Noting) {
-    let charter = report.charter();
-    let group = charter.group();
-    let place = book.place(group).expect(rt, "no such group");
-    let running = book.running(group).expect(rt, "no term runs");
-    assert!(rt; running.same(charter));
-    let informed = book.inform(place, charter, report.position(), report.leader());
-    equal(rt, "news", informed, noting);
-}
-
-#[test]
-fn news_by_the_place_of_its_group_is_news_once(rt: HostRuntime) {
-    let (group, alloc) = (name(&rt), rt.alloc());
-    let mut book = book(&rt, alloc, group);
-    let report = first_term(&rt, alloc, &mut book, group);
-    informs(&rt, &mut book, &report, Noting::Noted);
-    informs(&rt, &mut book, &report, Noting::Known);
-    let leaders = [NodeId::new(3)];
-    notes(&rt, alloc, &mut book, &report, Noting::Known, &leaders);
-    drop(report);
-    drop(book);
 }
 
 /// The report comes twice in its term, and once in the next.

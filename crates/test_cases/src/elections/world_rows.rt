@@ -1,12 +1,11 @@
 //! A world of the election of Chang and Roberts on 3, 1, 2 by its calls alone, and a link that is
 //! cut. More deliveries and cuts are in `tests/rows`.
 
-use crate::elections::rings::identity;
-use crate::elections::worlds::{Seen, begun, cut, deliver, drained, end, pass, passages, seen};
+use crate::elections::worlds::{Seen, begun, cut, deliver, drained, end, seen};
 use crate::equal::equal;
 use ring_chang::Chang;
-use ring_id::{NodeId, Refusal, Side};
-use ring_world::{Passage, PassagesEnd, World};
+use ring_id::{Refusal, Side};
+use ring_world::{Passage, World};
 use std::alloc::Global;
 use std::process::Abort;
 
@@ -15,10 +14,6 @@ use std::process::Abort;
 enum Step {
     /// A delivery on the link into this position from a side.
     Deliver(usize, Side, Passage),
-    /// A passage there.
-    Pass(usize, Side, Passage),
-    /// At most this number of passages on the ready links: this many are made, and end so.
-    Passages(u32, u32, PassagesEnd),
     /// A cut of the link into this position from a side, which is cut then if the answer is `Ok`.
     Cut(usize, Side, Result<(), Refusal>),
     /// A drain of at most this number of deliveries makes this many.
@@ -33,12 +28,6 @@ fn goes(rt: &impl Abort, world: &mut World<Chang>, step: &Step) {
         Step::Deliver(position, side, wanted) => {
             let done = deliver(rt, world, *position, *side);
             equal(rt, "a delivery", done, *wanted);
-        }
-        Step::Pass(position, side, wanted) => {
-            equal(rt, "a passage", pass(rt, world, *position, *side), *wanted);
-        }
-        Step::Passages(most, made, end) => {
-            equal(rt, "passages", passages(world, *most), (*made, *end));
         }
         Step::Cut(position, side, answer) => {
             let done = cut(rt, world, *position, *side);
@@ -69,36 +58,6 @@ fn a_link_gives_one_packet_and_is_idle_then(rt: HostRuntime) {
         Step::Drain(6, 6),
         Step::Shows((Some((0, Side::Left)), 1, 7)),
         Step::Drain(100, 1),
-        Step::Shows((None, 0, 8)),
-    ];
-    all_go(&rt, rt.alloc(), &steps);
-}
-
-#[test]
-fn a_passage_tells_the_leader_alone(rt: HostRuntime) {
-    let steps = [
-        Step::Pass(0, Side::Left, Passage::Moved(None)),
-        Step::Pass(0, Side::Left, Passage::Idle),
-        Step::Pass(2, Side::Right, Passage::Refused(Refusal::OneWay)),
-        Step::Pass(1, Side::Left, Passage::Moved(None)),
-        Step::Pass(2, Side::Left, Passage::Moved(None)),
-        Step::Pass(2, Side::Left, Passage::Moved(None)),
-        Step::Pass(0, Side::Left, Passage::Moved(NodeId::new(3))),
-        Step::Pass(1, Side::Left, Passage::Moved(NodeId::new(3))),
-        Step::Shows((Some((2, Side::Left)), 1, 6)),
-    ];
-    all_go(&rt, rt.alloc(), &steps);
-}
-
-#[test]
-fn passages_end_where_a_leader_is_told(rt: HostRuntime) {
-    let leader = identity(&rt, 3);
-    let steps = [
-        Step::Passages(4, 4, PassagesEnd::Made),
-        Step::Passages(100, 1, PassagesEnd::Told(0, leader)),
-        Step::Passages(100, 1, PassagesEnd::Told(1, leader)),
-        Step::Passages(100, 1, PassagesEnd::Told(2, leader)),
-        Step::Passages(100, 1, PassagesEnd::Quiet),
         Step::Shows((None, 0, 8)),
     ];
     all_go(&rt, rt.alloc(), &steps);

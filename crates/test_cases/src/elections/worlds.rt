@@ -11,7 +11,7 @@ use crate::memory::TWICE;
 use ring_election::RingElection;
 use ring_id::{NoMemory, Refusal, Side};
 use ring_node::Charter;
-use ring_world::{Delivery, Passage, PassagesEnd, World};
+use ring_world::{Delivery, Passage, World};
 use std::alloc::Global;
 use std::process::Abort;
 use std::sync::Arc;
@@ -103,35 +103,6 @@ pub fn deliver<E: RingElection>(
         Delivery::Moved(Some(report)) => Passage::Moved(Some(report.leader())),
         Delivery::Idle => Passage::Idle,
         Delivery::Refused(refusal) => Passage::Refused(refusal),
-    }
-}
-
-/// Passes on the link into this position from a side.
-pub fn pass<E: RingElection>(
-    rt: &impl Abort,
-    world: &mut World<E>,
-    position: usize,
-    side: Side,
-) -> Passage {
-    assert_has(rt, world, position);
-    match world.pass(position, side) {
-        Passage::Refused(Refusal::NoMemory) => {
-            assert_has(rt, world, position);
-            world.pass(position, side)
-        }
-        passage => passage,
-    }
-}
-
-/// Passes on ready links, at most `most` times. Returns how many passages were made, and their end.
-pub fn passages<E: RingElection>(world: &mut World<E>, most: u32) -> (u32, PassagesEnd) {
-    let first = world.pass_ready(most);
-    match first.end {
-        PassagesEnd::Starved => {
-            let rest = world.pass_ready(most.saturating_sub(first.done));
-            (first.done.saturating_add(rest.done), rest.end)
-        }
-        end => (first.done, end),
     }
 }
 
