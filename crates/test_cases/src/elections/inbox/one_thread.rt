@@ -1,5 +1,3 @@
-ghost use Rattle.std.specs.Prelude.{◌<◌};
-
 use crate::elections::inbox::alone;
 use crate::equal::equal;
 use ring_inbox::{Put, ReceiverPass, SenderPass, Take, TryTake, inbox};
@@ -7,15 +5,9 @@ use std::alloc::Global;
 use std::process::Abort;
 use std::sync::{Arc, Wait};
 
-// The receiver and the two senders of an inbox of this capacity.
-fn opened(
-    rt: &impl Abort,
-    alloc: Global,
-    capacity: usize,
-) -> (ReceiverPass<u64>, SenderPass<u64>, SenderPass<u64>)
-    requires { 0 < capacity }
-{
-    let (receiver, mut senders) = inbox::<u64>(alloc, capacity, 2).expect(rt, "no memory");
+// The receiver and the two senders of an inbox of one item.
+fn opened(rt: &impl Abort, alloc: Global) -> (ReceiverPass<u64>, SenderPass<u64>, SenderPass<u64>) {
+    let (receiver, mut senders) = inbox::<u64>(alloc, 1, 2).expect(rt, "no memory");
     let second = senders.pop().expect(rt, "an inbox of two senders");
     let first = senders.pop().expect(rt, "an inbox of two senders");
     drop(senders);
@@ -38,24 +30,8 @@ pub fn tries<R: Abort + Wait>(rt: &R, receiver: &mut ReceiverPass<u64>, wanted: 
 }
 
 #[test]
-fn a_full_inbox_gives_back_and_an_empty_one_has_nothing(rt: HostRuntime) {
-    let (mut receiver, mut first, mut second) = opened(&rt, rt.alloc(), 2);
-    for item in 0..5 {
-        tries(&rt, &mut receiver, TryTake::Empty);
-        puts(&rt, &mut first, item, Put::Stored);
-        puts(&rt, &mut second, 10, Put::Stored);
-        puts(&rt, &mut first, 11, Put::Full(11));
-        tries(&rt, &mut receiver, TryTake::Taken(0, item));
-        takes(&rt, &mut receiver, Take::Taken(1, 10));
-    }
-    drop(receiver);
-    drop(first);
-    drop(second);
-}
-
-#[test]
 fn an_inbox_of_one_item_is_full_for_each_sender(rt: HostRuntime) {
-    let (mut receiver, mut first, mut second) = opened(&rt, rt.alloc(), 1);
+    let (mut receiver, mut first, mut second) = opened(&rt, rt.alloc());
     tries(&rt, &mut receiver, TryTake::Empty);
     puts(&rt, &mut first, 7, Put::Stored);
     puts(&rt, &mut second, 8, Put::Full(8));
@@ -69,14 +45,14 @@ fn an_inbox_of_one_item_is_full_for_each_sender(rt: HostRuntime) {
 
 #[test]
 fn a_call_says_that_the_other_end_is_gone(rt: HostRuntime) {
-    let (mut receiver, mut sender) = alone::<u64>(&rt, rt.alloc());
+    let (mut receiver, mut sender) = alone(&rt, rt.alloc());
     puts(&rt, &mut sender, 5, Put::Stored);
     drop(sender);
     takes(&rt, &mut receiver, Take::Taken(0, 5));
     takes(&rt, &mut receiver, Take::Closed);
     tries(&rt, &mut receiver, TryTake::Empty);
     drop(receiver);
-    let (receiver, mut sender) = alone::<u64>(&rt, rt.alloc());
+    let (receiver, mut sender) = alone(&rt, rt.alloc());
     drop(receiver);
     puts(&rt, &mut sender, 6, Put::Gone(6));
     drop(sender);
