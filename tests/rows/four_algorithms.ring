@@ -105,3 +105,27 @@ terms hirschberg => terms 1:3
 terms peterson => terms 1:1
 terms phases => terms 1:2
 groups => groups lelann chang falling hirschberg rising two peterson phases pair
+
+# LeLann on a ring of two, and on one of four: each identity passes every link.
+create many lelann => ok
+join many 5 => ok
+join many 9 => ok
+start many => term 1
+drain many 100 => drained 6 left 0
+who many 5 => leader 1 9
+create most lelann => ok
+join most 4 => ok
+join most 1 => ok
+join most 3 => ok
+join most 2 => ok
+start most => term 1
+drain most 100 => drained 20 left 0
+who most 2 => leader 1 4
+
+# Chang-Roberts on a rising ring of two: three messages and two announcements.
+create few chang => ok
+join few 1 => ok
+join few 2 => ok
+start few => term 1
+drain few 100 => drained 5 left 0
+who few 1 => leader 1 2

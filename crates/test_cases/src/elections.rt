@@ -1,10 +1,7 @@
 //! Worked test cases of elections, each with the values that it must come to. A module has one
-//! subject: identities, rings, elections, Peterson's rounds, winners, pictures of elections, the
-//! words of the algorithms, a node, a world, its worked schedules, the settlement of nodes, reports,
-//! inboxes, and workers. An election without nodes runs on
-//! a `Course`, whose messages are taken one by one, whatever the algorithm.
+//! subject: identities, rings, algorithms, Peterson's rounds, winners, pictures of elections, a
+//! node, a world, its worked schedules, the settlement of nodes, reports, inboxes, and workers.
 
-mod course;
 mod election_rows;
 mod identity_rows;
 mod inbox;
@@ -12,7 +9,6 @@ mod node_rows;
 mod nodes;
 mod note_rows;
 mod pictures;
-mod reading_rows;
 mod rings;
 mod roster_rows;
 mod round_rows;

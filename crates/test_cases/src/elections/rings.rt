@@ -16,11 +16,6 @@ pub fn identity(rt: &impl Abort, number: u32) -> NodeId {
     NodeId::new(number).expect(rt, "no identity is 0")
 }
 
-/// The identity with this number and this weight.
-pub fn weighted(rt: &impl Abort, number: u32, weight: u16) -> NodeId {
-    NodeId::weighted(number, weight).expect(rt, "no identity is 0")
-}
-
 /// The identities with these numbers.
 pub fn identities(rt: &impl Abort, alloc: Global, numbers: &[u32]) -> Vec<NodeId> {
     let mut members = Vec::new(alloc);

@@ -1,6 +1,7 @@
-//! Two worked schedules on 3, 1, 2: what is in flight after each delivery.
+//! Two worked schedules on 3, 1, 2: what is in flight after each delivery. What each node sends on
+//! the worked rings of Peterson's election.
 
-use crate::elections::worlds::{begun, deliver, end, seen};
+use crate::elections::worlds::{begun, deliver, drained, end, seen};
 use crate::equal::equal;
 use ring_any::{Any, AnyMsg};
 use ring_election::RingElection;
@@ -12,7 +13,7 @@ use std::process::Abort;
 
 /// An election whose messages have digits.
 trait Digits: RingElection {
-    /// The digit of a message that goes one way, and 9 for another message or identity.
+    /// The digit of a message that goes one way, and 0 for another message or identity.
     fn digit(message: Self::Msg) -> u32;
 }
 
@@ -20,23 +21,23 @@ impl Digits for Any {
     fn digit(message: AnyMsg) -> u32 {
         match message {
             AnyMsg::LeLann(id) | AnyMsg::Chang(id) | AnyMsg::Peterson(id) => match id.get() {
-                number @ 1..=3 => number,
-                _ => 9,
+                number @ 1..=9 => number,
+                _ => 0,
             },
-            AnyMsg::Out { .. } | AnyMsg::Back { .. } => 9,
+            AnyMsg::Out { .. } | AnyMsg::Back { .. } => 0,
         }
     }
 }
 
-/// The digits of what a sender has sent to the right and its receiver has not taken, the first
-/// packet first; 4 is the announcement.
-fn between<E: Digits>(sender: &Node<E>, receiver: &Node<E>) -> u32 {
+/// The digits of what a node has sent to the right from a place on, the first packet first; 8 is the
+/// announcement.
+fn sent_from<E: Digits>(node: &Node<E>, first: usize) -> u32 {
     let mut digits = 0u32;
-    for place in receiver.taken(Side::Left)..sender.sent(Side::Right) {
-        let digit = match sender.packet(Side::Right, place) {
+    for place in first..node.sent(Side::Right) {
+        let digit = match node.packet(Side::Right, place) {
             Some(Packet::Algo(message)) => E::digit(message),
-            Some(Packet::Leader(_)) => 4,
-            None => 9,
+            Some(Packet::Leader(_)) => 8,
+            None => 0,
         };
         digits = digits.saturating_mul(10).saturating_add(digit);
     }
@@ -49,9 +50,9 @@ fn in_flight<E: Digits>(rt: &impl Abort, world: &World<E>) -> [u32; 3] {
         panic!(rt; "not three nodes");
     };
     [
-        between(third, first),
-        between(first, second),
-        between(second, third),
+        sent_from(third, first.taken(Side::Left)),
+        sent_from(first, second.taken(Side::Left)),
+        sent_from(second, third.taken(Side::Left)),
     ]
 }
 
@@ -87,9 +88,9 @@ fn the_worked_schedule(rt: HostRuntime) {
         (2, MOVED, [2, 0, 3]),
         (2, MOVED, [23, 0, 0]),
         (0, MOVED, [3, 0, 0]),
-        (0, Passage::Moved(NodeId::new(3)), [0, 4, 0]),
-        (1, Passage::Moved(NodeId::new(3)), [0, 0, 4]),
-        (2, Passage::Moved(NodeId::new(3)), [4, 0, 0]),
+        (0, Passage::Moved(NodeId::new(3)), [0, 8, 0]),
+        (1, Passage::Moved(NodeId::new(3)), [0, 0, 8]),
+        (2, Passage::Moved(NodeId::new(3)), [8, 0, 0]),
         (0, MOVED, [0, 0, 0]),
         (0, Passage::Idle, [0, 0, 0]),
     ];
@@ -109,14 +110,39 @@ fn the_worked_order_of_a_drain(rt: HostRuntime) {
         (2, MOVED, [0, 0, 3]),
         (2, MOVED, [3, 0, 0]),
         (0, MOVED, [0, 3, 0]),
-        (1, Passage::Moved(NodeId::new(1)), [0, 0, 34]),
-        (2, MOVED, [3, 0, 4]),
-        (0, MOVED, [0, 3, 4]),
-        (1, MOVED, [0, 0, 4]),
-        (2, Passage::Moved(NodeId::new(1)), [4, 0, 0]),
-        (0, Passage::Moved(NodeId::new(1)), [0, 4, 0]),
+        (1, Passage::Moved(NodeId::new(1)), [0, 0, 38]),
+        (2, MOVED, [3, 0, 8]),
+        (0, MOVED, [0, 3, 8]),
+        (1, MOVED, [0, 0, 8]),
+        (2, Passage::Moved(NodeId::new(1)), [8, 0, 0]),
+        (0, Passage::Moved(NodeId::new(1)), [0, 8, 0]),
         (1, MOVED, [0, 0, 0]),
     ];
     let first = goes(&rt, rt.alloc(), Any::Peterson, &legs);
     equal(&rt, "legs of a drain", first, 15);
+}
+
+/// Each member of the ring of these numbers sends these packets to the right.
+fn sends<E: Digits>(rt: &impl Abort, alloc: Global, kind: E, numbers: &[u32], packets: &[u32]) {
+    let mut world = begun(rt, alloc, kind, numbers);
+    drained(rt, &mut world, 100);
+    for position in 0..packets.len() {
+        let node = world.nodes().get(position).expect(rt, "no such node");
+        let found = (position, sent_from(node, 0));
+        equal(rt, "packets", found, (position, packets[position]));
+    }
+    end(world);
+}
+
+#[test]
+fn members_send_the_values_of_petersons_rounds(rt: HostRuntime) {
+    let rings: [(&[u32], &[u32]); 4] = [
+        (&[3, 1, 2], &[32338, 13338, 21338]),
+        (&[4, 1, 3, 2], &[4234448, 1443448, 3143448, 2334448]),
+        (&[5, 9], &[59998, 95998]),
+        (&[7], &[778]),
+    ];
+    for (numbers, packets) in &rings {
+        sends(&rt, rt.alloc(), Any::Peterson, *numbers, *packets);
+    }
 }
