@@ -15,7 +15,6 @@ mod desks;
 mod election_rows;
 mod fields;
 mod grounds;
-mod history_rows;
 mod meetings;
 mod rings_of_one;
 mod service_rows;

@@ -1,12 +1,11 @@
-//! Test cases of two sessions in two threads at one table, by a turn lock and by a locked table. A
-//! test that runs out of memory stops.
+//! A test case of two sessions in two threads at one locked table. A test that runs out of memory
+//! stops.
 ghost use Rattle.std.specs.Prelude.{◌≤◌, ◌^◌};
 
 use crate::equal::equal;
 use crate::table::grounds::{Opened, open_locked, table_of};
 use crate::table::meetings::new_meeting;
 use crate::table::telling::{joined, repeated, tells, tells_placed};
-use crate::table::turn_rows::{Deed, run_in_turn};
 use ring_any::Any;
 use ring_election::RingElection;
 use ring_service::{Closing, Front};
@@ -85,9 +84,9 @@ where
     one
 }
 
-/// Two sessions in two threads, in each of which a hundred numbers join. There are no other entries
-/// than theirs. Returns the access.
-pub fn share<R, A>(rt: &R, alloc: Global, opened: Opened<A>) -> Arc<A>
+// Two sessions in two threads, in each of which a hundred numbers join. There are no other entries
+// than theirs. Returns the access.
+fn share<R, A>(rt: &R, alloc: Global, opened: Opened<A>) -> Arc<A>
 where
     R: Abort + Threads + Wait + Sync,
     A: Access<Any> + Send + Sync + Drop + 'static,
@@ -113,11 +112,6 @@ where
     drop(handed);
     drop(waiting);
     access
-}
-
-#[test]
-fn two_sessions_share_a_table(rt: HostRuntime) {
-    run_in_turn(&rt, rt.alloc(), 200, 1, 0, Deed::Share);
 }
 
 // Stops the test if a table has other entries than a create, a hundred joins in each of two

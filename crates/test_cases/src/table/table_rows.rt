@@ -138,6 +138,9 @@ fn finish<E: RingElection>(rt: &impl Abort, alloc: Global, table: &mut Table<E>,
 // The same ten entries, but what the node knows is filed by `Table::finish`.
 fn ten_by_finish<E: Spelled, R: Abort + Wait>(rt: &R, alloc: Global) {
     let mut table = Table::<E>::new(alloc);
+    let history = table.history();
+    let none = (history.is_empty(), history.last().is_none());
+    equal(rt, "no entries", none, (true, true));
     let node = begin(rt, alloc, &mut table, 2);
     let report = told_by(rt, &node);
     finish(rt, alloc, &mut table, node);

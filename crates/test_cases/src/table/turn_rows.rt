@@ -5,7 +5,6 @@ ghost use Rattle.std.specs.Prelude.{◌<◌, ◌≤◌, ◌^◌, All};
 use crate::table::election_rows::decide;
 use crate::table::grounds::{Opened, open};
 use crate::table::meetings::{LOOKS, new_meeting};
-use crate::table::sharing_rows::share;
 use crate::table::telling::{FIRST, FIRST_TOLD, SECOND, SECOND_TOLD, tells, tells_placed};
 use ring_any::Any;
 use ring_table::{Access, Table};
@@ -16,16 +15,14 @@ use std::sync::Wait;
 use std::thread::Threads;
 use std::time::Clock;
 
-/// What is done with a service over an access.
+// What is done with a service over an access.
 #[derive(Drop)]
-pub enum Deed {
+enum Deed {
     /// Two sessions, one after the other, by one seat.
     Talk,
     /// Two sessions by two seats with two turns each. Each further line is told that the seat is
     /// spent, and adds no entry.
     Spend,
-    /// Two sessions in two threads.
-    Share,
     /// Two workers decide a term.
     Decide,
 }
@@ -73,14 +70,13 @@ where
             false,
         ),
         Deed::Spend => converse(rt, alloc, opened, SPENDING, SPENT_TOLD, true),
-        Deed::Share => drop(share(rt, alloc, opened)),
         Deed::Decide => drop(decide(rt, alloc, opened, &gate, Vec::new(alloc))),
     }
     drop(gate);
 }
 
-/// Does it with a service with two workers at a turn lock, each of whose seats has `turns` turns.
-pub fn run_in_turn<R>(rt: &R, alloc: Global, turns: u64, inbox: usize, looks: u32, deed: Deed)
+// Does it with a service with two workers at a turn lock, each of whose seats has `turns` turns.
+fn run_in_turn<R>(rt: &R, alloc: Global, turns: u64, inbox: usize, looks: u32, deed: Deed)
 where
     R: Abort + Threads + Wait + Clock + Copy + Send + Sync + Drop + 'static,
     requires turns { (0 < turns) × (turns ≤ 1000) }
