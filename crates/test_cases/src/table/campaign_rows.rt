@@ -1,12 +1,12 @@
 //! Test cases of campaigns.
-use crate::table::fields::Step::{Clears, Elects, Fails, Says, Tells};
+use crate::table::fields::Step::{Clears, Elects, Says, Tells};
 use crate::table::fields::{Step, run};
 
 // A group with one member.
 const FIVE: &[&[u8]] = &[b"create a chang", b"join a 5"];
 
 // Lines that get the reply `ok`, and the steps after them.
-const CASES: [(&[&[u8]], &[Step]); 9] = [
+const CASES: [(&[&[u8]], &[Step]); 8] = [
     // a client is a member until it ends
     (
         &[b"create a chang"],
@@ -28,11 +28,6 @@ const CASES: [(&[&[u8]], &[Step]); 9] = [
             Says(b"members a", b"members 3\n"),
             Says(b"terms a", b"terms\n"),
         ],
-    ),
-    // nobody stays, whichever call fails
-    (
-        &[b"create a chang"],
-        &[Fails(b"join a 3\n\n", b"members a", b"members\n")],
     ),
     // a client follows a leader that is there
     (

@@ -8,7 +8,7 @@ use ring_any::Any;
 use ring_campaign::{campaign, clear};
 use ring_events::Reply;
 use ring_id::{GroupName, Refusal};
-use ring_lines::{DripIn, DripOut, parse_command};
+use ring_lines::{DripIn, parse_command};
 use ring_table::{Access, Answer, LockedSeat, LockedTable};
 use std::alloc::Global;
 use std::process::Abort;
@@ -29,9 +29,6 @@ pub enum Step {
     Says(&'static [u8], &'static [u8]),
     /// A campaign whose client sends these lines writes this.
     Tells(&'static [u8], &'static [u8]),
-    /// A campaign whose client sends these lines ends, whichever of its calls fails. Then a caller's
-    /// line gets this reply.
-    Fails(&'static [u8], &'static [u8], &'static [u8]),
     /// A term of the group `a` starts, and its one member learns that it leads.
     Elects,
     /// All members are taken out of all groups.
@@ -48,7 +45,6 @@ pub fn run<R: Abort + Wait + Clock>(rt: &R, alloc: Global, made: &[&[u8]], steps
         match step {
             Step::Says(line, wanted) => field.says(rt, alloc, line, wanted),
             Step::Tells(lines, told) => field.tells(rt, alloc, lines, told),
-            Step::Fails(lines, line, wanted) => field.fails(rt, alloc, lines, line, wanted),
             Step::Elects => field.elect(rt, alloc),
             Step::Clears => clear(rt, &field.table, &mut field.seat, 0),
         }
@@ -83,46 +79,15 @@ impl Field {
         drop(reply);
     }
 
-    // Runs a campaign whose client sends these lines. Its read call and write call with these numbers
-    // fail. Returns its writer.
-    fn serve<R: Abort + Wait + Clock>(
-        &mut self,
-        rt: &R,
-        alloc: Global,
-        lines: &[u8],
-        faults: [u64; 2],
-    ) -> DripOut {
-        let mut reader = DripIn::new(lines, faults[0]);
-        let mut out = drip_out(rt, alloc, 200, faults[1]);
-        let (table, seat) = (&self.table, &mut self.seat);
-        campaign(rt, alloc, table, seat, 7, &mut reader, &mut out);
-        out
-    }
-
     // Stops the test unless a campaign whose client sends these lines writes `told`.
     fn tells<R: Abort + Wait + Clock>(&mut self, rt: &R, alloc: Global, lines: &[u8], told: &[u8]) {
-        let out = self.serve(rt, alloc, lines, [0, 0]);
+        let mut reader = DripIn::new(lines, 0);
+        let mut out = drip_out(rt, alloc, 200, 0);
+        let (table, seat) = (&self.table, &mut self.seat);
+        campaign(rt, alloc, table, seat, 7, &mut reader, &mut out);
         let found = (lines, out.taken());
         equal(rt, "lines, and what is told", found, (lines, told));
         drop(out);
-    }
-
-    // Lets each read call and each write call of a campaign fail in turn. Stops the test unless the
-    // reply to a line is `wanted` after each.
-    fn fails<R: Abort + Wait + Clock>(
-        &mut self,
-        rt: &R,
-        alloc: Global,
-        lines: &[u8],
-        line: &[u8],
-        wanted: &[u8],
-    ) {
-        for call in 1..20u64 {
-            for faults in [[call, 0], [0, call]] {
-                drop(self.serve(rt, alloc, lines, faults));
-                self.says(rt, alloc, line, wanted);
-            }
-        }
     }
 
     // Starts a term of the group `a`, whose one member learns that it leads.
