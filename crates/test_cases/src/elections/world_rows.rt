@@ -1,12 +1,11 @@
-//! A world of the election of Chang and Roberts on 3, 1, 2 by its calls alone, and a link that is
-//! cut. More deliveries and cuts are in `tests/rows`.
+//! A world of the election of Chang and Roberts on 3, 1, 2 by its calls alone. More deliveries, and
+//! cuts, are in `tests/rows`.
 
-use crate::elections::worlds::{Seen, begun, cut, deliver, drained, end, seen};
+use crate::elections::worlds::{Seen, begun, deliver, drained, end, seen};
 use crate::equal::equal;
 use ring_chang::Chang;
 use ring_id::{Refusal, Side};
 use ring_world::{Passage, World};
-use std::alloc::Global;
 use std::process::Abort;
 
 /// A call of a world, and what it comes to.
@@ -14,8 +13,6 @@ use std::process::Abort;
 enum Step {
     /// A delivery on the link into this position from a side.
     Deliver(usize, Side, Passage),
-    /// A cut of the link into this position from a side, which is cut then if the answer is `Ok`.
-    Cut(usize, Side, Result<(), Refusal>),
     /// A drain of at most this number of deliveries makes this many.
     Drain(u32, u32),
     /// The world shows this.
@@ -29,22 +26,9 @@ fn goes(rt: &impl Abort, world: &mut World<Chang>, step: &Step) {
             let done = deliver(rt, world, *position, *side);
             equal(rt, "a delivery", done, *wanted);
         }
-        Step::Cut(position, side, answer) => {
-            let done = cut(rt, world, *position, *side);
-            equal(rt, "a cut", done, (*answer, answer.is_ok()));
-        }
         Step::Drain(most, made) => equal(rt, "deliveries", drained(rt, world, *most), *made),
         Step::Shows(wanted) => equal(rt, "what a world shows", seen(world), *wanted),
     }
-}
-
-/// The steps on 3, 1, 2, one after another, come to what they say.
-fn all_go(rt: &impl Abort, alloc: Global, steps: &[Step]) {
-    let mut world = begun(rt, alloc, Chang, &[3, 1, 2]);
-    for step in steps {
-        goes(rt, &mut world, step);
-    }
-    end(world);
 }
 
 #[test]
@@ -60,23 +44,9 @@ fn a_link_gives_one_packet_and_is_idle_then(rt: HostRuntime) {
         Step::Drain(100, 1),
         Step::Shows((None, 0, 8)),
     ];
-    all_go(&rt, rt.alloc(), &steps);
-}
-
-#[test]
-fn a_cut_link_keeps_what_stands_there(rt: HostRuntime) {
-    let steps = [
-        Step::Cut(1, Side::Right, Err(Refusal::OneWay)),
-        Step::Cut(2, Side::Left, Ok(())),
-        Step::Cut(2, Side::Left, Ok(())),
-        Step::Deliver(2, Side::Left, Passage::Idle),
-        Step::Shows((Some((0, Side::Left)), 3, 0)),
-        Step::Drain(100, 2),
-        Step::Shows((None, 2, 2)),
-        Step::Cut(1, Side::Right, Err(Refusal::OneWay)),
-        Step::Cut(2, Side::Left, Ok(())),
-        Step::Cut(2, Side::Left, Ok(())),
-        Step::Shows((None, 2, 2)),
-    ];
-    all_go(&rt, rt.alloc(), &steps);
+    let mut world = begun(&rt, rt.alloc(), Chang, &[3, 1, 2]);
+    for step in &steps {
+        goes(&rt, &mut world, step);
+    }
+    end(world);
 }

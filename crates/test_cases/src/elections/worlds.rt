@@ -62,7 +62,7 @@ fn assert_has<E: RingElection>(rt: &impl Abort, world: &World<E>, position: usiz
     assert!(rt; position < world.charter().roster().len());
 }
 
-/// Delivers on the link into this position from a side. A refusal changes nothing.
+/// Delivers on the link into this position from a side, which is not cut. A refusal changes nothing.
 fn deliver_once<E: RingElection>(
     rt: &impl Abort,
     world: &mut World<E>,
@@ -70,6 +70,7 @@ fn deliver_once<E: RingElection>(
     side: Side,
 ) -> Delivery<E> {
     assert_has(rt, world, position);
+    assert!(rt; !world.is_cut(position, side));
     let before = seen(world);
     let delivery = world.deliver(position, side);
     if matches!(delivery, Delivery::Refused(_)) {
@@ -116,18 +117,4 @@ pub fn drained<E: RingElection>(rt: &impl Abort, world: &mut World<E>, most: u32
     let made = made.expect(rt, "more deliveries than were asked for");
     let rest = drain(world, most.saturating_sub(made)).expect(rt, TWICE);
     made.saturating_add(rest)
-}
-
-/// Cuts the link into this position from a side. Returns the answer, and whether the link is cut
-/// then.
-pub fn cut<E: RingElection>(
-    rt: &impl Abort,
-    world: &mut World<E>,
-    position: usize,
-    side: Side,
-) -> (Result<(), Refusal>, bool) {
-    assert_has(rt, world, position);
-    let done = world.cut(position, side);
-    assert_has(rt, world, position);
-    (done, world.is_cut(position, side))
 }
