@@ -3,24 +3,22 @@
 
 use crate::elections::rings::{falling, identity, ring};
 use crate::equal::equal;
-use ring_any::Any;
-use ring_chang::{Chang, fitting, work_is_triangular};
-use ring_election::{RingElection, one_winner};
-use ring_hirschberg::{messages_are_few, phases_are_few};
+use ring_chang::{fitting, work_is_triangular};
+use ring_election::RingElection;
+use ring_hirschberg::{Hirschberg, messages_are_few, phases_are_few};
 use ring_id::{NodeId, Side};
 use ring_lelann::{LeLann, LeLannState, work_is_square};
+use ring_peterson::Peterson;
 use std::alloc::Global;
 use std::process::Abort;
 
 #[test]
 fn algorithms_differ_in_their_ways_and_in_who_leads(rt: HostRuntime) {
-    one_winner::<Chang>();
     phases_are_few();
     messages_are_few();
-    let (phases, rounds) = (Any::Hirschberg, Any::Peterson);
-    let ways = (phases.two_way(), rounds.two_way());
-    let greatest = (phases.greatest(), rounds.greatest());
-    let wanted = ((true, false), (true, false));
+    let ways = [Hirschberg.two_way(), Peterson.two_way()];
+    let greatest = [Hirschberg.greatest(), Peterson.greatest()];
+    let wanted = ([true, false], [true, false]);
     equal(&rt, "two ways, and the greatest", (ways, greatest), wanted);
 }
 

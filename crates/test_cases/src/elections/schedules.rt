@@ -4,7 +4,7 @@
 use crate::elections::worlds::{begun, deliver, drained, end, seen};
 use crate::equal::equal;
 use ring_any::{Any, AnyMsg};
-use ring_election::RingElection;
+use ring_election::{RingElection, one_winner};
 use ring_id::{NodeId, Side};
 use ring_node::{Node, Packet};
 use ring_world::{Passage, World};
@@ -63,8 +63,8 @@ const MOVED: Passage = Passage::Moved(None);
 /// it.
 type Leg = (usize, Passage, [u32; 3]);
 
-/// The legs on 3, 1, 2, one after another. Nothing is in flight then. Returns how many legs are on
-/// the link on which a drain would deliver next.
+/// The legs on 3, 1, 2, one after another. Nothing is in flight then, and there is one leader.
+/// Returns how many legs are on the link on which a drain would deliver next.
 fn goes<E: Digits>(rt: &impl Abort, alloc: Global, kind: E, legs: &[Leg]) -> usize {
     let mut world = begun(rt, alloc, kind, &[3, 1, 2]);
     equal(rt, "in flight", in_flight(rt, &world), [2, 3, 1]);
@@ -78,6 +78,7 @@ fn goes<E: Digits>(rt: &impl Abort, alloc: Global, kind: E, legs: &[Leg]) -> usi
     }
     equal(rt, "the ready link", seen(&world).0, None);
     end(world);
+    one_winner::<E>();
     first
 }
 
