@@ -2,7 +2,6 @@
 ghost use Rattle.std.specs.Prelude.{◌≡◌, ◌*◌, ◌≤◌, ◌<◌, ◌^◌, []};
 ghost use Rattle.ring_turn.specs.Seats.{fresh_seats};
 
-use crate::equal::equal;
 use crate::memory::{TWICE, with_room};
 use ring_election::RingElection;
 use ring_events::{Command, Reply};
@@ -113,12 +112,11 @@ impl<E: RingElection> Desk<E> for LockedDesk<E> {
     }
 }
 
-/// A turn lock with one seat, which has `left` turns left.
+/// A turn lock with one seat.
 #[derive(Drop)]
 pub struct TurnDesk<E: RingElection> {
     lock: TurnLock<E>,
     seat: Seat<E>,
-    left: u64,
 }
 
 impl<E: RingElection> Model for TurnDesk<E> {
@@ -126,7 +124,7 @@ impl<E: RingElection> Model for TurnDesk<E> {
 
     ghost Value = { ℕ };
 
-    ghost view = { λ desk. desk.left };
+    ghost view = { λ desk. desk.lock.seats };
 
     ghost invariant = { λ desk.
         (desk.lock.seats ≡ 1) × (desk.seat.lock ≡ desk.lock.id) × (desk.seat.number ≡ 0) };
@@ -158,37 +156,21 @@ impl<E: RingElection> TurnDesk<E> {
         let (lock, mut seats) = new_lock(rt, alloc, 1, turns);
         let seat = seats.pop().expect(rt, "no seat");
         drop(seats);
-        TurnDesk {
-            lock,
-            seat,
-            left: turns,
-        }
+        TurnDesk { lock, seat }
     }
 
     /// Closes the lock and returns the table.
     pub fn close(self, rt: &impl Abort, alloc: Global) -> Table<E> {
-        let TurnDesk {
-            lock,
-            seat,
-            left: _,
-        } = self;
+        let TurnDesk { lock, seat } = self;
         let mut all = with_room(rt, alloc, 1);
         all.push_reserved(seat);
         lock.close(all)
-    }
-
-    // Counts a call, which used a turn if one was left. A call that ran out of memory uses one too.
-    fn count(&mut self, rt: &impl Abort) {
-        self.left = self.left.saturating_sub(1);
-        equal(rt, "a seat is spent", self.seat.is_spent(), self.left == 0);
     }
 }
 
 impl<E: RingElection> Desk<E> for TurnDesk<E> {
     fn call<R: Abort + Wait>(&mut self, rt: &R, session: u32, command: Command<E>) -> Answer {
-        let answer = self.lock.call(rt, &mut self.seat, session, command);
-        self.count(rt);
-        answer
+        self.lock.call(rt, &mut self.seat, session, command)
     }
 
     fn begin<R: Abort + Wait>(
@@ -197,14 +179,10 @@ impl<E: RingElection> Desk<E> for TurnDesk<E> {
         group: GroupName,
         copies: usize,
     ) -> (Answer, Vec<Arc<Charter<E>>>) {
-        let begun = self.lock.begin(rt, &mut self.seat, 1, group, copies);
-        self.count(rt);
-        begun
+        self.lock.begin(rt, &mut self.seat, 1, group, copies)
     }
 
     fn report<R: Abort + Wait>(&mut self, rt: &R, report: &Report<E>) -> Filed {
-        let filed = self.lock.report(rt, &mut self.seat, report);
-        self.count(rt);
-        filed
+        self.lock.report(rt, &mut self.seat, report)
     }
 }

@@ -1,6 +1,5 @@
 //! Sessions over memory, their lines, the nodes that workers hand over, and what a table's entries
 //! are. A test that runs out of memory stops.
-ghost use Rattle.std.specs.Prelude.{◌≤◌, ◌^◌};
 
 use crate::equal::equal;
 use ring_any::Any;
@@ -31,35 +30,6 @@ pub fn tells<R: Abort + Wait, A: Access<Any> + Drop>(
 {
     let mut writer = ToWrite(Vec::new(alloc));
     let served = front.serve(rt, seat, session, &mut FromRead(lines), &mut writer, 1000);
-    let found = (served.is_ok(), writer.0.as_slice());
-    equal(rt, "served, and told", found, (true, told));
-    drop(writer);
-}
-
-/// Stops the test if a session over memory is told something else, with the places of its replies.
-pub fn tells_placed<R: Abort + Wait, A: Access<Any> + Drop>(
-    rt: &R,
-    alloc: Global,
-    front: &Front<A>,
-    seat: &mut A::Seat,
-    session: u32,
-    lines: &[u8],
-    told: &[u8],
-)
-    requires seat { A.has_seat front.now seat.old }
-    requires most { A.most ≤ 2 ^ 64 }
-    ensures { A.has_seat front.now seat.new }
-{
-    let mut writer = ToWrite(Vec::new(alloc));
-    let served = front.serve_placed(
-        rt,
-        seat,
-        0,
-        session,
-        &mut FromRead(lines),
-        &mut writer,
-        1000,
-    );
     let found = (served.is_ok(), writer.0.as_slice());
     equal(rt, "served, and told", found, (true, told));
     drop(writer);

@@ -1,11 +1,11 @@
 //! Test cases of a service over a turn lock: what two sessions are told, when a seat is spent, and
 //! that two workers decide a term in turn. A test that runs out of memory stops.
-ghost use Rattle.std.specs.Prelude.{◌<◌, ◌≤◌, ◌^◌, All};
+ghost use Rattle.std.specs.Prelude.{◌<◌, ◌≤◌, All};
 
 use crate::table::election_rows::decide;
 use crate::table::grounds::{Opened, open};
 use crate::table::meetings::{LOOKS, new_meeting};
-use crate::table::telling::{FIRST, FIRST_TOLD, SECOND, SECOND_TOLD, tells, tells_placed};
+use crate::table::telling::{FIRST, FIRST_TOLD, SECOND, SECOND_TOLD, tells};
 use ring_any::Any;
 use ring_table::{Access, Table};
 use ring_turn::TurnLock;
@@ -18,12 +18,12 @@ use std::time::Clock;
 // What is done with a service over an access.
 #[derive(Drop)]
 enum Deed {
-    /// Two sessions, one after the other, by one seat.
+    // Two sessions by two seats.
     Talk,
-    /// Two sessions by two seats with two turns each. Each further line is told that the seat is
-    /// spent, and adds no entry.
+    // Two sessions by two seats with two turns each. Each further line is told that the seat is
+    // spent, and adds no entry.
     Spend,
-    /// Two workers decide a term.
+    // Two workers decide a term.
     Decide,
 }
 
@@ -33,10 +33,10 @@ const SPENDING: [&[u8]; 2] = [
     b"members a\ngroups\nstart a\n",
 ];
 
-// What they are told, the second one with the places of its replies.
+// What they are told.
 const SPENT_TOLD: [&[u8]; 2] = [
     b"ok\nok\nno seat-spent\nno seat-spent\n",
-    b"3 members 5\n4 groups a\n- no seat-spent\n",
+    b"members 5\ngroups a\nno seat-spent\n",
 ];
 
 // Does it with the service at an access, by a gate with this number of looks. The last two seats
@@ -56,7 +56,6 @@ where
     R: Abort + Threads + Wait + Clock + Copy + Send + Sync + Drop + 'static,
     requires seats { All (A.has_seat access) seats.items }
     requires inbox { (1 ≤ inbox) × (inbox ≤ 65536) }
-    requires most { A.most ≤ 2 ^ 64 }
 {
     let gate = new_meeting(rt, alloc, looks);
     let opened = open(rt, alloc, access, seats, inbox, &gate).expect(rt, "no service");
@@ -67,9 +66,8 @@ where
             opened,
             [FIRST, SECOND],
             [FIRST_TOLD, SECOND_TOLD],
-            false,
         ),
-        Deed::Spend => converse(rt, alloc, opened, SPENDING, SPENT_TOLD, true),
+        Deed::Spend => converse(rt, alloc, opened, SPENDING, SPENT_TOLD),
         Deed::Decide => drop(decide(rt, alloc, opened, &gate, Vec::new(alloc))),
     }
     drop(gate);
@@ -88,21 +86,12 @@ where
     run(rt, alloc, lock, seats, inbox, looks, deed);
 }
 
-// Two sessions, one after the other. The second one is by the seat of the first one, or by another
-// seat and is told the places of its replies.
-fn converse<R, A>(
-    rt: &R,
-    alloc: Global,
-    opened: Opened<A>,
-    lines: [&[u8]; 2],
-    told: [&[u8]; 2],
-    by_other: bool,
-)
+// Two sessions, one after the other, each by a seat of its own.
+fn converse<R, A>(rt: &R, alloc: Global, opened: Opened<A>, lines: [&[u8]; 2], told: [&[u8]; 2])
 where
     R: Abort + Threads + Wait,
     A: Access<Any> + Send + Sync + Drop + 'static,
     A::Seat: Send + 'static,
-    requires { A.most ≤ 2 ^ 64 }
 {
     let Opened {
         service,
@@ -111,11 +100,7 @@ where
     } = opened;
     let front = service.front();
     tells(rt, alloc, front, &mut one, 1, lines[0], told[0]);
-    if by_other {
-        tells_placed(rt, alloc, front, &mut other, 2, lines[1], told[1]);
-    } else {
-        tells(rt, alloc, front, &mut one, 2, lines[1], told[1]);
-    }
+    tells(rt, alloc, front, &mut other, 2, lines[1], told[1]);
     drop(one);
     drop(other);
     drop(service.close(rt));
