@@ -8,18 +8,15 @@ use ring_election::RingElection;
 use ring_hirschberg::{Hirschberg, messages_are_few, phases_are_few};
 use ring_id::{NodeId, Side};
 use ring_lelann::{LeLann, LeLannState, work_is_square};
-use ring_peterson::Peterson;
 use std::alloc::Global;
 use std::process::Abort;
 
 #[test]
-fn algorithms_differ_in_their_ways_and_in_who_leads(rt: HostRuntime) {
+fn hirschberg_sends_both_ways_and_elects_the_greatest(rt: HostRuntime) {
     phases_are_few();
     messages_are_few();
-    let ways = [Hirschberg.two_way(), Peterson.two_way()];
-    let greatest = [Hirschberg.greatest(), Peterson.greatest()];
-    let wanted = ([true, false], [true, false]);
-    equal(&rt, "two ways, and the greatest", (ways, greatest), wanted);
+    let found = (Hirschberg.two_way(), Hirschberg.greatest());
+    equal(&rt, "two ways, and the greatest", found, (true, true));
 }
 
 /// A node of LeLann receives these messages, each from its side, and has decided so after each.
