@@ -86,6 +86,7 @@ create b Chang => no bad-line
 create b chang-roberts => no bad-line
 create b chan => no bad-line
 create b changs => no bad-line
+create b petersen => no bad-line
 deliver a 1 up => no bad-line
 deliver a 1 Left => no bad-line
 deliver a 1 l => no bad-line
