@@ -29,8 +29,9 @@ fn a_line_is_added_and_settled(rt: HostRuntime) {
         Err(RoomFault::NoMemory) => journal.add(b"a"),
         answer => answer,
     };
-    let done = (added, journal.settle());
-    equal(&rt, "added, and settled", done, (Ok(()), Ok(())));
+    let done = (added, journal.settle(), journal.is_broken());
+    let wanted = (Ok(()), Ok(()), false);
+    equal(&rt, "added, settled, and broken", done, wanted);
     let memory = journal.medium();
     let found = (memory.text(), memory.kept());
     equal(&rt, "the text, and kept", found, (b"a\n", 2));
