@@ -1,7 +1,7 @@
 -- Handling: what a worker has in hand before and after one item.
-use Rattle.std.proofs.Common.{◌≡◌, ℕ, List, [], ◌∷◌, ◌++◌, Option, Some, None, refl, sym, ap, ◌∙◌, subst, inl, arith, false, true≢false}
+use Rattle.std.proofs.Common.{◌≡◌, ℕ, List, [], ◌∷◌, ◌++◌, Option, Some, None, refl, sym, ap, ◌∙◌, subst, inl, arith, false, true, true≢false}
 use Rattle.std.proofs.lemmas.List.{append-nil}
-use Rattle.std.specs.Prelude.{Result, Ok, Err, OnOk}
+use Rattle.std.specs.Prelude.{Result, Ok, Err, OnOk, OnErr}
 use Rattle.std.specs.Result.{is_err}
 use Rattle.ring_election.specs.Tables.{Table}
 use Rattle.ring_inbox.specs.Values.{ReceiverLog, SenderLog}
@@ -43,6 +43,11 @@ turns_held t Stop holding waiting dropped = record { steps = (refl, refl); grows
 pub room_found : {A F : Type 0} (result : Result A F) (P : Type 0) → OnOk result P → false ≡ is_err result → P
 room_found (Ok a) P h e = h
 room_found (Err f) P h e = absurd (true≢false (sym e))
+
+-- what holds of a result that is a refusal
+pub room_lacking : {A F : Type 0} (result : Result A F) (P : Type 0) → OnErr result P → true ≡ is_err result → P
+room_lacking (Ok a) P h e = absurd (true≢false e)
+room_lacking (Err f) P h e = h
 
 -- what waited was sent on, by an owner that counts as many workers
 pub ran_sent : {E S M : Type 0} (t : E → Table S M) (number workers counted : ℕ) (from to : ReceiverLog (Item E M S)) (old mid new : List (SenderLog (Item E M S)))
