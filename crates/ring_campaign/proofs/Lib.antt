@@ -1,4 +1,5 @@
 pub mod Cleared
+pub mod Gone
 pub mod Looking
 pub mod Told
 pub mod WhoReplies
