@@ -4,7 +4,7 @@
 //! Of a table: its calls, its reports and its history, if a caller has it alone. By a turn lock and
 //! by a locked table: the places of a seat's calls, two threads, sessions, and workers that decide
 //! terms. Of services: begins that wait, and what is left at the end.
-//! Of campaigns: what a client is told, and what it leaves.
+//! Of campaigns: the lines that a client gets, and what it leaves.
 
 mod batch_rows;
 mod beginning_rows;

@@ -20,8 +20,8 @@ use std::time::Clock;
 enum Deed {
     // Two sessions by two seats.
     Talk,
-    // Two sessions by two seats with two turns each. Each further line is told that the seat is
-    // spent, and adds no entry.
+    // Two sessions by two seats with two turns each. Each further line gets the reply that the seat
+    // is spent, and adds no entry.
     Spend,
     // Two workers decide a term.
     Decide,
@@ -33,7 +33,7 @@ const SPENDING: [&[u8]; 2] = [
     b"members a\ngroups\nstart a\n",
 ];
 
-// What they are told.
+// The replies to them.
 const SPENT_TOLD: [&[u8]; 2] = [
     b"ok\nok\nno seat-spent\nno seat-spent\n",
     b"members 5\ngroups a\nno seat-spent\n",
