@@ -1,6 +1,7 @@
 //! Tests of the server. They show what no check of the built program can: the line of each fault,
-//! the numbers of sessions, who serves them, the capacity of an inbox, and which of the last answers
-//! the service remembers. Faults of sockets, files and memory are in `tests/sweeps`.
+//! the numbers of sessions, who serves them, and the capacity of an inbox. They show what is counted
+//! of a journal, and which of the last answers the service remembers. Faults of sockets, files and
+//! memory are in `tests/sweeps`.
 #![tactic(auto)]
 
 #[cfg(test)]
