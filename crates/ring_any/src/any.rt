@@ -14,7 +14,7 @@ use std::alloc::Global;
 
 /// One of the ring elections, each with its own guarantees (Lynch, Distributed Algorithms, 3 and
 /// 15.1).
-#[derive(Clone, Copy, Debug, PartialEq, Eq)]
+#[derive(Clone, Copy, PartialEq, Eq)]
 pub enum Any {
     /// Every node elects the greatest identity by itself (LeLann, 1977).
     LeLann,
@@ -28,7 +28,7 @@ pub enum Any {
 
 /// A message of one of the elections. Each variant starts with the identity, and a token has no tag
 /// of its own. So a message of an algorithm becomes one of the sum without moving bytes.
-#[derive(Clone, Copy, Debug, PartialEq, Eq)]
+#[derive(Clone, Copy, PartialEq, Eq)]
 pub enum AnyMsg {
     /// An identity sent in LeLann's election.
     LeLann(NodeId),
@@ -43,7 +43,7 @@ pub enum AnyMsg {
 }
 
 /// The memory of a node of one of the elections.
-#[derive(Debug, Drop)]
+#[derive(Drop)]
 pub enum AnyState {
     /// A node of LeLann's election.
     LeLann(LeLannState),

@@ -11,11 +11,11 @@ use std::alloc::Global;
 ///
 /// A message is an identity. A node sends its own to the right and passes greater ones on. If its
 /// own comes back, it decides on itself.
-#[derive(Clone, Copy, Debug, PartialEq, Eq)]
+#[derive(Clone, Copy, PartialEq, Eq)]
 pub struct Chang;
 
 /// The memory of a node of this algorithm.
-#[derive(Debug, Drop)]
+#[derive(Drop)]
 pub struct ChangState {
     me: NodeId,
     decided: Option<NodeId>,

@@ -46,7 +46,7 @@ const HIGH: [u32; 16] = [
 /// A running check of the changes of a journal: the CRC-32 of zip files over all their bytes.
 ///
 /// Contracts see it as its 32 bits before the last inversion. No theorem rests on its value.
-#[derive(Clone, Copy, Debug)]
+#[derive(Clone, Copy)]
 pub struct Check {
     rest: u32,
 }

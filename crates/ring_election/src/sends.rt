@@ -1,5 +1,5 @@
 /// The messages that a node sends in one step: at most one to each side.
-#[derive(Clone, Copy, Debug, PartialEq, Eq)]
+#[derive(Clone, Copy)]
 pub struct Sends<M> {
     /// To the left neighbour.
     pub left: Option<M>,

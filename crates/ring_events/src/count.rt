@@ -8,7 +8,7 @@ const WORD: u128 = 18446744073709551616;
 /// A number of packets. Contracts see it as that number.
 ///
 /// It is kept in two words, so that all replies have the same layout.
-#[derive(Clone, Copy, Debug)]
+#[derive(Clone, Copy)]
 pub struct Count {
     high: u64,
     low: u64,

@@ -1,7 +1,8 @@
 use ring_id::{GroupName, NodeId, NodeNo, Side};
+use std::alloc::AllocError;
 
 /// A client's request.
-#[derive(Clone, Copy, Debug)]
+#[derive(Copy)]
 pub enum Command<E> {
     /// Make a new group that elects by this algorithm.
     Create(GroupName, E),
@@ -21,8 +22,15 @@ pub enum Command<E> {
     Groups,
 }
 
+// By hand, since a derived one is proved variant by variant.
+impl<E: Copy> Clone for Command<E> {
+    fn clone(&self) -> Result<Command<E>, AllocError> {
+        Ok(*self)
+    }
+}
+
 /// A client's command, or a line of a schedule.
-#[derive(Clone, Copy, Debug)]
+#[derive(Copy)]
 pub enum Event<E> {
     /// A command of a client.
     Client(Command<E>),
@@ -49,4 +57,11 @@ pub enum Event<E> {
         group: GroupName,
         count: u32,
     },
+}
+
+// By hand, since a derived one is proved variant by variant.
+impl<E: Copy> Clone for Event<E> {
+    fn clone(&self) -> Result<Event<E>, AllocError> {
+        Ok(*self)
+    }
 }

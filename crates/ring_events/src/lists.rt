@@ -4,7 +4,7 @@ use ring_id::{GroupName, NodeId};
 use std::marker::Model;
 
 /// The members of a group in joining order. Contracts see the list.
-#[derive(Debug, Drop)]
+#[derive(Drop)]
 pub struct MemberList {
     members: Vec<NodeId>,
 }
@@ -35,7 +35,7 @@ impl MemberList {
 
 /// The leader of each term of a group, or `None`, in the order of the terms from 1. Contracts see
 /// the list, which has at most 1000 elements.
-#[derive(Debug, Drop)]
+#[derive(Drop)]
 pub struct TermList {
     leaders: Vec<Option<NodeId>>,
 }
@@ -69,7 +69,7 @@ impl TermList {
 }
 
 /// The names of all groups in order of creation. Contracts see the list.
-#[derive(Debug, Drop)]
+#[derive(Drop)]
 pub struct GroupList {
     names: Vec<GroupName>,
 }

@@ -3,7 +3,7 @@ use crate::lists::{GroupList, MemberList, TermList};
 use ring_id::{NodeId, Refusal, TermNo};
 
 /// The answer to an event.
-#[derive(Debug, Drop)]
+#[derive(Drop)]
 pub enum Reply {
     /// Done.
     Done,

@@ -13,11 +13,11 @@ const MOST: u8 = 16;
 /// The Hirschberg-Sinclair algorithm without rounds (Lynch, Distributed Algorithms, 3.4).
 ///
 /// It sends to both sides and elects the greatest identity.
-#[derive(Clone, Copy, Debug, PartialEq, Eq)]
+#[derive(Clone, Copy, PartialEq, Eq)]
 pub struct Hirschberg;
 
 /// A token: Lynch's (v, out, h) and (v, in, 1).
-#[derive(Clone, Copy, Debug, PartialEq, Eq)]
+#[derive(Clone, Copy, PartialEq, Eq)]
 pub enum HirschbergMsg {
     /// On its way out; its last hop is the one with `hops` 1.
     Out { id: NodeId, hops: u32 },
@@ -27,7 +27,7 @@ pub enum HirschbergMsg {
 
 /// The memory of a node: how many of its tokens came home from each side, at most 16, and its
 /// decision. The lesser of the two counts is its phase.
-#[derive(Clone, Copy, Debug, PartialEq, Eq)]
+#[derive(Clone, Copy)]
 pub struct HirschbergState {
     me: NodeId,
     left: u8,

@@ -16,7 +16,7 @@ use std::alloc::Global;
 use std::sync::Wait;
 
 /// Why a question has no answer.
-#[derive(Clone, Copy, Debug)]
+#[derive(Clone, Copy)]
 pub enum Lack {
     /// The question was not placed: out of memory, or the seat has used up its turns.
     Unplaced(Refusal),

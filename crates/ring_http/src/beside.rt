@@ -6,7 +6,7 @@ use ring_node::Charter;
 use std::sync::Arc;
 
 /// How many clients of one port are served.
-#[derive(Clone, Copy, Debug, PartialEq, Eq)]
+#[derive(Clone, Copy)]
 pub struct Served {
     /// Now.
     pub now: u64,
@@ -15,7 +15,7 @@ pub struct Served {
 }
 
 /// How a journal is.
-#[derive(Clone, Copy, Debug, PartialEq, Eq)]
+#[derive(Clone, Copy)]
 pub struct JournalFigures {
     /// The bytes of its text.
     pub bytes: u64,
@@ -26,7 +26,7 @@ pub struct JournalFigures {
 }
 
 /// Numbers of a running service that its table does not say.
-#[derive(Clone, Copy, Debug, PartialEq, Eq)]
+#[derive(Clone, Copy)]
 pub struct Figures {
     /// Its sessions.
     pub sessions: Served,

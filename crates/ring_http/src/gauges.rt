@@ -9,7 +9,7 @@ use ring_id::NodeId;
 use std::alloc::AllocError;
 
 /// A metric of each group.
-#[derive(Clone, Copy, Debug, PartialEq, Eq)]
+#[derive(Clone, Copy)]
 pub enum Gauge {
     /// The number of its members.
     Members,

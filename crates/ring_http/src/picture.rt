@@ -10,7 +10,7 @@ const FIRST: u64 = 14_695_981_039_346_656_037;
 const PRIME: u64 = 1_099_511_628_211;
 
 /// The answers about one group.
-#[derive(Debug, Drop)]
+#[derive(Drop)]
 pub struct GroupPicture {
     /// Its name.
     pub name: GroupName,

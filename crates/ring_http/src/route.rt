@@ -11,7 +11,7 @@ use http::{Method, Request, header};
 use ring_id::GroupName;
 
 /// The resource that a path names.
-#[derive(Clone, Copy, Debug)]
+#[derive(Clone, Copy)]
 pub enum Resource {
     /// The page.
     Page,
@@ -32,7 +32,7 @@ pub enum Resource {
 }
 
 /// The route of a request.
-#[derive(Clone, Copy, Debug)]
+#[derive(Clone, Copy)]
 pub enum Route {
     /// It is for another host.
     Misdirected,

@@ -14,14 +14,14 @@ use std::marker::Model;
 ///
 /// A message is an identity. A node sends its own to the right and passes all others on. If its own
 /// comes back, it has seen every member, and it decides.
-#[derive(Clone, Copy, Debug, PartialEq, Eq)]
+#[derive(Clone, Copy, PartialEq, Eq)]
 pub struct LeLann;
 
 /// The memory of a node of this algorithm.
 ///
 /// Contracts see one record: the node's identity, the identities that it has seen, and its
 /// decision.
-#[derive(Debug, Drop)]
+#[derive(Drop)]
 pub struct LeLannState {
     me: NodeId,
     seen: Vec<NodeId>,

@@ -10,7 +10,7 @@ use std::sync::Arc;
 ///
 /// Nodes, envelopes and reports of a term each own a share of its charter. Contracts compare
 /// charters by value.
-#[derive(Debug, Drop)]
+#[derive(Drop)]
 pub struct Charter<E> {
     group: GroupName,
     term: TermNo,

@@ -8,11 +8,11 @@ use std::alloc::Global;
 /// Lynch, Distributed Algorithms, 15.1.3).
 ///
 /// A message is an identity, and all messages go to the right.
-#[derive(Clone, Copy, Debug, PartialEq, Eq)]
+#[derive(Clone, Copy, PartialEq, Eq)]
 pub struct Peterson;
 
 /// Whether a node still takes part.
-#[derive(Clone, Copy, Debug, PartialEq, Eq)]
+#[derive(Clone, Copy)]
 pub enum Mode {
     /// It compares values.
     Active,
@@ -23,7 +23,7 @@ pub enum Mode {
 /// The memory of a node of this algorithm: its identity, its mode, its value in this round (Lynch's
 /// uid(1)), and whether it is chosen. Once the value of the active node to its left has come
 /// (uid(2)), the node keeps that too.
-#[derive(Clone, Copy, Debug, PartialEq, Eq)]
+#[derive(Clone, Copy)]
 pub struct PetersonState {
     me: NodeId,
     mode: Mode,

@@ -8,7 +8,7 @@ use std::alloc::Global;
 /// A guess may be wrong: if several members have the same last bits, it is the position of the last
 /// of them. No clause speaks of guesses, so a look-up compares the member's number. There are at
 /// least four guesses for each member, since fewer would be wrong more often.
-#[derive(Debug, Drop)]
+#[derive(Drop)]
 pub(crate) struct Guesses {
     positions: Vec<u8>,
 }

@@ -8,7 +8,7 @@ use ring_id::{NoMemory, NodeId, NodeNo};
 use std::alloc::Global;
 
 /// The means by which the members of a ring are found.
-#[derive(Debug, Drop)]
+#[derive(Drop)]
 pub(crate) enum Index {
     /// None: there are so few members that the search looks at each.
     Few,

@@ -7,7 +7,7 @@ use std::alloc::Global;
 use std::marker::Model;
 
 /// The members of a ring with their index. Contracts see the list of their identities.
-#[derive(Debug, Drop)]
+#[derive(Drop)]
 pub(crate) struct Members {
     list: Vec<NodeId>,
     index: Index,

@@ -14,7 +14,7 @@ use std::sync::Arc;
 ///
 /// Contracts see a roster as the list of its identities (Lynch, Distributed Algorithms, 3.1). Only
 /// `from_members` and `of_ring` allocate: copies made by `shared` have the same ring in memory.
-#[derive(Debug, Drop)]
+#[derive(Drop)]
 pub struct Roster {
     members: Arc<Members>,
 }

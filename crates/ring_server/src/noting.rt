@@ -9,7 +9,7 @@ use ring_id::{GroupName, Refusal};
 use ring_table::Answer;
 
 /// What is noted of an answer.
-#[derive(Clone, Copy, Debug)]
+#[derive(Clone, Copy)]
 pub(crate) enum Note {
     /// It was this refusal.
     Refused(Refusal),

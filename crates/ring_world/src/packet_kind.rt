@@ -4,7 +4,7 @@ ghost use Rattle.ring_world.specs.PacketKinds.{is_of};
 use ring_node::Packet;
 
 /// The two kinds of packet. A link keeps the order of each kind by itself.
-#[derive(Clone, Copy, PartialEq, Eq)]
+#[derive(Clone, Copy)]
 pub enum PacketKind {
     /// Messages of the algorithm.
     Message,

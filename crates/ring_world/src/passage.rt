@@ -13,7 +13,7 @@ pub enum Passage {
 
 /// The outcome of passages one after another, each on the first link with something in flight at
 /// that moment.
-#[derive(Clone, Copy, Debug, PartialEq, Eq)]
+#[derive(Clone, Copy)]
 pub struct Passages {
     /// How many were made.
     pub done: u32,
@@ -22,7 +22,7 @@ pub struct Passages {
 }
 
 /// The end of passages that were made one after another.
-#[derive(Clone, Copy, Debug, PartialEq, Eq)]
+#[derive(Clone, Copy)]
 pub enum PassagesEnd {
     /// By the last of them, and by no other, a node learnt the leader: its position, and the
     /// leader.
