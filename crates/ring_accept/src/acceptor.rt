@@ -11,7 +11,7 @@ use std::thread::{Scope, Threads};
 use std::time::{Clock, Duration};
 
 /// The limits of sessions.
-#[derive(Clone, Copy, Debug, PartialEq, Eq)]
+#[derive(Clone, Copy)]
 pub struct Limits {
     /// How many clients are served at a time.
     pub sessions: u32,

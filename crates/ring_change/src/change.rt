@@ -6,9 +6,10 @@ use ring_events::{Command, Reply};
 use ring_id::{GroupName, NodeId, NodeNo, TermNo};
 use ring_node::Report;
 use ring_terms::Noting;
+use std::alloc::AllocError;
 
 /// A change that a command or a report made.
-#[derive(Clone, Copy, Debug)]
+#[derive(Copy)]
 pub enum Change<E> {
     /// A group was created, which elects by this algorithm.
     Create(GroupName, E),
@@ -25,6 +26,13 @@ pub enum Change<E> {
         member: NodeId,
         leader: NodeId,
     },
+}
+
+// By hand, since a derived one is proved variant by variant.
+impl<E: Copy> Clone for Change<E> {
+    fn clone(&self) -> Result<Change<E>, AllocError> {
+        Ok(*self)
+    }
 }
 
 /// Returns the change that a command with this reply made.

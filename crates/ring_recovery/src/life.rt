@@ -10,7 +10,7 @@ const PLACES: usize = 1 << 44;
 /// The number of a life of a journal: how often a service has begun with it, this time included.
 ///
 /// Contracts see the number. It is from 1 to `MOST`.
-#[derive(Clone, Copy, Debug, PartialEq, Eq)]
+#[derive(Clone, Copy)]
 pub struct Life {
     number: u32,
 }

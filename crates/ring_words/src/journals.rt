@@ -7,7 +7,7 @@ ghost use Rattle.ring_words.specs.Journals.{IsAt, IsJournalName, NamesNoJournal,
 const LONGEST: usize = 64;
 
 /// The place at which a journal is kept.
-#[derive(Clone, Copy, Debug, PartialEq, Eq)]
+#[derive(Clone, Copy)]
 pub enum JournalAt<'a> {
     /// The file at a path.
     File(&'a str),

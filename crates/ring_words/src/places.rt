@@ -10,7 +10,7 @@ use crate::words::Order;
 const NO_JOURNAL: &str = "a journal is a file, or etcd://HOST:PORT,../NAME";
 
 /// A place to listen.
-#[derive(Clone, Copy, Debug, PartialEq, Eq)]
+#[derive(Clone, Copy)]
 pub enum Place<'a> {
     /// A port on 127.0.0.1.
     Port(u16),

@@ -15,7 +15,7 @@ use std::alloc::{AllocError, Global};
 const SESSIONS: u32 = 16;
 
 /// The order that the words give.
-#[derive(Debug, Drop)]
+#[derive(Drop)]
 pub enum Order {
     /// `ringd replay`: answer the lines of standard input on standard output.
     Replay,
