@@ -30,6 +30,12 @@ pub enum Change<E> {
 
 // By hand, since a derived one is proved variant by variant.
 impl<E: Copy> Clone for Change<E> {
+    ghost use Rattle.std.specs.Prelude.{◌≡◌, ⊤};
+
+    ghost is_clone = { λ value copy. copy ≡ value };
+
+    ghost is_infallible = { λ _. ⊤ };
+
     fn clone(&self) -> Result<Change<E>, AllocError> {
         Ok(*self)
     }

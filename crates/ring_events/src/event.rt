@@ -24,6 +24,12 @@ pub enum Command<E> {
 
 // By hand, since a derived one is proved variant by variant.
 impl<E: Copy> Clone for Command<E> {
+    ghost use Rattle.std.specs.Prelude.{◌≡◌, ⊤};
+
+    ghost is_clone = { λ value copy. copy ≡ value };
+
+    ghost is_infallible = { λ _. ⊤ };
+
     fn clone(&self) -> Result<Command<E>, AllocError> {
         Ok(*self)
     }
@@ -61,6 +67,12 @@ pub enum Event<E> {
 
 // By hand, since a derived one is proved variant by variant.
 impl<E: Copy> Clone for Event<E> {
+    ghost use Rattle.std.specs.Prelude.{◌≡◌, ⊤};
+
+    ghost is_clone = { λ value copy. copy ≡ value };
+
+    ghost is_infallible = { λ _. ⊤ };
+
     fn clone(&self) -> Result<Event<E>, AllocError> {
         Ok(*self)
     }

@@ -23,6 +23,12 @@ pub enum Happening<E> {
 
 // By hand, since a derived one is proved variant by variant.
 impl<E: Copy> Clone for Happening<E> {
+    ghost use Rattle.std.specs.Prelude.{◌≡◌, ⊤};
+
+    ghost is_clone = { λ value copy. copy ≡ value };
+
+    ghost is_infallible = { λ _. ⊤ };
+
     fn clone(&self) -> Result<Happening<E>, AllocError> {
         Ok(*self)
     }
