@@ -301,6 +301,10 @@ def damages(keys):
     yield "entry-of-another-kind", entries[1], b"x" + keys[entries[1]][1:]
     yield "entry-other", entries[1], keys[entries[1]].replace(b"1", b"2", 1)
     yield "entry-twice", entries[2], keys[entries[1]]
+    yield "entry-torn", entries[2], keys[entries[2]][:-1]
+    yield "entry-zero", entries[2], keys[entries[2]].replace(b" ", b"\0", 1)
+    yield "entry-zeros-behind", entries[2], keys[entries[2]] + b"\0"
+    yield "piece-zero", pieces[1], keys[pieces[1]][:-3] + b"\0" + keys[pieces[1]][-2:]
 
 
 @check

@@ -1,5 +1,6 @@
 -- The faults and the text of a journal.
 use Rattle.std.specs.Prelude.{◌≡◌, ◌⊎◌, List, ℕ}
+use Rattle.ring_journal.specs.Journals.{HasAll}
 use Rattle.ring_lines.specs.Ends.{Writing, WroteFront}
 use Rattle.ring_any.specs.declared.any.Any.{Any}
 use Rattle.ring_table.specs.Tables.{RecordedView}
@@ -27,11 +28,12 @@ pub record IsTakenUp (found : List ℕ) (table : RecordedView Any) (life : ℕ) 
   pub history : table.history ≡ resumed.history
   pub next : life ≡ resumed.life
 
--- The journal of this name in etcd was read and taken over, and a table was resumed from the bytes
--- that were read. This is the life that it begins.
+-- The journal of this name in etcd was read and taken over. The bytes that were read are lines, and
+-- a table was resumed from them. This is the life that it begins.
 pub record IsTakenOver (name : List ℕ) (table : RecordedView Any) (life : ℕ) : Type 0 where
   pub place : Place
   pub taken : IsTaken name place
+  pub lines : HasAll place.bytes
   pub resumed : IsTakenUp place.bytes table life
 
 -- The text that was written at a fault of `journal`: nothing, or a prefix of a text at a failed

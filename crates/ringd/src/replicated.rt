@@ -1,14 +1,16 @@
 //! The journal in etcd: standing by, taking it over, and printing it.
 ghost use Rattle.std.specs.Prelude.{◌≡◌, ℕ, IfErr, IfOk, None, length, map};
 ghost use Rattle.ring_etcd.specs.Readings.{IsFound, IsTaken, Place};
+ghost use Rattle.ring_journal.specs.Journals.{HasAll};
 ghost use Rattle.ring_recovery.specs.Charters.{running_charters};
 ghost use Rattle.ring_recovery.specs.Compacted.{Resumes};
 ghost use Rattle.ringd.specs.Journal.{IsOfJournal, IsOfTaking, IsTakenOver};
-ghost use Rattle.ringd.specs.private.Journal.{etcd_told_as};
+ghost use Rattle.ringd.specs.private.Journal.{IsOfTail, etcd_told_as};
 
 use crate::journal::{Ready, another, open_over, prepare, recovered, shared};
 use ring_accept::{JournalFault, ProgramFault};
 use ring_etcd::{Etcd, EtcdFault, EtcdMedium, EtcdPlace, Lease, Standing};
+use ring_journal::whole_len;
 use ring_recovery::{Alarm, Ending, Recovered};
 use ring_server::{Metered, Resumed};
 use std::alloc::Global;
@@ -32,7 +34,7 @@ const RENEWAL_MILLIS: u64 = 300;
 ///
 /// The faults, in their order: no member answers; a thread cannot be started; the journal is
 /// damaged, of another version, or taken over meanwhile. Except at the last one, only the lease and
-/// the entry that takes over were put.
+/// the entry that takes over were put. A journal with bytes after its last line is damaged.
 pub fn take_over<R>(
     rt: &R,
     members: &str,
@@ -74,7 +76,7 @@ fn recovered_over<R>(
 where
     R: Net<Stream = TcpStream> + Clock + AllocGlobal + Copy + Drop,
     ensures ok { IfOk result (λ over. (place : Place) × IsTaken name.now place
-        × Resumes place.bytes over.1) }
+        × HasAll place.bytes × Resumes place.bytes over.1) }
     ensures fault { IfErr result IsOfJournal }
 {
     match EtcdPlace::take(rt, members, name) {
@@ -90,16 +92,41 @@ fn recovered_at<R>(
 ) -> Result<(EtcdPlace<R>, Recovered), ProgramFault>
 where
     R: Net<Stream = TcpStream> + Clock + AllocGlobal + Copy + Drop,
-    ensures ok { IfOk result (λ over. Resumes place.bytes over.1) }
+    ensures ok { IfOk result (λ over. HasAll place.bytes × Resumes place.bytes over.1) }
     ensures fault { IfErr result IsOfJournal }
 {
-    match recovered(alloc, place.read()) {
+    match recovered_whole(alloc, place.read()) {
         Ok(resumed) => Ok((place, resumed)),
         Err(fault) => {
             drop(place);
             Err(fault)
         }
     }
+}
+
+// Returns the table that the bytes of a journal in etcd give, compacted.
+fn recovered_whole(alloc: Global, found: Vec<u8>) -> Result<Recovered, ProgramFault>
+    ensures ok { IfOk result (λ resumed. HasAll found.items × Resumes found.items resumed) }
+    ensures fault { IfErr result IsOfJournal }
+{
+    let found = whole(found)?;
+    recovered(alloc, found)
+}
+
+// Returns the bytes of a journal in etcd. An entry is put whole or not at all there, so bytes after
+// the last line are no torn tail: the journal is damaged.
+fn whole(found: Vec<u8>) -> Result<Vec<u8>, ProgramFault>
+    ensures same { IfOk result (λ whole. whole.items ≡ found.items) }
+    ensures lines { IfOk result (λ whole. HasAll whole.items) }
+    ensures tail { IfErr result (IsOfTail found.items) }
+    ensures fault { IfErr result IsOfJournal }
+{
+    let at = whole_len(&found);
+    if at < found.len() {
+        drop(found);
+        return Err(ProgramFault::Journal(JournalFault::Bad { at }));
+    }
+    Ok(found)
 }
 
 // Begins the journal of a resumed table anew, and opens the table over it.
@@ -296,15 +323,17 @@ where
 /// Returns the bytes of the journal in etcd with this name, and changes nothing there. Another
 /// process may have the journal.
 ///
-/// The faults: no member answers; there is no such journal, or it is damaged.
+/// The faults: no member answers; there is no such journal, or it is damaged, as one is that has
+/// bytes after its last line.
 pub fn look<R>(rt: &R, members: &str, name: &str) -> Result<Vec<u8>, ProgramFault>
 where
     R: Net<Stream = TcpStream> + Clock + AllocGlobal + Copy + Drop,
     ensures ok { IfOk result (λ found. (text pieces : ℕ) × IsFound name.now text pieces found.items) }
+    ensures lines { IfOk result (λ found. HasAll found.items) }
     ensures fault { IfErr result IsOfJournal }
 {
     match EtcdPlace::look(rt, members, name) {
-        Ok(found) => Ok(found),
+        Ok(found) => whole(found),
         Err(fault) => Err(told_of_etcd(fault)),
     }
 }

@@ -1,5 +1,5 @@
 -- The program's faults for a place and for a recovery.
-use Rattle.std.specs.Prelude.{◌≡◌, List, ℕ}
+use Rattle.std.specs.Prelude.{◌≡◌, ◌<◌, List, ℕ, length}
 use Rattle.ring_accept.specs.declared.fault.JournalFault.TheVariants as journal
 use Rattle.ring_accept.specs.declared.fault.ProgramFault.{ProgramFault}
 use Rattle.ring_accept.specs.declared.fault.ProgramFault.TheVariants.{Journal, NoMemory}
@@ -36,3 +36,9 @@ recovery_told_as recovery.NoMemory = NoMemory
 -- the fault is that of a reason why these bytes are refused
 abbrev pub IsToldOf : List ℕ → ProgramFault → Type 0
 IsToldOf found fault = (why : RecoverFault) × IsFaultOf found why × (fault ≡ recovery_told_as why)
+
+-- The bytes have one after their last line, and the fault says that a byte of them is bad.
+pub record IsOfTail (found : List ℕ) (fault : ProgramFault) : Type 0 where
+  pub at : ℕ
+  pub inside : at < length found
+  pub says : fault ≡ Journal (journal.Bad at)
